@@ -1,0 +1,114 @@
+-- Laws of choices and bounded tests (`specs/Choice.antt`), which every proof here uses in place of their text.
+-- Assumes nothing.
+use Prim.Native.Nat.{ℕ, zero, suc, _+_, _-_, _<_, _≤_}
+use mathlib.Core.Path.{_≡_, refl, sym, ap, _∙_}
+use mathlib.Core.Bool.{Bool, true, false, not}
+use mathlib.Core.Logic.{_⊎_, inl, inr}
+use native.Mathlib.Nat.{not-suc-le-zero, le-of-suc-le-suc}
+use native.Mathlib.Omega.{arith}
+use native.Mathlib.Numerals.{add-one}
+use native.Mathlib.Decide.{decLe}
+use lib.Dec.{ltb, leb, eqb}
+use borrow.Author.Tests.{lt-ltb, le-ltb, le-leb, lt-leb, eq-eqb, ne-eqb}
+use Rattle.net.specs.Choice.{choose, both, implies, all, fold, firstFrom, firstBelow}
+
+-- ---- both, implies, choose
+pub both-i : (a b : Bool) → a ≡ true → b ≡ true → both a b ≡ true
+unfolding both
+both-i a b p q = cc
+
+pub both-l : (a b : Bool) → both a b ≡ true → a ≡ true
+unfolding both
+both-l true b p = refl
+both-l false b p = p
+
+pub both-r : (a b : Bool) → both a b ≡ true → b ≡ true
+unfolding both
+both-r true b p = p
+both-r false b p = let z : _≡_ {A = ℕ} 0 1 = cc in absurd (omega arith)
+
+pub both-false-l : (a b : Bool) → a ≡ false → false ≡ both a b
+unfolding both
+both-false-l a b p = cc
+
+pub both-false-r : (a b : Bool) → a ≡ true → b ≡ false → false ≡ both a b
+unfolding both
+both-false-r a b p q = cc
+
+pub implies-i : (a b : Bool) → (a ≡ true → b ≡ true) → implies a b ≡ true
+unfolding implies
+implies-i true b f = f refl
+implies-i false b f = refl
+
+pub implies-e : (a b : Bool) → implies a b ≡ true → a ≡ true → b ≡ true
+unfolding implies
+implies-e true b p q = p
+implies-e false b p q = let z : _≡_ {A = ℕ} 0 1 = cc in absurd (omega arith)
+
+module _ {A : Type 0} where
+  pub choose-true : (b : Bool) (x y : A) → b ≡ true → choose b x y ≡ x
+  unfolding choose
+  choose-true b x y p = cc
+
+  pub choose-false : (b : Bool) (x y : A) → b ≡ false → choose b x y ≡ y
+  unfolding choose
+  choose-false b x y p = cc
+
+-- ---- decisions: what a branch of the code knows picks the case of a definition
+module _ {A : Type 0} where
+  pub if-true : (x y z : A) (b : Bool) → b ≡ true → x ≡ y → x ≡ choose b y z
+  if-true x y z b p e = e ∙ sym (choose-true b y z p)
+
+  pub if-false : (x y z : A) (b : Bool) → b ≡ false → x ≡ z → x ≡ choose b y z
+  if-false x y z b p e = e ∙ sym (choose-false b y z p)
+
+  pub if-lt : (x y z : A) (a b : ℕ) → a < b → x ≡ y → x ≡ choose (ltb a b) y z
+  if-lt x y z a b p e = if-true x y z _ (lt-ltb a b p) e
+
+  pub if-not-lt : (x y z : A) (a b : ℕ) → b ≤ a → x ≡ z → x ≡ choose (ltb a b) y z
+  if-not-lt x y z a b p e = if-false x y z _ (le-ltb a b p) e
+
+  pub if-le : (x y z : A) (a b : ℕ) → a ≤ b → x ≡ y → x ≡ choose (leb a b) y z
+  if-le x y z a b p e = if-true x y z _ (le-leb a b p) e
+
+  pub if-not-le : (x y z : A) (a b : ℕ) → b < a → x ≡ z → x ≡ choose (leb a b) y z
+  if-not-le x y z a b p e = if-false x y z _ (lt-leb a b p) e
+
+  pub if-eq : (x y z : A) (a b : ℕ) → a ≡ b → x ≡ y → x ≡ choose (eqb a b) y z
+  if-eq x y z a b p e = if-true x y z _ (eq-eqb a b p) e
+
+  pub if-ne : (x y z : A) (a b : ℕ) → (a ≡ b → ⊥) → x ≡ z → x ≡ choose (eqb a b) y z
+  if-ne x y z a b p e = if-false x y z _ (ne-eqb a b p) e
+
+pub ruleset branches = (if-true, if-false, if-lt, if-not-lt, if-le, if-not-le, if-eq, if-ne)
+
+-- ---- tests at each number below n
+pub all-i : (n : ℕ) (test : ℕ → Bool) → ((i : ℕ) → i < n → test i ≡ true) → all n test ≡ true
+unfolding all
+all-i zero test f = refl
+all-i (suc n) test f = both-i _ _ (all-i n test (λ i h. f i (omega arith))) (f n (omega arith))
+
+pub split : (i n : ℕ) → i < suc n → (i < n) ⊎ (i ≡ n)
+split i n h = go (decLe n i)
+  where
+    go : Dec (n ≤ i) → (i < n) ⊎ (i ≡ n)
+    go (yes p) = inr (omega arith)
+    go (no q) = inl (omega arith)
+
+last-or : (n i : ℕ) (test : ℕ → Bool) → (i < n → test i ≡ true) → test n ≡ true → (i < n) ⊎ (i ≡ n) → test i ≡ true
+last-or n i test f p (inl l) = f l
+last-or n i test f p (inr e) = rw e p
+
+pub all-e : (n : ℕ) (test : ℕ → Bool) → all n test ≡ true → (i : ℕ) → i < n → test i ≡ true
+unfolding all
+all-e zero test p i h = absurd (not-suc-le-zero h)
+all-e (suc n) test p i h =
+    last-or n i test (all-e n test (both-l _ _ p) i) (both-r (all n test) _ p) (split i n h)
+
+-- a test that fails below n
+pub all-fails : (n : ℕ) (test : ℕ → Bool) (i : ℕ) → i < n → test i ≡ false → false ≡ all n test
+all-fails n test i h p = go (all n test) refl
+  where
+    go : (b : Bool) → all n test ≡ b → false ≡ b
+    go true e = sym (sym (all-e n test e i h) ∙ p) 
+    go false e = refl

@@ -1,0 +1,128 @@
+-- The records of a net, their zero values, and how each part is read and replaced (document 01, "The net").
+pub use Rattle.net.specs.declared.locality.Locality.{Locality}
+pub use Rattle.net.specs.declared.locality.Place.{Place}
+pub use Rattle.net.specs.declared.tuple.Value.{Value}
+pub use Rattle.net.specs.declared.tuple.Variable.{Variable}
+pub use Rattle.net.specs.declared.tuple.Item.{Item}
+pub use Rattle.net.specs.declared.tuple.Field.{Field}
+pub use Rattle.net.specs.declared.tuple.Tuple.{Tuple}
+pub use Rattle.net.specs.declared.policy.Rights.{Rights}
+pub use Rattle.net.specs.declared.policy.Row.{Row}
+pub use Rattle.net.specs.declared.process.Process.{Process}
+pub use Rattle.net.specs.declared.node.Node.{Node}
+pub use Rattle.net.specs.declared.instruction.Target.{Target}
+pub use Rattle.net.specs.declared.instruction.Pattern.{Pattern}
+pub use Rattle.net.specs.declared.instruction.TemplateField.{TemplateField}
+pub use Rattle.net.specs.declared.instruction.Action.{Action}
+pub use Rattle.net.specs.declared.instruction.Instruction.{Instruction}
+pub use Rattle.net.specs.declared.network.Net.{Net}
+use Prim.Native.Nat.{ℕ, _+_}
+use Rattle.net.specs.Choice.{choose}
+use lib.Dec.{ltb}
+use mathlib.Core.Bool.{Bool, true, false}
+use mathlib.Core.List.{List, []}
+use lib.ListN.{getD, set, replicate}
+use lib.IntN.{ℤ}
+
+-- ---- zero records: what an unused record, a free slot and the empty net hold
+unfoldable pub zeroField : Field
+zeroField = record { item = Item.Reading (ℤ.pos 0) }
+
+unfoldable pub zeroTuple : Tuple
+zeroTuple = record { count = 0; fields = replicate 4 zeroField }
+
+unfoldable pub unsetVariable : Variable
+unsetVariable = record { value = Value.Unset }
+
+unfoldable pub freeProcess : Process
+freeProcess = record { busy = false; at = record { 0 = 0 }; variables = replicate 8 unsetVariable }
+
+unfoldable pub noRights : Rights
+noRights = record { take = false; read = false; put = false; send = false }
+
+unfoldable pub zeroRow : Row
+zeroRow = record { create = false; rights = replicate 16 noRights }
+
+unfoldable pub zeroNode : Node
+zeroNode = record { row = zeroRow; processes = replicate 4 freeProcess; stored = 0; tuples = replicate 16 zeroTuple }
+
+unfoldable pub zeroTemplateField : TemplateField
+zeroTemplateField = record { pattern = Pattern.Reading (ℤ.pos 0) }
+
+unfoldable pub zeroInstruction : Instruction
+zeroInstruction = record { action = Action.Stop; count = 0; template = replicate 4 zeroTemplateField }
+
+unfoldable pub emptyNet : Net
+emptyNet = record { addresses = 0; length = 0; nodes = replicate 16 zeroNode; code = replicate 512 zeroInstruction }
+
+-- ---- reading a part. Past the end of an array stands the language's own default, which has empty arrays;
+-- no array of a running program is read there.
+unfoldable pub fieldAt : Tuple → ℕ → Item
+fieldAt t i = getD (t .fields) i (record { item = Item.Reading (ℤ.pos 0) }) .item
+
+unfoldable pub variableAt : Process → ℕ → Value
+variableAt p v = getD (p .variables) v (record { value = Value.Unset }) .value
+
+unfoldable pub rightsAt : Row → ℕ → Rights
+rightsAt r l = getD (r .rights) l (record { take = false; read = false; put = false; send = false })
+
+unfoldable pub processAt : Node → ℕ → Process
+processAt n k = getD (n .processes) k (record { busy = false; at = record { 0 = 0 }; variables = [] })
+
+unfoldable pub tupleAt : Node → ℕ → Tuple
+tupleAt n i = getD (n .tuples) i (record { count = 0; fields = [] })
+
+unfoldable pub patternAt : Instruction → ℕ → Pattern
+patternAt c i = getD (c .template) i (record { pattern = Pattern.Reading (ℤ.pos 0) }) .pattern
+
+unfoldable pub nodeAt : Net → ℕ → Node
+nodeAt s a =
+    getD (s .nodes) a
+    (record { row = record { create = false; rights = [] }; processes = []; stored = 0; tuples = [] })
+
+unfoldable pub instructionAt : List Instruction → ℕ → Instruction
+instructionAt code p = getD code p (record { action = Action.Stop; count = 0; template = [] })
+
+-- ---- replacing a part
+unfoldable pub withField : Tuple → Field → Tuple
+withField t f = choose (ltb (t .count) 4) (record { count = t .count + 1; fields = set (t .fields) (t .count) f }) t
+
+unfoldable pub withVariable : Process → ℕ → Value → Process
+withVariable p v x =
+    record { busy = p .busy; at = p .at; variables = set (p .variables) v (record { value = x }) }
+
+unfoldable pub withRights : Row → ℕ → Rights → Row
+withRights r l x = record { create = r .create; rights = set (r .rights) l x }
+
+unfoldable pub withRow : Node → Row → Node
+withRow n r = record { row = r; processes = n .processes; stored = n .stored; tuples = n .tuples }
+
+unfoldable pub withProcess : Node → ℕ → Process → Node
+withProcess n k p =
+    record { row = n .row; processes = set (n .processes) k p; stored = n .stored; tuples = n .tuples }
+
+-- the tuple added as the newest, where there is room for it
+unfoldable pub withTuple : Node → Tuple → Node
+withTuple n t =
+    choose (ltb (n .stored) 16)
+    (record { row = n .row; processes = n .processes; stored = n .stored + 1; tuples = set (n .tuples) (n .stored) t })
+    n
+
+unfoldable pub withPattern : Instruction → TemplateField → Instruction
+withPattern c f =
+    choose (ltb (c .count) 4)
+    (record { action = c .action; count = c .count + 1; template = set (c .template) (c .count) f })
+    c
+
+unfoldable pub withAction : Instruction → Action → Instruction
+withAction c a = record { action = a; count = c .count; template = c .template }
+
+unfoldable pub withNode : Net → ℕ → Node → Net
+withNode s a n = record { addresses = s .addresses; length = s .length; nodes = set (s .nodes) a n; code = s .code }
+
+unfoldable pub withInstruction : Net → ℕ → Instruction → Net
+withInstruction s p c =
+    record { addresses = s .addresses; length = s .length; nodes = s .nodes; code = set (s .code) p c }
+
+unfoldable pub withCounts : Net → ℕ → ℕ → Net
+withCounts s n k = record { addresses = n; length = k; nodes = s .nodes; code = s .code }

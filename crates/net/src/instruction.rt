@@ -1,0 +1,44 @@
+// Instructions (document 01, "The image", part 5).
+use crate::locality::Locality;
+use crate::locality::Place;
+
+// Where an action takes place: at a written address, at the host itself, or at the address that a
+// variable holds.
+pub enum Target {
+    Written(Locality),
+    Own,
+    Held(u8),
+}
+
+// One field of a template: an actual (a reading, an address, self, a variable's value) or a formal.
+pub enum Pattern {
+    Reading(i32),
+    Address(Locality),
+    Own,
+    Held(u8),
+    FormalReading(u8),
+    FormalAddress(u8),
+}
+
+pub struct TemplateField {
+    pub pattern: Pattern,
+}
+
+// What an instruction does, with its target and the places that follow it. `Eval` has the sent place
+// before the next one.
+pub enum Action {
+    Stop,
+    Out(Target, Place),
+    In(Target, Place),
+    Read(Target, Place),
+    Eval(Target, Place, Place),
+    New(u8, Place),
+    Fork(Place, Place),
+}
+
+// An action with the `count` template fields of an out, an in or a read; the fields past them are zero.
+pub struct Instruction {
+    pub action: Action,
+    pub count: usize,
+    pub template: [TemplateField; 4],
+}

@@ -1,0 +1,12 @@
+// The lower crate: the records of a net, matching, policies and the image reader.
+// Everything above it rests on the promises written here and on the definitions of specs/.
+pub mod bits;
+pub mod image;
+pub mod instruction;
+pub mod locality;
+pub mod matching;
+pub mod network;
+pub mod node;
+pub mod policy;
+pub mod process;
+pub mod tuple;

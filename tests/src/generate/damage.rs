@@ -1,0 +1,365 @@
+//! Damaged images and damaged nets.
+
+use super::{image_net, in_or_read, net_after_picks, out, sound_net, valid_net};
+use crate::bits::{patch, FieldAt, Sort};
+use crate::image::write_with_fields;
+use crate::net::*;
+use crate::random::Random;
+
+/// An image damaged in one or two ways; now and then it is still accepted.
+pub fn damaged_image(random: &mut Random) -> Vec<u8> {
+    let mut net = valid_net(random);
+    if random.percent(25) {
+        damage_records(random, &mut net);
+        if random.percent(70) {
+            return write_with_fields(&net).0;
+        }
+    }
+    let (mut bytes, fields) = write_with_fields(&net);
+    let times = random.choose(&[1, 1, 1, 1, 2]);
+    for _ in 0..times {
+        damage_bytes(random, &net, &fields, &mut bytes);
+    }
+    bytes
+}
+
+// Damage that records can hold: a formal in an out, a variable formal
+// twice, rights taken away.
+fn damage_records(random: &mut Random, net: &mut Net) {
+    let at = random.below(net.code_length as usize);
+    match random.below(5) {
+        0 => net.code[at] = out_with_formal(random, net.address_count, net.code_length),
+        1 | 2 => net.code[at] = formal_twice(random, net.address_count, net.code_length),
+        3 => {
+            let address = random.below(net.address_count as usize);
+            net.nodes[address].row = Row::ZERO;
+        }
+        _ => {
+            let address = random.below(net.address_count as usize);
+            let index = random.below(ADDRESSES);
+            net.nodes[address].row.rights[index] = Rights::NONE;
+        }
+    }
+}
+
+fn formal_of(random: &mut Random, variable: u8) -> TemplateField {
+    if random.percent(50) {
+        TemplateField::FormalReading(variable)
+    } else {
+        TemplateField::FormalAddress(variable)
+    }
+}
+
+fn out_with_formal(random: &mut Random, count: u8, length: u16) -> Instruction {
+    let mut instruction = out(random, count, length);
+    let index = random.below(instruction.count as usize);
+    let variable = random.below(VARIABLES) as u8;
+    instruction.fields[index] = formal_of(random, variable);
+    instruction
+}
+
+fn formal_twice(random: &mut Random, count: u8, length: u16) -> Instruction {
+    let mut instruction = in_or_read(random, count, length);
+    let fields = instruction.count.max(2);
+    instruction.count = fields;
+    let second = random.between(1, fields as usize - 1);
+    let first = random.below(second);
+    let variable = random.below(VARIABLES) as u8;
+    instruction.fields[first] = formal_of(random, variable);
+    instruction.fields[second] = formal_of(random, variable);
+    instruction
+}
+
+// Damage to the bytes of an image.
+fn damage_bytes(random: &mut Random, net: &Net, fields: &[FieldAt], bytes: &mut Vec<u8>) {
+    match random.below(16) {
+        0..=2 => flip_bit(random, bytes),
+        3 => bytes.truncate(random.below(bytes.len() + 1)),
+        4 => bytes.truncate(bytes.len().saturating_sub(1)),
+        5 => bytes.push(random.choose(&[0, 0, 1, 0x80, 0xFF])),
+        6 => set_last_bit(bytes),
+        7 => *bytes = noise(random),
+        _ => damage_field(random, net, fields, bytes),
+    }
+}
+
+fn flip_bit(random: &mut Random, bytes: &mut [u8]) {
+    if !bytes.is_empty() {
+        let index = random.below(bytes.len());
+        bytes[index] ^= 1 << random.below(8);
+    }
+}
+
+fn set_last_bit(bytes: &mut [u8]) {
+    if let Some(last) = bytes.last_mut() {
+        *last |= 1;
+    }
+}
+
+// Random bytes, at times with a head that lets the reader go on.
+fn noise(random: &mut Random) -> Vec<u8> {
+    let length = random.below(60);
+    let mut bytes: Vec<u8> = (0..length).map(|_| random.byte()).collect();
+    let head = [0x10, 0x80, random.byte() & 0x7F];
+    if random.percent(70) && bytes.len() > 3 {
+        bytes[..3].copy_from_slice(&head);
+    }
+    bytes
+}
+
+const DAMAGED: [Sort; 15] = [
+    Sort::Format,
+    Sort::AddressCount,
+    Sort::CodeLength,
+    Sort::Right,
+    Sort::ProcessCount,
+    Sort::Place,
+    Sort::TupleCount,
+    Sort::FieldCount,
+    Sort::TupleFieldKind,
+    Sort::Reading,
+    Sort::Address,
+    Sort::Action,
+    Sort::TargetKind,
+    Sort::FieldKind,
+    Sort::Variable,
+];
+
+// Writes a number, mostly one out of range, over one field of some sort.
+fn damage_field(random: &mut Random, net: &Net, fields: &[FieldAt], bytes: &mut [u8]) {
+    let sort = random.choose(&DAMAGED);
+    let some: Vec<FieldAt> = fields
+        .iter()
+        .filter(|field| field.sort == sort)
+        .filter(|field| field.first_bit + field.width <= bytes.len() * 8)
+        .copied()
+        .collect();
+    if !some.is_empty() {
+        let field = random.choose(&some);
+        let number = bad_number(random, net, field);
+        patch(bytes, field, number);
+    }
+}
+
+/// A number out of a field's range, or any number where every number is
+/// in range.
+pub(super) fn bad_number(random: &mut Random, net: &Net, field: FieldAt) -> u32 {
+    let any = random.next() as u32;
+    match field.sort {
+        Sort::Format => random.choose(&[0, 2, 3, 5, 9, 15]),
+        Sort::AddressCount => random.choose(&[0, 17, 18, 31]),
+        Sort::CodeLength => random.choose(&[0, 513, 514, 768, 1023]),
+        Sort::ProcessCount => random.between(5, 7) as u32,
+        Sort::TupleCount => random.between(17, 31) as u32,
+        Sort::Address => past(random, any, net.address_count as usize, 16),
+        Sort::Place => past(random, any, net.code_length as usize, 512),
+        Sort::Action => 7,
+        Sort::TargetKind => 3,
+        Sort::FieldKind => random.choose(&[4, 5, 6, 7]),
+        _ => any,
+    }
+}
+
+// A number from the count to below the bound, if there is one.
+fn past(random: &mut Random, otherwise: u32, count: usize, bound: usize) -> u32 {
+    match random.below(3) {
+        _ if count >= bound => otherwise,
+        0 => count as u32,
+        _ => random.between(count, bound - 1) as u32,
+    }
+}
+
+/// A net for testing soundness: a sound one, then possibly one record
+/// changed at random, or the empty net.
+pub fn random_net(random: &mut Random) -> Net {
+    let mut net = match random.below(20) {
+        0 => Net::empty(),
+        1..=3 => image_net(random),
+        4..=9 => sound_net(random),
+        _ => net_after_picks(random),
+    };
+    let changes = random.choose(&[0, 0, 0, 1, 1, 1, 1, 1, 1, 2]);
+    for _ in 0..changes {
+        change_record(random, &mut net);
+    }
+    net
+}
+
+/// Changes one record of a net at random; it may stay sound.
+pub fn change_record(random: &mut Random, net: &mut Net) {
+    match random.below(20) {
+        0 => net.address_count = wild_count(random, net.address_count as usize, 16) as u8,
+        1 => net.code_length = wild_count(random, net.code_length as usize, 512) as u16,
+        2..=4 => change_row(random, net),
+        5..=8 => change_process(random, net),
+        9..=12 => change_tuples(random, net),
+        _ => change_code(random, net),
+    }
+}
+
+// A count near its old value or near a bound.
+fn wild_count(random: &mut Random, count: usize, most: usize) -> usize {
+    let near = [count + 1, count.wrapping_sub(1), 0, 1, most, most + 1];
+    match random.below(10) {
+        0..=8 => random.choose(&near),
+        _ => random.next() as usize,
+    }
+}
+
+// A node in use, the first unused one, or any.
+fn any_node(random: &mut Random, net: &Net) -> usize {
+    match random.below(10) {
+        0..=7 => random.below(net.address_count as usize + 1).min(ADDRESSES - 1),
+        _ => random.below(ADDRESSES),
+    }
+}
+
+fn change_row(random: &mut Random, net: &mut Net) {
+    let over = any_node(random, net);
+    let node = any_node(random, net);
+    let row = &mut net.nodes[node].row;
+    let rights = &mut row.rights[over];
+    match random.below(5) {
+        0 => row.create = !row.create,
+        1 => rights.take = !rights.take,
+        2 => rights.read = !rights.read,
+        3 => rights.put = !rights.put,
+        _ => rights.send = !rights.send,
+    }
+}
+
+fn change_process(random: &mut Random, net: &mut Net) {
+    let node = any_node(random, net);
+    let value = wild_value(random, net);
+    let place = wild_place(random, net);
+    let process = &mut net.nodes[node].processes[random.below(SLOTS)];
+    match random.below(4) {
+        0 => process.busy = !process.busy,
+        1 => process.at = place,
+        _ => process.variables[random.below(VARIABLES)] = value,
+    }
+}
+
+fn change_tuples(random: &mut Random, net: &mut Net) {
+    let node = any_node(random, net);
+    let field = wild_field(random, net);
+    let node = &mut net.nodes[node];
+    let index = match random.below(3) {
+        0 => random.below(TUPLES),
+        _ => random.below(node.tuple_count as usize + 1).min(TUPLES - 1),
+    };
+    let tuple = &mut node.tuples[index];
+    match random.below(5) {
+        0 => node.tuple_count = wild_count(random, node.tuple_count as usize, TUPLES) as u8,
+        1 => tuple.count = wild_count(random, tuple.count as usize, FIELDS) as u8,
+        _ => tuple.fields[random.below(FIELDS)] = field,
+    }
+}
+
+// An instruction within the length, the first past it, or any.
+fn any_instruction(random: &mut Random, net: &Net) -> usize {
+    match random.below(10) {
+        0..=8 => random.below(net.code_length as usize + 1).min(INSTRUCTIONS - 1),
+        _ => random.below(INSTRUCTIONS),
+    }
+}
+
+fn change_code(random: &mut Random, net: &mut Net) {
+    let index = any_instruction(random, net);
+    let action = wild_action(random, net);
+    let field = wild_template_field(random, net);
+    let instruction = &mut net.code[index];
+    match random.below(10) {
+        0..=3 => instruction.action = action,
+        4 => instruction.count = wild_count(random, instruction.count as usize, FIELDS) as u8,
+        5 => *instruction = Instruction::plain(action),
+        _ => instruction.fields[random.below(FIELDS)] = field,
+    }
+}
+
+// Numbers in range, just out of it, or far out.
+
+fn wild_address(random: &mut Random, net: &Net) -> Locality {
+    let count = net.address_count;
+    let near = [0, count.wrapping_sub(1), count, count.wrapping_add(1), 15, 16];
+    match random.below(10) {
+        0..=8 => Locality(random.choose(&near)),
+        _ => Locality(random.byte()),
+    }
+}
+
+fn wild_place(random: &mut Random, net: &Net) -> Place {
+    let length = net.code_length;
+    let near = [0, length.wrapping_sub(1), length, length.wrapping_add(1), 511, 512];
+    match random.below(10) {
+        0..=8 => Place(random.choose(&near)),
+        _ => Place(random.next() as u16),
+    }
+}
+
+fn wild_variable(random: &mut Random) -> u8 {
+    match random.below(10) {
+        0..=4 => random.below(3) as u8,
+        5..=8 => random.choose(&[6, 7, 8, 9]),
+        _ => random.byte(),
+    }
+}
+
+fn wild_value(random: &mut Random, net: &Net) -> Value {
+    match random.below(4) {
+        0 => Value::Unset,
+        1 => Value::Reading(super::reading(random)),
+        _ => Value::Address(wild_address(random, net)),
+    }
+}
+
+fn wild_field(random: &mut Random, net: &Net) -> Field {
+    match random.below(3) {
+        0 => Field::Reading(super::reading(random)),
+        _ => Field::Address(wild_address(random, net)),
+    }
+}
+
+fn wild_template_field(random: &mut Random, net: &Net) -> TemplateField {
+    match random.below(6) {
+        0 => TemplateField::Reading(super::reading(random)),
+        1 => TemplateField::Address(wild_address(random, net)),
+        2 => TemplateField::Own,
+        3 => TemplateField::Variable(wild_variable(random)),
+        4 => TemplateField::FormalReading(wild_variable(random)),
+        _ => TemplateField::FormalAddress(wild_variable(random)),
+    }
+}
+
+fn wild_target(random: &mut Random, net: &Net) -> Target {
+    match random.below(3) {
+        0 => Target::Written(wild_address(random, net)),
+        1 => Target::Own,
+        _ => Target::Variable(wild_variable(random)),
+    }
+}
+
+fn wild_action(random: &mut Random, net: &Net) -> Action {
+    let target = wild_target(random, net);
+    let next = wild_place(random, net);
+    let other = wild_place(random, net);
+    match random.below(7) {
+        0 => Action::Stop,
+        1 => Action::Out { target, next },
+        2 => Action::In { target, next },
+        3 => Action::Read { target, next },
+        4 => Action::Eval {
+            target,
+            sent: other,
+            next,
+        },
+        5 => Action::New {
+            variable: wild_variable(random),
+            next,
+        },
+        _ => Action::Fork {
+            first: next,
+            second: other,
+        },
+    }
+}

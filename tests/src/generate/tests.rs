@@ -1,0 +1,185 @@
+//! That the generated nets and images are varied enough, and as promised.
+
+use super::*;
+use crate::bits::{patch, FieldAt, Sort};
+use crate::image::{read_image, read_layout, starts_keep_within, write_with_fields};
+use crate::sound::sound;
+use crate::step::pick;
+
+#[test]
+fn the_same_seed_gives_the_same() {
+    let (mut one, mut two) = (Random::new(5), Random::new(5));
+    for _ in 0..50 {
+        assert_eq!(valid_image(&mut one), valid_image(&mut two));
+        assert_eq!(damaged_image(&mut one), damaged_image(&mut two));
+        assert_eq!(random_net(&mut one), random_net(&mut two));
+    }
+}
+
+#[test]
+fn image_nets_are_written_and_read_back() {
+    let mut random = Random::new(1);
+    for _ in 0..2000 {
+        let net = image_net(&mut random);
+        let bytes = write_image(&net);
+        assert_eq!(read_layout(&bytes).as_ref(), Ok(&net));
+        let accepted = starts_keep_within(&net);
+        assert_eq!(read_image(&bytes), if accepted { Ok(net) } else { Err(30) });
+    }
+}
+
+#[test]
+fn valid_images_are_mostly_accepted() {
+    let mut random = Random::new(2);
+    let images: Vec<_> = (0..2000).map(|_| valid_image(&mut random)).collect();
+    let numbers = images.iter().map(|image| read_image(image).err());
+    let accepted = numbers.filter(|number| number.is_none()).count();
+    assert!((1900..2000).contains(&accepted), "{accepted}");
+}
+
+#[test]
+fn accepted_images_are_written_the_same() {
+    let mut random = Random::new(3);
+    for _ in 0..5000 {
+        let image = damaged_image(&mut random);
+        if let Ok(net) = read_image(&image) {
+            assert!(sound(&net));
+            assert_eq!(write_image(&net), image);
+        }
+    }
+}
+
+#[test]
+fn damaged_images_meet_every_number() {
+    let mut random = Random::new(4);
+    let mut seen = [0; 31];
+    for _ in 0..20_000 {
+        let number = read_image(&damaged_image(&mut random)).err().unwrap_or(0);
+        seen[number as usize] += 1;
+    }
+    assert!(seen[0] > 200, "{seen:?}");
+    assert!(seen[21..].iter().all(|count| *count > 200), "{seen:?}");
+}
+
+// The number a field out of its range is refused with, if it has one.
+fn expected(sort: Sort) -> Option<u8> {
+    match sort {
+        Sort::Format => Some(21),
+        Sort::AddressCount | Sort::CodeLength => Some(22),
+        Sort::ProcessCount | Sort::TupleCount => Some(22),
+        Sort::Address => Some(23),
+        Sort::Place => Some(24),
+        Sort::Action | Sort::TargetKind | Sort::FieldKind => Some(25),
+        _ => None,
+    }
+}
+
+// Whether the sort has numbers out of range in this net.
+fn has_bad(net: &Net, sort: Sort) -> bool {
+    match sort {
+        Sort::Address => net.address_count < 16,
+        Sort::Place => net.code_length < 512,
+        _ => expected(sort).is_some(),
+    }
+}
+
+fn bad(random: &mut Random, net: &Net, field: FieldAt) -> u32 {
+    match field.sort {
+        Sort::FieldKind => random.choose(&[6, 7]),
+        _ => damage::bad_number(random, net, field),
+    }
+}
+
+/// Everything before the field is right, so its own number is reported.
+#[test]
+fn each_single_field_out_of_range_has_its_number() {
+    let mut random = Random::new(6);
+    for _ in 0..3000 {
+        let net = image_net(&mut random);
+        let (mut bytes, fields) = write_with_fields(&net);
+        let field = random.choose(&fields);
+        if has_bad(&net, field.sort) {
+            let number = bad(&mut random, &net, field);
+            patch(&mut bytes, field, number);
+            assert_eq!(read_image(&bytes).err(), expected(field.sort));
+        }
+    }
+}
+
+#[test]
+fn each_cut_image_is_28_and_each_longer_one_29() {
+    let mut random = Random::new(7);
+    for _ in 0..1000 {
+        let mut bytes = write_image(&image_net(&mut random));
+        let cut = random.below(bytes.len());
+        assert_eq!(read_image(&bytes[..cut]), Err(28));
+        bytes.push(random.byte());
+        assert_eq!(read_image(&bytes), Err(29));
+    }
+}
+
+#[test]
+fn random_nets_are_sound_and_not() {
+    let mut random = Random::new(8);
+    let nets = (0..4000).filter(|_| sound(&random_net(&mut random))).count();
+    assert!((1200..2800).contains(&nets), "{nets}");
+}
+
+#[test]
+fn picks_on_random_nets_meet_every_answer() {
+    let mut random = Random::new(9);
+    let mut seen = [0; 11];
+    for _ in 0..20_000 {
+        let mut net = random_net(&mut random);
+        let byte = pick_byte(&mut random, &net);
+        seen[pick(&mut net, byte) as usize] += 1;
+    }
+    assert!(seen.iter().all(|count| *count > 100), "{seen:?}");
+}
+
+#[test]
+fn runs_from_images_meet_every_answer_but_10() {
+    let mut random = Random::new(10);
+    let mut seen = [0; 11];
+    for _ in 0..2000 {
+        let Ok(mut net) = read_image(&valid_image(&mut random)) else {
+            continue;
+        };
+        for byte in picks(&mut random, &net, 60) {
+            seen[pick(&mut net, byte) as usize] += 1;
+        }
+    }
+    assert!(seen[..10].iter().all(|count| *count > 200), "{seen:?}");
+    assert_eq!(seen[10], 0);
+}
+
+// The action a pick of a busy slot would perform.
+fn action_name(net: &Net, byte: u8) -> usize {
+    let process = &net.nodes[(byte >> 4) as usize].processes[(byte >> 2 & 3) as usize];
+    match net.code[process.at.0 as usize].action {
+        Action::Stop => 0,
+        Action::Out { .. } => 1,
+        Action::In { .. } => 2,
+        Action::Read { .. } => 3,
+        Action::Eval { .. } => 4,
+        Action::New { .. } => 5,
+        Action::Fork { .. } => 6,
+    }
+}
+
+#[test]
+fn runs_from_images_perform_every_action() {
+    let mut random = Random::new(13);
+    let mut performed = [0; 7];
+    for _ in 0..2000 {
+        let mut net = valid_net(&mut random);
+        for _ in 0..60 {
+            let byte = pick_byte(&mut random, &net);
+            let action = action_name(&net, byte);
+            if step(&mut net, byte) <= 1 {
+                performed[action] += 1;
+            }
+        }
+    }
+    assert!(performed.iter().all(|count| *count > 1000), "{performed:?}");
+}

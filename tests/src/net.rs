@@ -1,0 +1,287 @@
+//! The records of a net (document 01, "The net").
+
+/// Most addresses in a net.
+pub const ADDRESSES: usize = 16;
+/// Process slots at each address.
+pub const SLOTS: usize = 4;
+/// Most tuples at each address.
+pub const TUPLES: usize = 16;
+/// Most fields in a tuple or template.
+pub const FIELDS: usize = 4;
+/// Most instructions in the code.
+pub const INSTRUCTIONS: usize = 512;
+/// Variables of each process.
+pub const VARIABLES: usize = 8;
+
+/// A network address, numbered from 0.
+#[derive(Clone, Copy, PartialEq, Eq, Debug)]
+pub struct Locality(pub u8);
+
+/// A place in the code, numbered from 0.
+#[derive(Clone, Copy, PartialEq, Eq, Debug)]
+pub struct Place(pub u16);
+
+/// What a variable of a process holds.
+#[derive(Clone, Copy, PartialEq, Eq, Debug)]
+pub enum Value {
+    Unset,
+    Reading(i32),
+    Address(Locality),
+}
+
+/// One field of a tuple: a reading or an address, never unset.
+#[derive(Clone, Copy, PartialEq, Eq, Debug)]
+pub enum Field {
+    Reading(i32),
+    Address(Locality),
+}
+
+/// A tuple: the first `count` fields are its own, the others are zero.
+#[derive(Clone, Copy, PartialEq, Eq, Debug)]
+pub struct Tuple {
+    pub count: u8,
+    pub fields: [Field; FIELDS],
+}
+
+/// The rights of a row over one address: i, r, o, e.
+#[derive(Clone, Copy, PartialEq, Eq, Debug)]
+pub struct Rights {
+    pub take: bool,
+    pub read: bool,
+    pub put: bool,
+    pub send: bool,
+}
+
+/// A policy row: the right n and the rights over each address.
+#[derive(Clone, Copy, PartialEq, Eq, Debug)]
+pub struct Row {
+    pub create: bool,
+    pub rights: [Rights; ADDRESSES],
+}
+
+/// A process slot, free or busy.
+#[derive(Clone, Copy, PartialEq, Eq, Debug)]
+pub struct Process {
+    pub busy: bool,
+    pub at: Place,
+    pub variables: [Value; VARIABLES],
+}
+
+/// What stands at one address. Tuples stand oldest first.
+#[derive(Clone, PartialEq, Eq, Debug)]
+pub struct Node {
+    pub row: Row,
+    pub processes: [Process; SLOTS],
+    pub tuple_count: u8,
+    pub tuples: [Tuple; TUPLES],
+}
+
+/// Where an action is aimed.
+#[derive(Clone, Copy, PartialEq, Eq, Debug)]
+pub enum Target {
+    Written(Locality),
+    /// `self`, the address hosting the process.
+    Own,
+    Variable(u8),
+}
+
+/// One field of a template, in the order of the image's kinds 0 to 5.
+#[derive(Clone, Copy, PartialEq, Eq, Debug)]
+pub enum TemplateField {
+    Reading(i32),
+    Address(Locality),
+    /// `self`, the address hosting the process.
+    Own,
+    Variable(u8),
+    FormalReading(u8),
+    FormalAddress(u8),
+}
+
+/// What an instruction does, in the order of the image's actions 0 to 6.
+#[derive(Clone, Copy, PartialEq, Eq, Debug)]
+pub enum Action {
+    Stop,
+    Out { target: Target, next: Place },
+    In { target: Target, next: Place },
+    Read { target: Target, next: Place },
+    Eval { target: Target, sent: Place, next: Place },
+    New { variable: u8, next: Place },
+    Fork { first: Place, second: Place },
+}
+
+/// An action with its template. Only out, in and read have fields;
+/// fields past the count are `Reading(0)`.
+#[derive(Clone, Copy, PartialEq, Eq, Debug)]
+pub struct Instruction {
+    pub action: Action,
+    pub count: u8,
+    pub fields: [TemplateField; FIELDS],
+}
+
+/// The whole net. Nodes past `address_count` and instructions past
+/// `code_length` are zero records.
+#[derive(Clone, PartialEq, Eq, Debug)]
+pub struct Net {
+    pub address_count: u8,
+    pub code_length: u16,
+    pub nodes: Box<[Node; ADDRESSES]>,
+    pub code: Box<[Instruction; INSTRUCTIONS]>,
+}
+
+impl Tuple {
+    pub const ZERO: Tuple = Tuple {
+        count: 0,
+        fields: [Field::Reading(0); FIELDS],
+    };
+
+    /// The tuple of these fields, at most four of them.
+    pub fn of(fields: &[Field]) -> Tuple {
+        let mut tuple = Tuple::ZERO;
+        tuple.count = fields.len() as u8;
+        tuple.fields[..fields.len()].copy_from_slice(fields);
+        tuple
+    }
+}
+
+impl Rights {
+    pub const NONE: Rights = Rights {
+        take: false,
+        read: false,
+        put: false,
+        send: false,
+    };
+    pub const ALL: Rights = Rights {
+        take: true,
+        read: true,
+        put: true,
+        send: true,
+    };
+}
+
+impl Row {
+    pub const ZERO: Row = Row {
+        create: false,
+        rights: [Rights::NONE; ADDRESSES],
+    };
+
+    /// The rights over an address; none over a number that is no address.
+    pub fn over(&self, address: Locality) -> Rights {
+        match self.rights.get(address.0 as usize) {
+            Some(rights) => *rights,
+            None => Rights::NONE,
+        }
+    }
+}
+
+impl Process {
+    pub const FREE: Process = Process {
+        busy: false,
+        at: Place(0),
+        variables: [Value::Unset; VARIABLES],
+    };
+
+    /// A process at its first place, all variables unset.
+    pub fn starting(at: Place) -> Process {
+        Process {
+            busy: true,
+            at,
+            ..Process::FREE
+        }
+    }
+}
+
+impl Node {
+    pub const ZERO: Node = Node {
+        row: Row::ZERO,
+        processes: [Process::FREE; SLOTS],
+        tuple_count: 0,
+        tuples: [Tuple::ZERO; TUPLES],
+    };
+
+    /// The lowest free slot, if any.
+    pub fn free_slot(&self) -> Option<usize> {
+        self.processes.iter().position(|process| !process.busy)
+    }
+
+    /// The number of busy slots.
+    pub fn busy_slots(&self) -> usize {
+        self.processes.iter().filter(|process| process.busy).count()
+    }
+}
+
+impl Instruction {
+    pub const STOP: Instruction = Instruction {
+        action: Action::Stop,
+        count: 0,
+        fields: [TemplateField::Reading(0); FIELDS],
+    };
+
+    /// An instruction without a template.
+    pub fn plain(action: Action) -> Instruction {
+        Instruction {
+            action,
+            ..Instruction::STOP
+        }
+    }
+
+    /// An instruction with these template fields, at most four of them.
+    pub fn with(action: Action, fields: &[TemplateField]) -> Instruction {
+        let mut instruction = Instruction::plain(action);
+        instruction.count = fields.len() as u8;
+        instruction.fields[..fields.len()].copy_from_slice(fields);
+        instruction
+    }
+}
+
+impl Net {
+    /// The empty net: address count 0, every record zero or unset.
+    pub fn empty() -> Net {
+        Net {
+            address_count: 0,
+            code_length: 0,
+            nodes: boxed(Node::ZERO),
+            code: boxed(Instruction::STOP),
+        }
+    }
+}
+
+/// An array of equal records, made on the heap.
+fn boxed<T: Clone, const N: usize>(record: T) -> Box<[T; N]> {
+    match vec![record; N].into_boxed_slice().try_into() {
+        Ok(array) => array,
+        Err(_) => unreachable!("the vector has N records"),
+    }
+}
+
+#[cfg(test)]
+mod tests {
+    use super::*;
+
+    #[test]
+    fn the_empty_net_is_all_zero() {
+        let net = Net::empty();
+        assert_eq!((net.address_count, net.code_length), (0, 0));
+        assert!(net.nodes.iter().all(|node| *node == Node::ZERO));
+        assert!(net.code.iter().all(|code| *code == Instruction::STOP));
+    }
+
+    #[test]
+    fn the_lowest_free_slot_is_found() {
+        let mut node = Node::ZERO;
+        assert_eq!(node.free_slot(), Some(0));
+        node.processes[0].busy = true;
+        node.processes[2].busy = true;
+        assert_eq!(node.free_slot(), Some(1));
+        assert_eq!(node.busy_slots(), 2);
+        node.processes = [Process::starting(Place(0)); SLOTS];
+        assert_eq!(node.free_slot(), None);
+    }
+
+    #[test]
+    fn rights_over_no_address_are_none() {
+        let mut row = Row::ZERO;
+        row.rights[15] = Rights::ALL;
+        assert_eq!(row.over(Locality(15)), Rights::ALL);
+        assert_eq!(row.over(Locality(16)), Rights::NONE);
+    }
+}

@@ -1,0 +1,134 @@
+//! The register (document 01, "The register").
+
+use crate::image::read_image;
+use crate::net::*;
+use crate::step::{pick_address, pick_slot, step};
+use std::fmt::Write;
+
+/// The register works through no more picks than these.
+pub const MOST_PICKS: usize = 65_536;
+
+/// The register of an image and its picks.
+pub fn register(image: &[u8], picks: &[u8]) -> String {
+    let mut net = match read_image(image) {
+        Ok(net) => net,
+        Err(number) => return format!("refused {number}\n"),
+    };
+    let mut text = format!("net {} {}\n", net.address_count, net.code_length);
+    let made = &picks[..picks.len().min(MOST_PICKS)];
+    for (index, pick) in made.iter().enumerate() {
+        // An accepted net is sound and steps keep it so.
+        let answer = step(&mut net, *pick);
+        write_pick(&mut text, index + 1, *pick, answer);
+    }
+    for address in 0..net.address_count {
+        write_node(&mut text, address, &net.nodes[address as usize]);
+    }
+    text
+}
+
+fn write_pick(text: &mut String, number: usize, pick: u8, answer: u8) {
+    let address = pick_address(pick).0;
+    let slot = pick_slot(pick);
+    line(text, format_args!("pick {number} {address} {slot} {answer}"));
+}
+
+fn write_node(text: &mut String, address: u8, node: &Node) {
+    let busy = node.busy_slots();
+    line(text, format_args!("node {address} {} {busy}", node.tuple_count));
+    for tuple in &node.tuples[..node.tuple_count as usize] {
+        let fields = fields_text(tuple);
+        line(text, format_args!("tuple {address}{fields}"));
+    }
+}
+
+// The fields, each with a space before it.
+fn fields_text(tuple: &Tuple) -> String {
+    let held = tuple.fields[..tuple.count as usize].iter();
+    held.map(|field| match *field {
+        Field::Reading(reading) => format!(" {reading}"),
+        Field::Address(address) => format!(" @{}", address.0),
+    })
+    .collect()
+}
+
+fn line(text: &mut String, content: std::fmt::Arguments) {
+    writeln!(text, "{content}").expect("a string takes every line");
+}
+
+#[cfg(test)]
+mod tests {
+    use super::*;
+    use crate::image::write_image;
+
+    const EXAMPLE: [u8; 12] = [
+        0x10, 0x80, 0x42, 0x20, 0x00, 0x14, 0x00, 0x00, 0x00, 0x00, 0xA0, 0x10,
+    ];
+
+    #[test]
+    fn the_paper_s_run() {
+        let expected = "net 1 2\npick 1 0 0 0\npick 2 0 0 1\npick 3 0 0 7\nnode 0 1 0\ntuple 0 5\n";
+        assert_eq!(register(&EXAMPLE, &[0, 0, 0]), expected);
+    }
+
+    #[test]
+    fn no_picks() {
+        assert_eq!(register(&EXAMPLE, &[]), "net 1 2\nnode 0 0 1\n");
+    }
+
+    #[test]
+    fn a_refused_image_prints_its_number_only() {
+        assert_eq!(register(&[], &[0, 0]), "refused 28\n");
+        let mut barred = EXAMPLE;
+        barred[2] = 0x40;
+        assert_eq!(register(&barred, &[0]), "refused 30\n");
+    }
+
+    #[test]
+    fn address_and_slot_are_printed_at_every_answer() {
+        let text = register(&EXAMPLE, &[0xF5, 0xF4, 0x0C]);
+        let expected = "net 1 2\npick 1 15 1 9\npick 2 15 1 8\npick 3 0 3 7\nnode 0 0 1\n";
+        assert_eq!(text, expected);
+    }
+
+    #[test]
+    fn fields_of_both_sorts() {
+        let mut net = Net::empty();
+        net.address_count = 2;
+        net.code_length = 1;
+        let fields = [
+            Field::Reading(-1),
+            Field::Address(Locality(1)),
+            Field::Reading(i32::MIN),
+            Field::Address(Locality(0)),
+        ];
+        net.nodes[1].tuples[0] = Tuple::of(&fields);
+        net.nodes[1].tuples[1] = Tuple::of(&fields[..1]);
+        net.nodes[1].tuple_count = 2;
+        let expected = "net 2 1\nnode 0 0 0\nnode 1 2 0\ntuple 1 -1 @1 -2147483648 @0\ntuple 1 -1\n";
+        assert_eq!(register(&write_image(&net), &[]), expected);
+    }
+
+    #[test]
+    fn the_net_line_has_the_image_s_count() {
+        let mut net = Net::empty();
+        net.address_count = 1;
+        net.code_length = 1;
+        net.nodes[0].row.create = true;
+        net.nodes[0].processes[0] = Process::starting(Place(0));
+        net.code[0] = Instruction::plain(Action::New {
+            variable: 0,
+            next: Place(0),
+        });
+        let expected = "net 1 1\npick 1 0 0 0\nnode 0 0 1\nnode 1 0 0\n";
+        assert_eq!(register(&write_image(&net), &[0]), expected);
+    }
+
+    #[test]
+    fn picks_past_the_limit_are_left_off() {
+        let picks = vec![0xFF; MOST_PICKS + 5];
+        let text = register(&EXAMPLE, &picks);
+        assert_eq!(text, register(&EXAMPLE, &picks[..MOST_PICKS]));
+        assert!(text.contains("pick 65536 15 3 9\nnode 0 0 1\n"));
+    }
+}
