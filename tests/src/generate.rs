@@ -1,5 +1,6 @@
 //! Random nets, images and picks for tests. The same seed gives the same.
 
+mod code;
 mod damage;
 
 pub use damage::{change_record, damaged_image, random_net};
@@ -8,7 +9,8 @@ use crate::image::write_image;
 use crate::net::*;
 use crate::random::Random;
 use crate::sound::{keeps_within, reached};
-use crate::step::step;
+use crate::step::{pick_address, pick_slot, step};
+use code::{CodeWriter, Style};
 
 /// A net as an image could write it down: faults 21 to 29 absent, but
 /// starting processes may reach beyond their rows.
@@ -16,12 +18,11 @@ pub fn image_net(random: &mut Random) -> Net {
     let mut net = Net::empty();
     net.address_count = address_count(random);
     net.code_length = code_length(random);
+    let style = Style::new(random, net.address_count, net.code_length);
     fill_rows(random, &mut net);
     fill_processes(random, &mut net);
-    fill_tuples(random, &mut net);
-    for index in 0..net.code_length as usize {
-        net.code[index] = instruction(random, net.address_count, net.code_length);
-    }
+    fill_tuples(random, &mut net, &style);
+    fill_code(random, &mut net, &style);
     net
 }
 
@@ -63,47 +64,55 @@ pub fn sound_net(random: &mut Random) -> Net {
 /// A sound net some picks after its start.
 pub fn net_after_picks(random: &mut Random) -> Net {
     let mut net = valid_net(random);
-    let picks = random.below(80);
-    for _ in 0..picks {
-        let pick = pick_byte(random, &net);
-        step(&mut net, pick);
+    for _ in 0..random.below(80) {
+        pick_and_step(random, &mut net);
     }
     net
 }
 
-/// A list of picks for a run that starts at a net, mostly of slots that
-/// are busy when their turn comes.
+/// A list of picks for a run that starts at a sound net; many of them
+/// perform a step when their turn comes.
 pub fn picks(random: &mut Random, start: &Net, count: usize) -> Vec<u8> {
     let mut net = start.clone();
-    let mut picks = Vec::with_capacity(count);
-    for _ in 0..count {
-        let pick = pick_byte(random, &net);
-        step(&mut net, pick);
-        picks.push(pick);
+    (0..count)
+        .map(|_| pick_and_step(random, &mut net))
+        .collect()
+}
+
+// Makes one pick. A pick that performs nothing leaves the net as it was,
+// so that another may be tried in its stead.
+fn pick_and_step(random: &mut Random, net: &mut Net) -> u8 {
+    let mut tries = random.choose(&[1, 2, 4, 8]);
+    loop {
+        let pick = pick_byte(random, net);
+        tries -= 1;
+        if step(net, pick) <= 1 || tries == 0 {
+            return pick;
+        }
     }
-    picks
 }
 
 /// One pick for a net, mostly of a busy slot.
 pub fn pick_byte(random: &mut Random, net: &Net) -> u8 {
-    if random.percent(4) {
-        return random.byte();
+    let busy = busy_slots(net);
+    let address = random.below(net.address_count as usize + 1);
+    let slot = random.below(SLOTS);
+    match random.below(50) {
+        0 => random.byte(),
+        1 => random.byte() & 0xFC,
+        2..=48 if !busy.is_empty() => random.choose(&busy),
+        _ => (address << 4 | slot << 2) as u8,
     }
-    let count = net.address_count as usize;
-    let address = if random.percent(4) {
-        random.below(ADDRESSES)
-    } else {
-        random.below(count.clamp(1, ADDRESSES))
-    };
-    let busy: Vec<usize> = (0..SLOTS)
-        .filter(|slot| net.nodes[address].processes[*slot].busy)
-        .collect();
-    let slot = if busy.is_empty() || random.percent(4) {
-        random.below(SLOTS)
-    } else {
-        random.choose(&busy)
-    };
-    (address << 4 | slot << 2) as u8
+}
+
+// The picks of all busy slots.
+fn busy_slots(net: &Net) -> Vec<u8> {
+    let all = (0..=u8::MAX).step_by(4);
+    all.filter(|pick| {
+        let node = &net.nodes[pick_address(*pick).0 as usize];
+        node.processes[pick_slot(*pick) as usize].busy
+    })
+    .collect()
 }
 
 // Sizes.
@@ -127,7 +136,7 @@ fn code_length(random: &mut Random) -> u16 {
 
 fn tuple_count(random: &mut Random) -> u8 {
     match random.below(10) {
-        0..=7 => random.between(0, 4) as u8,
+        0..=7 => random.between(0, 6) as u8,
         8 => random.between(0, 16) as u8,
         _ => random.between(14, 16) as u8,
     }
@@ -145,7 +154,7 @@ pub fn reading(random: &mut Random) -> i32 {
         0..=16 => random.below(3) as i32,
         17 => -(random.below(3) as i32),
         18 => random.choose(&[i32::MIN, i32::MAX, i32::MIN + 1, 5]),
-        _ => random.next() as i32,
+        _ => random.number() as i32,
     }
 }
 
@@ -155,15 +164,6 @@ fn address(random: &mut Random, count: u8) -> Locality {
 
 fn place(random: &mut Random, length: u16) -> Place {
     Place(random.below(length as usize) as u16)
-}
-
-/// Mostly one of a few variables, so that they are set when used.
-fn variable(random: &mut Random) -> u8 {
-    if random.percent(90) {
-        random.below(3) as u8
-    } else {
-        random.below(VARIABLES) as u8
-    }
 }
 
 fn variables(random: &mut Random, count: u8) -> [Value; VARIABLES] {
@@ -176,20 +176,6 @@ fn variables(random: &mut Random, count: u8) -> [Value; VARIABLES] {
         };
     }
     variables
-}
-
-fn field(random: &mut Random, count: u8) -> Field {
-    if random.percent(70) {
-        Field::Reading(reading(random))
-    } else {
-        Field::Address(address(random, count))
-    }
-}
-
-fn tuple(random: &mut Random, count: u8) -> Tuple {
-    let mut fields = [Field::Reading(0); FIELDS];
-    fields.fill_with(|| field(random, count));
-    Tuple::of(&fields[..field_count(random)])
 }
 
 // Rows, processes and tuples of a net.
@@ -216,103 +202,33 @@ fn fill_processes(random: &mut Random, net: &mut Net) {
     for node in &mut net.nodes[..count] {
         let busy = random.choose(&[0, 0, 1, 1, 1, 1, 2, 2, 3, 4]);
         for process in &mut node.processes[..busy] {
-            *process = Process::starting(place(random, length));
+            *process = Process::starting(start(random, length));
         }
     }
 }
 
-fn fill_tuples(random: &mut Random, net: &mut Net) {
-    let count = net.address_count;
-    for node in &mut net.nodes[..count as usize] {
+// Mostly the first place, where no variable is needed yet.
+fn start(random: &mut Random, length: u16) -> Place {
+    if random.percent(80) {
+        Place(0)
+    } else {
+        place(random, length)
+    }
+}
+
+fn fill_tuples(random: &mut Random, net: &mut Net, style: &Style) {
+    for node in &mut net.nodes[..style.count as usize] {
         node.tuple_count = tuple_count(random);
         for held in &mut node.tuples[..node.tuple_count as usize] {
-            *held = tuple(random, count);
+            *held = style.tuple(random);
         }
     }
 }
 
-// Code.
-
-fn target(random: &mut Random, count: u8) -> Target {
-    match random.below(10) {
-        0..=3 => Target::Written(address(random, count)),
-        4..=6 => Target::Own,
-        _ => Target::Variable(variable(random)),
-    }
-}
-
-fn actual(random: &mut Random, count: u8) -> TemplateField {
-    match random.below(10) {
-        0..=4 => TemplateField::Reading(reading(random)),
-        5 | 6 => TemplateField::Address(address(random, count)),
-        7 => TemplateField::Own,
-        _ => TemplateField::Variable(variable(random)),
-    }
-}
-
-// A formal of a variable not formal so far.
-fn formal(random: &mut Random, used: &mut [bool; VARIABLES]) -> TemplateField {
-    let mut chosen = variable(random) as usize;
-    while used[chosen] {
-        chosen = (chosen + 1) % VARIABLES;
-    }
-    used[chosen] = true;
-    if random.percent(60) {
-        TemplateField::FormalReading(chosen as u8)
-    } else {
-        TemplateField::FormalAddress(chosen as u8)
-    }
-}
-
-fn out(random: &mut Random, count: u8, length: u16) -> Instruction {
-    let mut fields = [TemplateField::Reading(0); FIELDS];
-    fields.fill_with(|| actual(random, count));
-    let action = Action::Out {
-        target: target(random, count),
-        next: place(random, length),
-    };
-    Instruction::with(action, &fields[..field_count(random)])
-}
-
-fn in_or_read(random: &mut Random, count: u8, length: u16) -> Instruction {
-    let mut used = [false; VARIABLES];
-    let mut fields = [TemplateField::Reading(0); FIELDS];
-    for field in fields.iter_mut() {
-        *field = if random.percent(60) {
-            formal(random, &mut used)
-        } else {
-            actual(random, count)
-        };
-    }
-    let target = target(random, count);
-    let next = place(random, length);
-    let action = if random.percent(60) {
-        Action::In { target, next }
-    } else {
-        Action::Read { target, next }
-    };
-    Instruction::with(action, &fields[..field_count(random)])
-}
-
-/// An instruction that meets rules 26 and 27, its numbers in range.
-pub fn instruction(random: &mut Random, count: u8, length: u16) -> Instruction {
-    match random.below(20) {
-        0 => Instruction::STOP,
-        1..=6 => out(random, count, length),
-        7..=13 => in_or_read(random, count, length),
-        14..=16 => Instruction::plain(Action::Eval {
-            target: target(random, count),
-            sent: place(random, length),
-            next: place(random, length),
-        }),
-        17 => Instruction::plain(Action::New {
-            variable: variable(random),
-            next: place(random, length),
-        }),
-        _ => Instruction::plain(Action::Fork {
-            first: place(random, length),
-            second: place(random, length),
-        }),
+fn fill_code(random: &mut Random, net: &mut Net, style: &Style) {
+    let mut writer = CodeWriter::new(random, style);
+    for at in 0..style.length {
+        net.code[at as usize] = writer.instruction(at);
     }
 }
 
@@ -377,7 +293,7 @@ fn move_starts(random: &mut Random, net: &mut Net) {
 
 fn place_within(random: &mut Random, net: &Net, address: Locality) -> Option<Place> {
     let row = &net.nodes[address.0 as usize].row;
-    let mut tries = (0..20).map(|_| place(random, net.code_length));
+    let mut tries = (0..20).map(|_| start(random, net.code_length));
     tries.find(|place| keeps_within(&net.code[..], net.code_length, *place, address, row))
 }
 

@@ -51,7 +51,13 @@ pub fn starts_keep_within(net: &Net) -> bool {
         let mut busy = node.processes.iter().filter(|process| process.busy);
         busy.all(|process| {
             let length = net.code_length;
-            keeps_within(&net.code[..], length, process.at, Locality(address), &node.row)
+            keeps_within(
+                &net.code[..],
+                length,
+                process.at,
+                Locality(address),
+                &node.row,
+            )
         })
     })
 }
@@ -300,11 +306,14 @@ pub fn write_with_fields(net: &Net) -> (Vec<u8>, Vec<FieldAt>) {
     };
     let nodes = &net.nodes[..net.address_count as usize];
     writer.counts(net);
-    nodes.iter().for_each(|node| writer.row(&node.row, nodes.len()));
+    nodes
+        .iter()
+        .for_each(|node| writer.row(&node.row, nodes.len()));
     nodes.iter().for_each(|node| writer.processes(node));
     nodes.iter().for_each(|node| writer.tuples(node));
     let code = &net.code[..net.code_length as usize];
-    code.iter().for_each(|instruction| writer.instruction(instruction));
+    code.iter()
+        .for_each(|instruction| writer.instruction(instruction));
     writer.bits.finish()
 }
 
@@ -334,13 +343,15 @@ impl ImageWriter {
     }
 
     fn field_count(&mut self, count: u8) {
-        self.bits.put(Sort::FieldCount, 2, (count as u32).wrapping_sub(1));
+        self.bits
+            .put(Sort::FieldCount, 2, (count as u32).wrapping_sub(1));
     }
 
     // Part 1.
     fn counts(&mut self, net: &Net) {
         self.bits.put(Sort::Format, 4, 1);
-        self.bits.put(Sort::AddressCount, 5, net.address_count as u32);
+        self.bits
+            .put(Sort::AddressCount, 5, net.address_count as u32);
         self.bits.put(Sort::CodeLength, 10, net.code_length as u32);
     }
 
@@ -357,7 +368,8 @@ impl ImageWriter {
 
     // Part 3. Only the places are written, of the busy slots in order.
     fn processes(&mut self, node: &Node) {
-        self.bits.put(Sort::ProcessCount, 3, node.busy_slots() as u32);
+        self.bits
+            .put(Sort::ProcessCount, 3, node.busy_slots() as u32);
         for process in node.processes.iter().filter(|process| process.busy) {
             self.place(process.at);
         }

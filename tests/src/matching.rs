@@ -153,13 +153,22 @@ mod tests {
         let each = |field| evaluate_field(field, HOST, &variables);
         let actual = |field| Some(Pattern::Actual(field));
         assert_eq!(each(TemplateField::Reading(-4)), actual(reading(-4)));
-        assert_eq!(each(TemplateField::Address(Locality(2))), actual(address(2)));
+        assert_eq!(
+            each(TemplateField::Address(Locality(2))),
+            actual(address(2))
+        );
         assert_eq!(each(TemplateField::Own), actual(address(3)));
         assert_eq!(each(TemplateField::Variable(2)), actual(reading(9)));
         assert_eq!(each(TemplateField::Variable(3)), actual(address(1)));
         assert_eq!(each(TemplateField::Variable(0)), None);
-        assert_eq!(each(TemplateField::FormalReading(0)), Some(Pattern::FormalReading(0)));
-        assert_eq!(each(TemplateField::FormalAddress(0)), Some(Pattern::FormalAddress(0)));
+        assert_eq!(
+            each(TemplateField::FormalReading(0)),
+            Some(Pattern::FormalReading(0))
+        );
+        assert_eq!(
+            each(TemplateField::FormalAddress(0)),
+            Some(Pattern::FormalAddress(0))
+        );
     }
 
     #[test]

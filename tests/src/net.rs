@@ -101,12 +101,31 @@ pub enum TemplateField {
 #[derive(Clone, Copy, PartialEq, Eq, Debug)]
 pub enum Action {
     Stop,
-    Out { target: Target, next: Place },
-    In { target: Target, next: Place },
-    Read { target: Target, next: Place },
-    Eval { target: Target, sent: Place, next: Place },
-    New { variable: u8, next: Place },
-    Fork { first: Place, second: Place },
+    Out {
+        target: Target,
+        next: Place,
+    },
+    In {
+        target: Target,
+        next: Place,
+    },
+    Read {
+        target: Target,
+        next: Place,
+    },
+    Eval {
+        target: Target,
+        sent: Place,
+        next: Place,
+    },
+    New {
+        variable: u8,
+        next: Place,
+    },
+    Fork {
+        first: Place,
+        second: Place,
+    },
 }
 
 /// An action with its template. Only out, in and read have fields;

@@ -11,7 +11,7 @@ impl Random {
         Random { state: seed }
     }
 
-    pub fn next(&mut self) -> u64 {
+    pub fn number(&mut self) -> u64 {
         self.state = self.state.wrapping_add(0x9E37_79B9_7F4A_7C15);
         let mut mixed = self.state;
         mixed = (mixed ^ mixed >> 30).wrapping_mul(0xBF58_476D_1CE4_E5B9);
@@ -21,7 +21,7 @@ impl Random {
 
     /// A number below a bound above 0.
     pub fn below(&mut self, bound: usize) -> usize {
-        (self.next() % bound as u64) as usize
+        (self.number() % bound as u64) as usize
     }
 
     /// A number from `least` to `most`, both among them.
@@ -40,7 +40,7 @@ impl Random {
     }
 
     pub fn byte(&mut self) -> u8 {
-        self.next() as u8
+        self.number() as u8
     }
 }
 
@@ -51,8 +51,8 @@ mod tests {
     #[test]
     fn the_same_seed_gives_the_same_numbers() {
         let (mut one, mut two) = (Random::new(7), Random::new(7));
-        assert!((0..100).all(|_| one.next() == two.next()));
-        assert_ne!(Random::new(1).next(), Random::new(2).next());
+        assert!((0..100).all(|_| one.number() == two.number()));
+        assert_ne!(Random::new(1).number(), Random::new(2).number());
     }
 
     #[test]

@@ -30,12 +30,18 @@ pub fn register(image: &[u8], picks: &[u8]) -> String {
 fn write_pick(text: &mut String, number: usize, pick: u8, answer: u8) {
     let address = pick_address(pick).0;
     let slot = pick_slot(pick);
-    line(text, format_args!("pick {number} {address} {slot} {answer}"));
+    line(
+        text,
+        format_args!("pick {number} {address} {slot} {answer}"),
+    );
 }
 
 fn write_node(text: &mut String, address: u8, node: &Node) {
     let busy = node.busy_slots();
-    line(text, format_args!("node {address} {} {busy}", node.tuple_count));
+    line(
+        text,
+        format_args!("node {address} {} {busy}", node.tuple_count),
+    );
     for tuple in &node.tuples[..node.tuple_count as usize] {
         let fields = fields_text(tuple);
         line(text, format_args!("tuple {address}{fields}"));
@@ -105,7 +111,8 @@ mod tests {
         net.nodes[1].tuples[0] = Tuple::of(&fields);
         net.nodes[1].tuples[1] = Tuple::of(&fields[..1]);
         net.nodes[1].tuple_count = 2;
-        let expected = "net 2 1\nnode 0 0 0\nnode 1 2 0\ntuple 1 -1 @1 -2147483648 @0\ntuple 1 -1\n";
+        let expected =
+            "net 2 1\nnode 0 0 0\nnode 1 2 0\ntuple 1 -1 @1 -2147483648 @0\ntuple 1 -1\n";
         assert_eq!(register(&write_image(&net), &[]), expected);
     }
 

@@ -32,7 +32,10 @@ fn marks(code: &[Instruction], length: u16, place: Place) -> [bool; INSTRUCTIONS
     };
     worklist.mark(place);
     while let Some(place) = worklist.next() {
-        for next in successors(&code[place.0 as usize].action).into_iter().flatten() {
+        for next in successors(&code[place.0 as usize].action)
+            .into_iter()
+            .flatten()
+        {
             worklist.mark(next);
         }
     }
@@ -119,7 +122,9 @@ fn nodes_sound(net: &Net) -> bool {
 fn node_sound(net: &Net, node: &Node) -> bool {
     let processes = node.processes.iter();
     row_sound(net, &node.row)
-        && processes.into_iter().all(|process| process_sound(net, process))
+        && processes
+            .into_iter()
+            .all(|process| process_sound(net, process))
         && tuples_sound(net, node)
 }
 
@@ -161,7 +166,8 @@ fn tuples_sound(net: &Net, node: &Node) -> bool {
         return false;
     }
     let (held, past) = node.tuples.split_at(node.tuple_count as usize);
-    held.iter().all(|tuple| tuple_sound(net, tuple)) && past.iter().all(|tuple| *tuple == Tuple::ZERO)
+    held.iter().all(|tuple| tuple_sound(net, tuple))
+        && past.iter().all(|tuple| *tuple == Tuple::ZERO)
 }
 
 fn tuple_sound(net: &Net, tuple: &Tuple) -> bool {
@@ -169,7 +175,8 @@ fn tuple_sound(net: &Net, tuple: &Tuple) -> bool {
         return false;
     }
     let (held, past) = tuple.fields.split_at(tuple.count as usize);
-    held.iter().all(|field| field_sound(net, field)) && past.iter().all(|field| *field == Field::Reading(0))
+    held.iter().all(|field| field_sound(net, field))
+        && past.iter().all(|field| *field == Field::Reading(0))
 }
 
 fn field_count_sound(count: u8) -> bool {
@@ -186,8 +193,11 @@ fn field_sound(net: &Net, field: &Field) -> bool {
 // Each instruction within the length is sound, each other one zero.
 fn code_sound(net: &Net) -> bool {
     let (held, past) = net.code.split_at(net.code_length as usize);
-    held.iter().all(|instruction| instruction_sound(net, instruction))
-        && past.iter().all(|instruction| *instruction == Instruction::STOP)
+    held.iter()
+        .all(|instruction| instruction_sound(net, instruction))
+        && past
+            .iter()
+            .all(|instruction| *instruction == Instruction::STOP)
 }
 
 fn instruction_sound(net: &Net, instruction: &Instruction) -> bool {
@@ -262,7 +272,10 @@ fn formal(field: &TemplateField) -> Option<u8> {
 
 // Rule 26.
 fn no_formal(instruction: &Instruction) -> bool {
-    instruction.fields.iter().all(|field| formal(field).is_none())
+    instruction
+        .fields
+        .iter()
+        .all(|field| formal(field).is_none())
 }
 
 // Rule 27. Fields past the count are known to be zero, so no formals.
@@ -270,7 +283,10 @@ fn no_formal_twice(instruction: &Instruction) -> bool {
     let fields = &instruction.fields;
     (0..FIELDS).all(|second| {
         let variable = formal(&fields[second]);
-        variable.is_none() || fields[..second].iter().all(|first| formal(first) != variable)
+        variable.is_none()
+            || fields[..second]
+                .iter()
+                .all(|first| formal(first) != variable)
     })
 }
 

@@ -110,5 +110,5 @@ pub all-fails : (n : ℕ) (test : ℕ → Bool) (i : ℕ) → i < n → test i �
 all-fails n test i h p = go (all n test) refl
   where
     go : (b : Bool) → all n test ≡ b → false ≡ b
-    go true e = sym (sym (all-e n test e i h) ∙ p) 
+    go true e = sym (sym (all-e n test e i h) ∙ p)
     go false e = refl

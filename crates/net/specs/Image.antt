@@ -207,9 +207,9 @@ unfoldable pub pattern : Bool → ℕ → Instruction → Reader Pattern
 pattern formals n c = do
   v ← kind formals
   alternative
-    (readingPattern ∷ addressPattern n ∷ done Pattern.Own ∷ heldPattern ∷ formalReading c ∷ [])
-    (formalAddress c)
-    v
+      (readingPattern ∷ addressPattern n ∷ done Pattern.Own ∷ heldPattern ∷ formalReading c ∷ [])
+      (formalAddress c)
+      v
 
 unfoldable pub templateField : Bool → ℕ → ℕ → Instruction → Reader Instruction
 templateField formals n i c = do
@@ -252,15 +252,15 @@ unfoldable pub instruction : ℕ → ℕ → Reader Instruction
 instruction n k = do
   action ← field 3 0 7 25
   alternative
-    (done zeroInstruction
-    ∷ communication Action.Out false n k
-    ∷ communication Action.In true n k
-    ∷ communication Action.Read true n k
-    ∷ evaluation n k
-    ∷ creation k
-    ∷ [])
-    (forking k)
-    action
+      (done zeroInstruction
+      ∷ communication Action.Out false n k
+      ∷ communication Action.In true n k
+      ∷ communication Action.Read true n k
+      ∷ evaluation n k
+      ∷ creation k
+      ∷ [])
+      (forking k)
+      action
 
 unfoldable pub instructionOf : ℕ → Net → Reader Net
 instructionOf p s = do

@@ -2,7 +2,10 @@ pub mod BitReader
 pub mod Choice
 pub mod Image
 pub mod Keeping
+pub mod LengthClaims
 pub mod Matching
+pub mod Progress
 pub mod Reaching
+pub mod ReachingClaims
 pub mod Records
 pub mod Soundness

@@ -59,7 +59,7 @@ unfoldable pub evaluatedOf : Locality → Process → Instruction → Evaluated
 evaluatedOf host p c = record {
   defined = all 4 (λ i. implies (ltb i (c .count)) (definedField p (patternAt c i)));
   count = c .count;
-  wants = wantsOf host p c
+  wants = wantsOf host p c;
 }
 
 unfoldable pub wantAt : Evaluated → ℕ → Want

@@ -1,6 +1,8 @@
 // Instructions (document 01, "The image", part 5).
 use crate::locality::Locality;
 use crate::locality::Place;
+ghost use mathlib.Core.Path.{_≡_};
+ghost use Rattle.net.specs.Records.{zeroTemplateField, zeroInstruction, withPattern, withAction};
 
 // Where an action takes place: at a written address, at the host itself, or at the address that a
 // variable holds.
@@ -41,4 +43,54 @@ pub struct Instruction {
     pub action: Action,
     pub count: usize,
     pub template: [TemplateField; 4],
+}
+
+impl TemplateField {
+    pub fn zero() -> TemplateField
+        ensures { λ r. ⌜ r ≡ zeroTemplateField ⌝ }
+    {
+        let pattern = Pattern::Reading(0);
+        TemplateField { pattern }
+    }
+}
+
+impl Instruction {
+    // A stop, which has no template.
+    pub fn zero() -> Instruction
+        ensures { λ r. ⌜ r ≡ zeroInstruction ⌝ }
+    {
+        let action = Action::Stop;
+        let field = TemplateField::zero();
+        Instruction {
+            action,
+            count: 0,
+            template: [field; 4],
+        }
+    }
+
+    // The instruction with one template field more, or as it was where it has four.
+    pub fn with_pattern(mut self, f: TemplateField) -> Instruction
+        ensures { λ r. ⌜ r ≡ withPattern self f ⌝ }
+    {
+        let at = self.count;
+        if at < 4 {
+            self.template[at] = f;
+            self.count = at + 1;
+            self
+        } else {
+            self
+        }
+    }
+
+    // The instruction with another action.
+    pub fn with_action(self, action: Action) -> Instruction
+        ensures { λ r. ⌜ r ≡ withAction self action ⌝ }
+    {
+        let template = self.template;
+        Instruction {
+            action,
+            count: self.count,
+            template,
+        }
+    }
 }

@@ -1,6 +1,7 @@
 // The lower crate: the records of a net, matching, policies and the image reader.
 // Everything above it rests on the promises written here and on the definitions of specs/.
 pub mod bits;
+pub mod fields;
 pub mod image;
 pub mod instruction;
 pub mod locality;

@@ -1,5 +1,8 @@
 // Policies (document 01, "The net"): what the processes hosted at a node may do.
 
+ghost use mathlib.Core.Path.{_≡_};
+ghost use Rattle.net.specs.Records.{noRights, zeroRow};
+
 // The rights over one address: i (take), r (read), o (put), e (send code).
 pub struct Rights {
     pub take: bool,
@@ -12,4 +15,30 @@ pub struct Rights {
 pub struct Row {
     pub create: bool,
     pub rights: [Rights; 16],
+}
+
+impl Rights {
+    pub fn none() -> Rights
+        ensures { λ r. ⌜ r ≡ noRights ⌝ }
+    {
+        Rights {
+            take: false,
+            read: false,
+            put: false,
+            send: false,
+        }
+    }
+}
+
+impl Row {
+    // A row that grants nothing.
+    pub fn zero() -> Row
+        ensures { λ r. ⌜ r ≡ zeroRow ⌝ }
+    {
+        let none = Rights::none();
+        Row {
+            create: false,
+            rights: [none; 16],
+        }
+    }
 }

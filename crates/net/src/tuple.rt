@@ -1,5 +1,7 @@
 // Values and tuples (document 01, "The net").
 use crate::locality::Locality;
+ghost use mathlib.Core.Path.{_≡_};
+ghost use Rattle.net.specs.Records.{zeroField, zeroTuple, unsetVariable, withField};
 
 // What a variable of a process holds.
 pub enum Value {
@@ -26,4 +28,50 @@ pub struct Field {
 pub struct Tuple {
     pub count: usize,
     pub fields: [Field; 4],
+}
+
+impl Variable {
+    // A variable that is not set.
+    pub fn unset() -> Variable
+        ensures { λ r. ⌜ r ≡ unsetVariable ⌝ }
+    {
+        let value = Value::Unset;
+        Variable { value }
+    }
+}
+
+impl Field {
+    pub fn zero() -> Field
+        ensures { λ r. ⌜ r ≡ zeroField ⌝ }
+    {
+        let item = Item::Reading(0);
+        Field { item }
+    }
+}
+
+impl Tuple {
+    // A record that holds no tuple.
+    pub fn zero() -> Tuple
+        ensures { λ r. ⌜ r ≡ zeroTuple ⌝ }
+    {
+        let field = Field::zero();
+        Tuple {
+            count: 0,
+            fields: [field; 4],
+        }
+    }
+
+    // The tuple with one field more, or as it was where it has four.
+    pub fn with_field(mut self, f: Field) -> Tuple
+        ensures { λ r. ⌜ r ≡ withField self f ⌝ }
+    {
+        let at = self.count;
+        if at < 4 {
+            self.fields[at] = f;
+            self.count = at + 1;
+            self
+        } else {
+            self
+        }
+    }
 }

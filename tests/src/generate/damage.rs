@@ -1,6 +1,7 @@
 //! Damaged images and damaged nets.
 
-use super::{image_net, in_or_read, net_after_picks, out, sound_net, valid_net};
+use super::code::{CodeWriter, Style};
+use super::{image_net, net_after_picks, sound_net, valid_net};
 use crate::bits::{patch, FieldAt, Sort};
 use crate::image::write_with_fields;
 use crate::net::*;
@@ -28,8 +29,8 @@ pub fn damaged_image(random: &mut Random) -> Vec<u8> {
 fn damage_records(random: &mut Random, net: &mut Net) {
     let at = random.below(net.code_length as usize);
     match random.below(5) {
-        0 => net.code[at] = out_with_formal(random, net.address_count, net.code_length),
-        1 | 2 => net.code[at] = formal_twice(random, net.address_count, net.code_length),
+        0 => net.code[at] = out_with_formal(random, net, at as u16),
+        1 | 2 => net.code[at] = formal_twice(random, net, at as u16),
         3 => {
             let address = random.below(net.address_count as usize);
             net.nodes[address].row = Row::ZERO;
@@ -50,16 +51,18 @@ fn formal_of(random: &mut Random, variable: u8) -> TemplateField {
     }
 }
 
-fn out_with_formal(random: &mut Random, count: u8, length: u16) -> Instruction {
-    let mut instruction = out(random, count, length);
+fn out_with_formal(random: &mut Random, net: &Net, at: u16) -> Instruction {
+    let style = Style::new(random, net.address_count, net.code_length);
+    let mut instruction = CodeWriter::new(random, &style).out(at);
     let index = random.below(instruction.count as usize);
     let variable = random.below(VARIABLES) as u8;
     instruction.fields[index] = formal_of(random, variable);
     instruction
 }
 
-fn formal_twice(random: &mut Random, count: u8, length: u16) -> Instruction {
-    let mut instruction = in_or_read(random, count, length);
+fn formal_twice(random: &mut Random, net: &Net, at: u16) -> Instruction {
+    let style = Style::new(random, net.address_count, net.code_length);
+    let mut instruction = CodeWriter::new(random, &style).in_or_read(at);
     let fields = instruction.count.max(2);
     instruction.count = fields;
     let second = random.between(1, fields as usize - 1);
@@ -144,7 +147,7 @@ fn damage_field(random: &mut Random, net: &Net, fields: &[FieldAt], bytes: &mut 
 /// A number out of a field's range, or any number where every number is
 /// in range.
 pub(super) fn bad_number(random: &mut Random, net: &Net, field: FieldAt) -> u32 {
-    let any = random.next() as u32;
+    let any = random.number() as u32;
     match field.sort {
         Sort::Format => random.choose(&[0, 2, 3, 5, 9, 15]),
         Sort::AddressCount => random.choose(&[0, 17, 18, 31]),
@@ -202,14 +205,16 @@ fn wild_count(random: &mut Random, count: usize, most: usize) -> usize {
     let near = [count + 1, count.wrapping_sub(1), 0, 1, most, most + 1];
     match random.below(10) {
         0..=8 => random.choose(&near),
-        _ => random.next() as usize,
+        _ => random.number() as usize,
     }
 }
 
 // A node in use, the first unused one, or any.
 fn any_node(random: &mut Random, net: &Net) -> usize {
     match random.below(10) {
-        0..=7 => random.below(net.address_count as usize + 1).min(ADDRESSES - 1),
+        0..=7 => random
+            .below(net.address_count as usize + 1)
+            .min(ADDRESSES - 1),
         _ => random.below(ADDRESSES),
     }
 }
@@ -259,7 +264,9 @@ fn change_tuples(random: &mut Random, net: &mut Net) {
 // An instruction within the length, the first past it, or any.
 fn any_instruction(random: &mut Random, net: &Net) -> usize {
     match random.below(10) {
-        0..=8 => random.below(net.code_length as usize + 1).min(INSTRUCTIONS - 1),
+        0..=8 => random
+            .below(net.code_length as usize + 1)
+            .min(INSTRUCTIONS - 1),
         _ => random.below(INSTRUCTIONS),
     }
 }
@@ -281,7 +288,14 @@ fn change_code(random: &mut Random, net: &mut Net) {
 
 fn wild_address(random: &mut Random, net: &Net) -> Locality {
     let count = net.address_count;
-    let near = [0, count.wrapping_sub(1), count, count.wrapping_add(1), 15, 16];
+    let near = [
+        0,
+        count.wrapping_sub(1),
+        count,
+        count.wrapping_add(1),
+        15,
+        16,
+    ];
     match random.below(10) {
         0..=8 => Locality(random.choose(&near)),
         _ => Locality(random.byte()),
@@ -290,10 +304,17 @@ fn wild_address(random: &mut Random, net: &Net) -> Locality {
 
 fn wild_place(random: &mut Random, net: &Net) -> Place {
     let length = net.code_length;
-    let near = [0, length.wrapping_sub(1), length, length.wrapping_add(1), 511, 512];
+    let near = [
+        0,
+        length.wrapping_sub(1),
+        length,
+        length.wrapping_add(1),
+        511,
+        512,
+    ];
     match random.below(10) {
         0..=8 => Place(random.choose(&near)),
-        _ => Place(random.next() as u16),
+        _ => Place(random.number() as u16),
     }
 }
 

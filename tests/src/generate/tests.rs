@@ -121,7 +121,9 @@ fn each_cut_image_is_28_and_each_longer_one_29() {
 #[test]
 fn random_nets_are_sound_and_not() {
     let mut random = Random::new(8);
-    let nets = (0..4000).filter(|_| sound(&random_net(&mut random))).count();
+    let nets = (0..4000)
+        .filter(|_| sound(&random_net(&mut random)))
+        .count();
     assert!((1200..2800).contains(&nets), "{nets}");
 }
 
@@ -173,8 +175,7 @@ fn runs_from_images_perform_every_action() {
     let mut performed = [0; 7];
     for _ in 0..2000 {
         let mut net = valid_net(&mut random);
-        for _ in 0..60 {
-            let byte = pick_byte(&mut random, &net);
+        for byte in picks(&mut random, &net, 60) {
             let action = action_name(&net, byte);
             if step(&mut net, byte) <= 1 {
                 performed[action] += 1;

@@ -12,7 +12,9 @@ const EXAMPLE: [u8; 12] = [
 fn bits(text: &str) -> Vec<u8> {
     let digits: Vec<u8> = text.bytes().filter(|byte| *byte != b' ').collect();
     let byte = |part: &[u8]| {
-        let value = part.iter().fold(0, |value, digit| value << 1 | (digit - b'0'));
+        let value = part
+            .iter()
+            .fold(0, |value, digit| value << 1 | (digit - b'0'));
         value << (8 - part.len())
     };
     digits.chunks(8).map(byte).collect()
@@ -56,7 +58,10 @@ fn full_net() -> Net {
         target: Target::Written(Locality(15)),
         next: Place(511),
     };
-    net.code.fill(Instruction::with(out, &[TemplateField::Reading(i32::MIN); 4]));
+    net.code.fill(Instruction::with(
+        out,
+        &[TemplateField::Reading(i32::MIN); 4],
+    ));
     net
 }
 
@@ -203,7 +208,9 @@ fn an_address_past_the_count_is_23() {
 fn a_place_past_the_length_is_24() {
     let code = |code: &str| number(&with_code(code));
     let start = |place: &str| {
-        number(&bits(&format!("0001 00001 0000000001 0 0000 001 {place} 00000 000")))
+        number(&bits(&format!(
+            "0001 00001 0000000001 0 0000 001 {place} 00000 000"
+        )))
     };
     assert_eq!(start("000000000"), 0);
     assert_eq!(start("000000001"), 24);
@@ -270,14 +277,23 @@ fn twenty_seven_waits_for_the_second_variable() {
     assert_eq!(number(&bytes), 27);
     assert_eq!(number(&bytes[..bytes.len() - 1]), 28);
     // A fault later in bit order is not reported.
-    assert_eq!(number(&with_code("010 01 01 100 011 100 011 111111111 111")), 27);
+    assert_eq!(
+        number(&with_code("010 01 01 100 011 100 011 111111111 111")),
+        27
+    );
 }
 
 #[test]
 fn the_first_fault_in_bit_order_is_reported() {
     assert_eq!(number(&bits("0010 00000 0000000000")), 21);
-    assert_eq!(number(&bits("0001 00001 0000000001 0 0000 101 111111111")), 22);
-    assert_eq!(number(&bits("0001 00001 0000000001 0 0000 001 111111111 11111")), 24);
+    assert_eq!(
+        number(&bits("0001 00001 0000000001 0 0000 101 111111111")),
+        22
+    );
+    assert_eq!(
+        number(&bits("0001 00001 0000000001 0 0000 001 111111111 11111")),
+        24
+    );
     assert_eq!(number(&with_tuple("00 1 0001 111")), 23);
     assert_eq!(number(&with_code("001 00 0001 00 110")), 23);
     assert_eq!(number(&with_code("001 01 00 110 000000000 000 1")), 25);
@@ -298,7 +314,9 @@ fn a_kind_is_judged_before_the_bits_end() {
 #[test]
 fn a_cut_image_is_28() {
     let full = write_image(&full_net());
-    assert!((0..full.len()).step_by(28).all(|length| number(&full[..length]) == 28));
+    assert!((0..full.len())
+        .step_by(28)
+        .all(|length| number(&full[..length]) == 28));
     assert_eq!(number(&full[..full.len() - 1]), 28);
     assert!((0..EXAMPLE.len()).all(|length| number(&EXAMPLE[..length]) == 28));
 }
@@ -319,7 +337,10 @@ fn processes_fill_slots_from_0() {
     let net = read_image(&bytes).unwrap();
     assert_eq!(net.nodes[0], Node::ZERO);
     let slots = net.nodes[1].processes;
-    assert_eq!(slots[..2], [Process::starting(Place(1)), Process::starting(Place(0))]);
+    assert_eq!(
+        slots[..2],
+        [Process::starting(Place(1)), Process::starting(Place(0))]
+    );
     assert_eq!(slots[2..], [Process::FREE; 2]);
 }
 
@@ -353,7 +374,10 @@ fn every_instruction_is_read() {
     let expected = [
         Instruction::STOP,
         Instruction::with(
-            Action::Out { target: far, next: Place(1) },
+            Action::Out {
+                target: far,
+                next: Place(1),
+            },
             &[
                 TemplateField::Address(Locality(1)),
                 TemplateField::Own,
@@ -362,20 +386,35 @@ fn every_instruction_is_read() {
             ],
         ),
         Instruction::with(
-            Action::In { target: Target::Own, next: Place(2) },
+            Action::In {
+                target: Target::Own,
+                next: Place(2),
+            },
             &[TemplateField::FormalReading(7)],
         ),
         Instruction::with(
-            Action::Read { target: Target::Variable(5), next: Place(3) },
-            &[TemplateField::FormalAddress(0), TemplateField::FormalReading(1)],
+            Action::Read {
+                target: Target::Variable(5),
+                next: Place(3),
+            },
+            &[
+                TemplateField::FormalAddress(0),
+                TemplateField::FormalReading(1),
+            ],
         ),
         Instruction::plain(Action::Eval {
             target: Target::Variable(6),
             sent: Place(4),
             next: Place(5),
         }),
-        Instruction::plain(Action::New { variable: 3, next: Place(6) }),
-        Instruction::plain(Action::Fork { first: Place(0), second: Place(3) }),
+        Instruction::plain(Action::New {
+            variable: 3,
+            next: Place(6),
+        }),
+        Instruction::plain(Action::Fork {
+            first: Place(0),
+            second: Place(3),
+        }),
     ];
     assert_eq!(net.code[..7], expected);
     assert_eq!(write_image(&net), bytes);
@@ -385,7 +424,8 @@ fn every_instruction_is_read() {
 fn a_start_that_reaches_beyond_its_row_is_30() {
     // A new without n; the same place not started is no fault.
     let image = |create: &str, processes: &str| {
-        let text = format!("0001 00001 0000000001 {create} 0000 {processes} 00000 101 000 000000000");
+        let text =
+            format!("0001 00001 0000000001 {create} 0000 {processes} 00000 101 000 000000000");
         number(&bits(&text))
     };
     assert_eq!(image("0", "001 000000000"), 30);

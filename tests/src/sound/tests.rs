@@ -42,7 +42,13 @@ fn row_over(address: u8, rights: Rights) -> Row {
 
 #[test]
 fn next_places_and_both_branches_are_reached() {
-    let code = [fork(1, 3), out(FAR, 2), Instruction::STOP, out(FAR, 3), out(FAR, 0)];
+    let code = [
+        fork(1, 3),
+        out(FAR, 2),
+        Instruction::STOP,
+        out(FAR, 3),
+        out(FAR, 0),
+    ];
     assert_eq!(places(&code, 0), [0, 1, 2, 3]);
     assert_eq!(places(&code, 1), [1, 2]);
     assert_eq!(places(&code, 3), [3]);
@@ -68,10 +74,26 @@ fn each_action_needs_its_own_right() {
     let none = Rights::NONE;
     let next = Place(1);
     let each = [
-        (Action::In { target: FAR, next }, Rights { take: true, ..none }),
-        (Action::Read { target: FAR, next }, Rights { read: true, ..none }),
-        (Action::Out { target: FAR, next }, Rights { put: true, ..none }),
-        (Action::Eval { target: FAR, sent: next, next }, Rights { send: true, ..none }),
+        (
+            Action::In { target: FAR, next },
+            Rights { take: true, ..none },
+        ),
+        (
+            Action::Read { target: FAR, next },
+            Rights { read: true, ..none },
+        ),
+        (
+            Action::Out { target: FAR, next },
+            Rights { put: true, ..none },
+        ),
+        (
+            Action::Eval {
+                target: FAR,
+                sent: next,
+                next,
+            },
+            Rights { send: true, ..none },
+        ),
     ];
     for (index, (action, _)) in each.iter().enumerate() {
         let code = [Instruction::plain(*action), Instruction::STOP];
@@ -97,9 +119,21 @@ fn a_variable_is_judged_when_it_runs() {
 
 #[test]
 fn a_new_needs_n_and_a_fork_nothing() {
-    let code = [fork(0, 1), Instruction::plain(Action::New { variable: 0, next: Place(0) })];
+    let code = [
+        fork(0, 1),
+        Instruction::plain(Action::New {
+            variable: 0,
+            next: Place(0),
+        }),
+    ];
     assert!(!keeps(&code, &row_over(1, Rights::ALL)));
-    assert!(keeps(&code, &Row { create: true, ..Row::ZERO }));
+    assert!(keeps(
+        &code,
+        &Row {
+            create: true,
+            ..Row::ZERO
+        }
+    ));
     assert!(keeps(&[fork(0, 0)], &Row::ZERO));
     assert!(keeps(&[Instruction::STOP], &Row::ZERO));
 }
@@ -109,8 +143,14 @@ fn small() -> Net {
     let mut net = Net::empty();
     net.address_count = 2;
     net.code_length = 3;
-    let read = Action::Read { target: Target::Variable(7), next: Place(2) };
-    let fields = [TemplateField::FormalReading(1), TemplateField::FormalAddress(7)];
+    let read = Action::Read {
+        target: Target::Variable(7),
+        next: Place(2),
+    };
+    let fields = [
+        TemplateField::FormalReading(1),
+        TemplateField::FormalAddress(7),
+    ];
     net.code[0] = Instruction::with(read, &fields);
     net.code[1] = out(Target::Written(Locality(1)), 2);
     for node in &mut net.nodes[..2] {
@@ -166,11 +206,21 @@ fn counts_are_in_range() {
 #[test]
 fn addresses_lie_below_the_count() {
     let two = Locality(2);
-    assert!(!after(|net| net.nodes[1].tuples[0].fields[0] = Field::Address(two)));
-    assert!(!after(|net| net.nodes[1].processes[2].variables[0] = Value::Address(two)));
-    assert!(!after(|net| net.code[1].action = out(Target::Written(two), 0).action));
-    assert!(!after(|net| net.code[1].fields[0] = TemplateField::Address(two)));
-    assert!(after(|net| net.code[1].fields[0] = TemplateField::Address(Locality(1))));
+    assert!(!after(
+        |net| net.nodes[1].tuples[0].fields[0] = Field::Address(two)
+    ));
+    assert!(!after(
+        |net| net.nodes[1].processes[2].variables[0] = Value::Address(two)
+    ));
+    assert!(!after(
+        |net| net.code[1].action = out(Target::Written(two), 0).action
+    ));
+    assert!(!after(
+        |net| net.code[1].fields[0] = TemplateField::Address(two)
+    ));
+    assert!(after(
+        |net| net.code[1].fields[0] = TemplateField::Address(Locality(1))
+    ));
 }
 
 #[test]
@@ -182,7 +232,12 @@ fn places_lie_below_the_length() {
     assert!(!after(|net| net.code[2] = fork(3, 0)));
     assert!(!after(|net| net.code[2] = fork(0, 3)));
     assert!(after(|net| net.code[2] = fork(2, 2)));
-    let new = |variable, next| Instruction::plain(Action::New { variable, next: Place(next) });
+    let new = |variable, next| {
+        Instruction::plain(Action::New {
+            variable,
+            next: Place(next),
+        })
+    };
     assert!(!after(|net| net.code[2] = new(0, 3)));
     assert!(after(|net| net.code[2] = new(7, 2)));
     assert!(!after(|net| net.code[2] = new(8, 2)));
@@ -190,19 +245,35 @@ fn places_lie_below_the_length() {
 
 #[test]
 fn variables_lie_below_8() {
-    assert!(!after(|net| net.code[1].fields[0] = TemplateField::Variable(8)));
-    assert!(!after(|net| net.code[0].fields[0] = TemplateField::FormalReading(8)));
-    assert!(!after(|net| net.code[0].fields[0] = TemplateField::FormalAddress(255)));
+    assert!(!after(
+        |net| net.code[1].fields[0] = TemplateField::Variable(8)
+    ));
+    assert!(!after(
+        |net| net.code[0].fields[0] = TemplateField::FormalReading(8)
+    ));
+    assert!(!after(
+        |net| net.code[0].fields[0] = TemplateField::FormalAddress(255)
+    ));
     assert!(!after(|net| net.code[2] = eval(Target::Variable(8), 0, 0)));
 }
 
 #[test]
 fn code_meets_rules_26_and_27() {
-    assert!(!after(|net| net.code[1].fields[0] = TemplateField::FormalReading(0)));
-    assert!(!after(|net| net.code[1].fields[0] = TemplateField::FormalAddress(0)));
-    assert!(!after(|net| net.code[0].fields[0] = TemplateField::FormalReading(7)));
-    assert!(!after(|net| net.code[0].fields[0] = TemplateField::FormalAddress(7)));
-    assert!(after(|net| net.code[0].fields[0] = TemplateField::Variable(7)));
+    assert!(!after(
+        |net| net.code[1].fields[0] = TemplateField::FormalReading(0)
+    ));
+    assert!(!after(
+        |net| net.code[1].fields[0] = TemplateField::FormalAddress(0)
+    ));
+    assert!(!after(
+        |net| net.code[0].fields[0] = TemplateField::FormalReading(7)
+    ));
+    assert!(!after(
+        |net| net.code[0].fields[0] = TemplateField::FormalAddress(7)
+    ));
+    assert!(after(
+        |net| net.code[0].fields[0] = TemplateField::Variable(7)
+    ));
 }
 
 #[test]
@@ -217,16 +288,24 @@ fn no_right_by_or_over_an_unused_address() {
 #[test]
 fn records_past_a_count_or_in_a_free_slot_are_zero() {
     assert!(!after(|net| net.nodes[0].processes[0].at = Place(1)));
-    assert!(!after(|net| net.nodes[0].processes[0].variables[3] = Value::Reading(0)));
+    assert!(!after(
+        |net| net.nodes[0].processes[0].variables[3] = Value::Reading(0)
+    ));
     assert!(!after(|net| net.nodes[2].processes[0].busy = true));
     assert!(!after(|net| net.nodes[2].tuple_count = 1));
     assert!(!after(|net| net.nodes[0].tuples[1].count = 1));
-    assert!(!after(|net| net.nodes[0].tuples[15].fields[3] = Field::Reading(1)));
-    assert!(!after(|net| net.nodes[0].tuples[0].fields[2] = Field::Address(Locality(0))));
+    assert!(!after(
+        |net| net.nodes[0].tuples[15].fields[3] = Field::Reading(1)
+    ));
+    assert!(!after(
+        |net| net.nodes[0].tuples[0].fields[2] = Field::Address(Locality(0))
+    ));
     assert!(!after(|net| net.code[3] = out(Target::Own, 0)));
     assert!(!after(|net| net.code[511].fields[0] = TemplateField::Own));
     assert!(!after(|net| net.code[0].fields[2] = TemplateField::Own));
-    assert!(!after(|net| net.code[2].fields[0] = TemplateField::Reading(1)));
+    assert!(!after(
+        |net| net.code[2].fields[0] = TemplateField::Reading(1)
+    ));
 }
 
 #[test]
@@ -255,7 +334,9 @@ fn writable(net: &Net) -> bool {
 // Variables unset and busy slots moved to the front, as an image has them.
 fn as_started(net: &mut Net) {
     for node in net.nodes.iter_mut() {
-        node.processes.iter_mut().for_each(|process| process.variables = Process::FREE.variables);
+        node.processes
+            .iter_mut()
+            .for_each(|process| process.variables = Process::FREE.variables);
         node.processes.sort_by_key(|process| !process.busy);
     }
 }

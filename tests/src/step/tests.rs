@@ -180,14 +180,20 @@ fn out_to_15_tuples_is_0_and_to_16_is_3() {
 
 #[test]
 fn in_without_a_tuple_is_2() {
-    let mut net = net(1, &[take(Target::Own, &[TemplateField::FormalReading(0)], 1)]);
+    let mut net = net(
+        1,
+        &[take(Target::Own, &[TemplateField::FormalReading(0)], 1)],
+    );
     grant(&mut net, 0, 0, TAKE);
     assert_eq!(unchanged(&net), 2);
 }
 
 #[test]
 fn a_formal_reading_against_an_address_is_2() {
-    let mut net = net(1, &[take(Target::Own, &[TemplateField::FormalReading(0)], 1)]);
+    let mut net = net(
+        1,
+        &[take(Target::Own, &[TemplateField::FormalReading(0)], 1)],
+    );
     grant(&mut net, 0, 0, TAKE);
     fill(&mut net, 0, &[Tuple::of(&[address(0)])]);
     assert_eq!(unchanged(&net), 2);
@@ -204,7 +210,10 @@ fn no_formal_is_set_when_a_later_field_does_not_fit() {
 
 #[test]
 fn the_older_of_two_that_fit_is_taken() {
-    let mut net = net(1, &[take(Target::Own, &[TemplateField::FormalReading(6)], 1)]);
+    let mut net = net(
+        1,
+        &[take(Target::Own, &[TemplateField::FormalReading(6)], 1)],
+    );
     grant(&mut net, 0, 0, TAKE);
     let (odd, first, second) = (address(0), reading(7), reading(8));
     let all = [Tuple::of(&[odd]), Tuple::of(&[first]), Tuple::of(&[second])];
@@ -249,13 +258,23 @@ fn an_actual_variable_has_its_value_from_before() {
     let fields = [TemplateField::FormalReading(0), TemplateField::Variable(0)];
     let mut net = net(1, &[take(Target::Own, &fields, 1)]);
     grant(&mut net, 0, 0, TAKE);
-    fill(&mut net, 0, &[Tuple::of(&[reading(5), reading(5)]), Tuple::of(&[reading(5), reading(1)])]);
+    fill(
+        &mut net,
+        0,
+        &[
+            Tuple::of(&[reading(5), reading(5)]),
+            Tuple::of(&[reading(5), reading(1)]),
+        ],
+    );
     assert_eq!(unchanged(&net), 6);
     set(&mut net, 0, Value::Reading(1));
     let (answer, after) = picked(&net);
     assert_eq!(answer, 0);
     assert_eq!(after.nodes[0].processes[0].variables[0], Value::Reading(5));
-    assert_eq!(after.nodes[0].tuples[0], Tuple::of(&[reading(5), reading(5)]));
+    assert_eq!(
+        after.nodes[0].tuples[0],
+        Tuple::of(&[reading(5), reading(5)])
+    );
 }
 
 #[test]
@@ -294,7 +313,12 @@ fn read_at_a_variable_with_i_but_not_r_is_4() {
 #[test]
 fn no_right_includes_another() {
     let field = [TemplateField::Reading(0)];
-    let code = [take(FAR, &field, 1), read(FAR, &field, 1), out(FAR, &field, 1), eval(FAR, 1, 1)];
+    let code = [
+        take(FAR, &field, 1),
+        read(FAR, &field, 1),
+        out(FAR, &field, 1),
+        eval(FAR, 1, 1),
+    ];
     let rights = [TAKE, READ, PUT, SEND];
     for (action, instruction) in code.iter().enumerate() {
         for (held, rights) in rights.iter().enumerate() {
@@ -311,7 +335,12 @@ fn no_right_includes_another() {
 #[test]
 fn an_unset_or_misused_variable_is_6() {
     let own = [TemplateField::Own];
-    let code = [take(HELD, &own, 1), read(HELD, &own, 1), out(HELD, &own, 1), eval(HELD, 1, 1)];
+    let code = [
+        take(HELD, &own, 1),
+        read(HELD, &own, 1),
+        out(HELD, &own, 1),
+        eval(HELD, 1, 1),
+    ];
     for instruction in code {
         let mut net = net(1, &[instruction]);
         assert_eq!(unchanged(&net), 6);
@@ -337,7 +366,10 @@ fn an_unset_field_is_6_before_rights_and_room() {
 
 #[test]
 fn eval_starts_a_copy_at_the_target() {
-    let mut net = net(2, &[eval(FAR, 1, 2), out(Target::Own, &[TemplateField::Own], 2)]);
+    let mut net = net(
+        2,
+        &[eval(FAR, 1, 2), out(Target::Own, &[TemplateField::Own], 2)],
+    );
     grant(&mut net, 0, 1, SEND);
     grant(&mut net, 1, 1, PUT);
     set(&mut net, 3, Value::Reading(8));
@@ -460,7 +492,10 @@ fn creation_at_15_is_0_and_at_16_is_3_or_4() {
     net.nodes[0].row.create = true;
     assert_eq!(pick(&mut net, 0), 0);
     assert_eq!(net.address_count, 16);
-    assert_eq!(net.nodes[0].processes[0].variables[0], Value::Address(Locality(15)));
+    assert_eq!(
+        net.nodes[0].processes[0].variables[0],
+        Value::Address(Locality(15))
+    );
     assert_eq!(unchanged(&net), 3);
     net.nodes[0].row.create = false;
     assert_eq!(unchanged(&net), 4);
