@@ -9,6 +9,8 @@ use native.Mathlib.Omega.{arith}
 use native.Mathlib.Numerals.{add-one}
 use native.Mathlib.Decide.{decLe}
 use lib.Dec.{ltb, leb, eqb}
+use lib.ListN.{length, length-map}
+use mathlib.Core.List.{List, map}
 use borrow.Author.Tests.{lt-ltb, le-ltb, le-leb, lt-leb, eq-eqb, ne-eqb}
 use Rattle.net.specs.Choice.{choose, both, implies, all, fold, firstFrom, firstBelow}
 
@@ -112,3 +114,7 @@ all-fails n test i h p = go (all n test) refl
     go : (b : Bool) → all n test ≡ b → false ≡ b
     go true e = sym (sym (all-e n test e i h) ∙ p)
     go false e = refl
+
+-- ---- the length of an array of records, as owning it tells
+pub length-mapped : {X Y : Type 0} (f : X → Y) (l : List X) (n : ℕ) → length (map f l) ≡ n → length l ≡ n
+length-mapped f l n p = sym (length-map l f) ∙ p

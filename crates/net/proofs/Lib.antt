@@ -1,8 +1,17 @@
+pub mod AcceptedCode
+pub mod AcceptedNode
+pub mod AcceptedSound
+pub mod AllLaws
 pub mod BitLaws
 pub mod Budget
+pub mod Every
 pub mod FirstBytes
+pub mod Gives
+pub mod ImageLaws
 pub mod Laws
 pub mod ReaderLaws
 pub mod Reached
+pub mod ReadingLaws
 pub mod SignedLaws
 pub mod Unmarked
+pub mod WorklistLaws

@@ -18,7 +18,9 @@ use Rattle.net.specs.Reaching.{visitFirst, visit, visits, startedAt, rea
 use Rattle.net.specs.Keeping.{permits, permitsMarked, keepsOf}
 use Rattle.net.specs.ReachingClaims.{MarkedIsReached, KeepsIsEvery}
 use Rattle.net.proofs.Laws.{implies-i, implies-e, all-i, all-e}
+use Rattle.net.specs.Worklist.{unmarked}
 use Rattle.net.proofs.Unmarked.{unmarked-replicate, meet-cases, meetAll-keeps}
+use Rattle.net.specs.Worklist.{unmarked}
 use Rattle.net.proofs.Unmarked.{Measured, measured-meet, measured-meetAll}
 
 -- ---- the computed followers are the places that follow

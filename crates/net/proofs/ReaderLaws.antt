@@ -4,7 +4,7 @@ use Prim.Native.Nat.{ℕ, zero, suc, _+_, _-_, _<_, _≤_}
 use mathlib.Core.Path.{_≡_, refl, sym, ap, _∙_}
 use mathlib.Core.Bool.{Bool, true, false}
 use mathlib.Core.List.{List}
-use lib.ListN.{getD}
+use lib.ListN.{getD, length, List·getD-eq-default}
 use native.Mathlib.Nat.{sub-zero}
 use native.Mathlib.Numerals.{add-one}
 use native.Mathlib.Omega.{arith}
@@ -23,6 +23,9 @@ module _ {A : Type 0} (s : List ℕ) where
 
   pub stop-as : (p : Step) (a b : A) → a ≡ b → Went s p (done b) p a
   stop-as p a b e = rw e (stop p b)
+
+  pub stop-at : (p q : Step) (a b : A) → q ≡ p → a ≡ b → Went s p (done b) q a
+  stop-at p q a b d e = rw (d, e) (stop p b)
 
 module _ {A B : Type 0} (s : List ℕ) where
   bound : (p q : Step) (m : Reader A) (f : A → Reader B) (a : A) → outcome q a ≡ runFrom s p m → runFrom s p (m >>= f) ≡ runFrom s q (f a)
@@ -48,6 +51,9 @@ module _ {A : Type 0} (s : List ℕ) (n : ℕ) (f : ℕ → A → Reader A) (p�
   pub begin : Loop s p₀ n f a₀ p₀ 0 a₀
   unfolding each
   begin = record { within = omega arith; rest = rw sub-zero }
+
+  pub begin-as : (a : A) → a ≡ a₀ → Loop s p₀ n f a₀ p₀ 0 a
+  begin-as a e = rw e begin
 
   one-more : (k i : ℕ) (p q : Step) (a b : A) → n - i ≡ suc k → Went s p (f i a) q b → runFrom s p (turns (n - i) i f a) ≡ runFrom s q (turns k (suc i) f b)
   unfolding turns
@@ -76,8 +82,34 @@ module _ {A : Type 0} (s : List ℕ) where
   pub otherwise : (p q : Step) (b : Bool) (m m′ : Reader A) (a : A) → b ≡ false → Went s p m′ q a → Went s p (choose b m m′) q a
   otherwise p q b m m′ a e w = rw (choose-false b m m′ e) w
 
+module _ {A : Type 0} (s : List ℕ) (p q : Step) (rs : List (Reader A)) (last m : Reader A) (a : A) where
+  pub chosen : (k j : ℕ) → k ≡ j → m ≡ getD rs j last → Went s p m q a → Went s p (alternative rs last k) q a
+  unfolding alternative
+  chosen k j e f w = rw (e, ← f) w
+
+module _ {A : Type 0} (s : List ℕ) (p q : Step) (rs : List (Reader A)) (last : Reader A) (a : A) where
+  pub chosen-last : (k : ℕ) → length rs ≤ k → Went s p last q a → Went s p (alternative rs last k) q a
+  unfolding alternative
+  chosen-last k h w = rw (List·getD-eq-default rs last h) w
+
+pub past2 : (k : ℕ) → (k ≡ 0 → ⊥) → (k ≡ 1 → ⊥) → 2 ≤ k
+past2 k a b = omega arith
+
+pub past5 : (k : ℕ) → (k ≡ 0 → ⊥) → (k ≡ 1 → ⊥) → (k ≡ 2 → ⊥) → (k ≡ 3 → ⊥) → (k ≡ 4 → ⊥) → 5 ≤ k
+past5 k a b c d e = omega arith
+
+pub past6 : (k : ℕ) → (k ≡ 0 → ⊥) → (k ≡ 1 → ⊥) → (k ≡ 2 → ⊥) → (k ≡ 3 → ⊥) → (k ≡ 4 → ⊥) → (k ≡ 5 → ⊥) → 6 ≤ k
+past6 k a b c d e f = omega arith
+
 -- ---- a test that a field has to pass
-pub passed : (s : List ℕ) (p : Step) (ok : Bool) (n : ℕ) → ok ≡ true → Went s p (require ok n) p tt
+pub passed : (s : List ℕ) (p : ℕ) (q : Step) (ok : Bool) (n : ℕ) → q ≡ choose ok (Step.At p) (Step.Failed (numbered n)) → Went s (Step.At p) (require ok n) q tt
 unfolding outcome runFrom require choose
-passed s (Step.At p) ok n e = record { went = cc }
-passed s (Step.Failed f) ok n e = record { went = refl }
+passed s p q true n e = record { went = cc }
+passed s p q false n e = record { went = cc }
+
+pub passed-at : (s : List ℕ) (p q : Step) (k : ℕ) (ok : Bool) (n : ℕ) → p ≡ Step.At k → q ≡ choose ok (Step.At k) (Step.Failed (numbered n)) → Went s p (require ok n) q tt
+passed-at s p q k ok n e f = rw e (passed s k q ok n f)
+
+pub passed-failed : {A : Type 0} (s : List ℕ) (p : Step) (f : Fault) (m : Reader A) (a : A) → p ≡ Step.Failed f → Went s p m p a
+unfolding outcome runFrom
+passed-failed s p f m a e = record { went = rw e refl }

@@ -12,13 +12,8 @@ use borrow.Author.Tests.{ltb-true, lt-ltb, not-true, not-false}
 use Rattle.net.specs.Choice.{choose, both}
 use Rattle.net.specs.Records.{Place}
 use Rattle.net.specs.Reaching.{Search, meet, meetAll}
+use Rattle.net.specs.Worklist.{unmarked}
 use Rattle.net.proofs.Laws.{both-l, both-r}
-
--- the number of places without a mark
-unfoldable pub unmarked : List Bool → ℕ
-unmarked [] = 0
-unmarked (true ∷ ms) = unmarked ms
-unmarked (false ∷ ms) = suc (unmarked ms)
 
 -- a mark set where there was none
 pub unmarked-set :

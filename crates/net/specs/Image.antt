@@ -292,14 +292,14 @@ layout = do
   done s₅
 
 -- each starting process keeps within the row of its node: judged once 21 to 29 are absent
-unfoldable pub admitsProcess : Net → ℕ → Process → Bool
-admitsProcess s a p = implies (p .busy) (keepsOf (s .code) (p .at) (record { 0 = a }) (nodeAt s a .row))
+unfoldable pub admitsProcess : List Instruction → Row → ℕ → Process → Bool
+admitsProcess code r a p = implies (p .busy) (keepsOf code (p .at) (record { 0 = a }) r)
 
-unfoldable pub admitsNode : Net → ℕ → Bool
-admitsNode s a = all 4 (λ i. admitsProcess s a (processAt (nodeAt s a) i))
+unfoldable pub admitsNode : List Instruction → ℕ → Node → Bool
+admitsNode code a x = all 4 (λ i. admitsProcess code (x .row) a (processAt x i))
 
 unfoldable pub admits : Net → Bool
-admits s = all 16 (λ a. implies (ltb a (s .addresses)) (admitsNode s a))
+admits s = all 16 (λ a. implies (ltb a (s .addresses)) (admitsNode (s .code) a (nodeAt s a)))
 
 unfoldable pub refused : Fault → Opened
 refused f = record { answer = Answer.Refused f; net = emptyNet }

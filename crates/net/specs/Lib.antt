@@ -1,6 +1,7 @@
 pub mod BitReader
 pub mod Choice
 pub mod Image
+pub mod ImageClaims
 pub mod Keeping
 pub mod LengthClaims
 pub mod Matching
@@ -9,3 +10,4 @@ pub mod Reaching
 pub mod ReachingClaims
 pub mod Records
 pub mod Soundness
+pub mod Worklist

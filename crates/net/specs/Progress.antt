@@ -2,7 +2,12 @@
 -- fault, and look at the first 16,384 bytes of an image alone (`LengthClaims.antt` says that this changes nothing).
 pub use Rattle.net.specs.declared.bits.Step.{Step}
 pub use Rattle.net.specs.declared.bits.Taken.{Taken}
+pub use Rattle.net.specs.declared.network.NetRead.{NetRead}
+pub use Rattle.net.specs.declared.code.PartsRead.{PartsRead}
 use Prim.Native.Nat.{ℕ, _-_, _<_, _≤_, _^_}
+use mathlib.Core.Bool.{Bool}
+use Rattle.net.specs.Records.{Net, Place, Target, Action, withAction}
+use Rattle.net.specs.Image.{communication}
 use mathlib.Core.Path.{_≡_}
 use mathlib.Core.List.{List}
 use lib.ListN.{take}
@@ -47,6 +52,18 @@ pub record Field (s : List ℕ) (p : Step) (m : Reader ℕ) (w end : ℕ) (r : T
   pub read : Went s p m (r .next) (r .value)
   pub narrow : r .value < 2 ^ w
   pub below : r .value ≤ end - 1
+
+-- the same of a net under construction, whose counts stay
+pub record Built (s : List ℕ) (p : Step) (m : Reader Net) (start : Net) (r : NetRead) : Type 0 where
+  pub read : Went s p m (r .next) (r .net)
+  pub addresses : r .net .addresses ≡ start .addresses
+  pub length : r .net .length ≡ start .length
+
+-- an out, an in or a read, whichever action is made of its target and its next place
+pub record Spoken (s : List ℕ) (p : Step) (formals : Bool) (n k : ℕ) (r : PartsRead) : Type 0 where
+  pub read :
+      (make : Target → Place → Action) →
+      Went s p (communication make formals n k) (r .next) (withAction (r .template) (make (r .target) (r .place)))
 
 -- turns of a loop: of n turns from step p₀ and value a₀, i are done and have come to step p and value a
 pub record Loop {A : Type 0} (s : List ℕ) (p₀ : Step) (n : ℕ) (f : ℕ → A → Reader A) (a₀ : A) (p : Step) (i : ℕ) (a : A) : Type 0 where

@@ -1,0 +1,13 @@
+-- `net::sound::in_template` meets its contract: two tests joined. Assumes nothing.
+use Rattle.net.proofs.AllLaws.{and-both}
+use borrow.Author.Needs.{needs}
+use Rattle.net.proofs.sound.in_template.Statement.{statement}
+use Rattle.net.proofs.sound.in_template.Tie as tie
+
+pub in-template-spec : {M : Type 1} → statement M
+in-template-spec =
+    tie.close
+    (tie.spec
+    (λ c κs. search needs)
+    (λ c κs. search needs)
+    (λ c. search (needs, and-both)))

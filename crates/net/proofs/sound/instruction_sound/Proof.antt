@@ -1,0 +1,15 @@
+-- `net::sound::instruction_sound` meets its contract: two tests joined. Assumes nothing.
+use Rattle.net.specs.Soundness.{instructionSound}
+use Rattle.net.proofs.AllLaws.{and-both}
+use borrow.Author.Needs.{needs}
+use Rattle.net.proofs.sound.instruction_sound.Statement.{statement}
+use Rattle.net.proofs.sound.instruction_sound.Tie as tie
+
+pub instruction-sound-spec : {M : Type 1} → statement M
+unfolding instructionSound
+instruction-sound-spec =
+    tie.close
+    (tie.spec
+    (λ c κs. search needs)
+    (λ c κs. search needs)
+    (λ c. search (needs, and-both)))

@@ -1,0 +1,13 @@
+-- `net::sound::is_none` meets its contract: four tests joined. Assumes nothing.
+use Rattle.net.specs.Soundness.{isNone}
+use Rattle.net.proofs.AllLaws.{and-both}
+use borrow.Author.Needs.{needs}
+use Rattle.net.proofs.sound.is_none.Statement.{statement}
+use Rattle.net.proofs.sound.is_none.Tie as tie
+
+pub is-none-spec : {M : Type 1} → statement M
+unfolding isNone
+is-none-spec =
+    tie.close
+    (tie.spec
+    (λ c. search (needs, and-both)))

@@ -1,0 +1,15 @@
+-- `net::sound::is_zero_instruction` meets its contract: two tests joined. Assumes nothing.
+use Rattle.net.specs.Soundness.{isZeroInstruction}
+use Rattle.net.proofs.AllLaws.{and-both}
+use borrow.Author.Needs.{needs}
+use Rattle.net.proofs.sound.is_zero_instruction.Statement.{statement}
+use Rattle.net.proofs.sound.is_zero_instruction.Tie as tie
+
+pub is-zero-instruction-spec : {M : Type 1} → statement M
+unfolding isZeroInstruction
+is-zero-instruction-spec =
+    tie.close
+    (tie.spec
+    (λ c κs. search needs)
+    (λ c κs. search needs)
+    (λ c. search (needs, and-both)))

@@ -1,0 +1,17 @@
+-- `net::sound::sound` meets its contract: the tests of the counts, the nodes and the code joined. Assumes nothing.
+use Rattle.net.specs.Soundness.{soundOf}
+use Rattle.net.proofs.AllLaws.{and-both}
+use borrow.Author.Needs.{needs}
+use Rattle.net.proofs.sound.sound.Statement.{statement}
+use Rattle.net.proofs.sound.sound.Tie as tie
+
+pub sound-spec : {M : Type 1} → statement M
+unfolding soundOf
+sound-spec =
+    tie.close
+    (tie.spec
+    (λ c κs. search needs)
+    (λ c κs. search needs)
+    (λ c κs. search needs)
+    (λ c κs. search needs)
+    (λ c. search (needs, and-both)))
