@@ -82,6 +82,13 @@ module _ {A : Type 0} where
   pub if-ne : (x y z : A) (a b : ℕ) → (a ≡ b → ⊥) → x ≡ z → x ≡ choose (eqb a b) y z
   if-ne x y z a b p e = if-false x y z _ (ne-eqb a b p) e
 
+  -- the test is what a callee answered
+  pub if-call : (x y z : A) (b answer : Bool) → answer ≡ true → answer ≡ b → x ≡ y → x ≡ choose b y z
+  if-call x y z b answer p q e = if-true x y z b (sym q ∙ p) e
+
+  pub if-not-call : (x y z : A) (b answer : Bool) → answer ≡ false → answer ≡ b → x ≡ z → x ≡ choose b y z
+  if-not-call x y z b answer p q e = if-false x y z b (sym q ∙ p) e
+
 pub ruleset branches = (if-true, if-false, if-lt, if-not-lt, if-le, if-not-le, if-eq, if-ne)
 
 -- ---- tests at each number below n

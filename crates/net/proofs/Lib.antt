@@ -8,7 +8,9 @@ pub mod Every
 pub mod FirstBytes
 pub mod Gives
 pub mod ImageLaws
+pub mod KeepingLaws
 pub mod Laws
+pub mod LayoutLaws
 pub mod ReaderLaws
 pub mod Reached
 pub mod ReadingLaws

@@ -53,6 +53,12 @@ pub record Field (s : List ℕ) (p : Step) (m : Reader ℕ) (w end : ℕ) (r : T
   pub narrow : r .value < 2 ^ w
   pub below : r .value ≤ end - 1
 
+-- the header, read from the first bit: the counts of the net are in range
+pub record Headed (s : List ℕ) (m : Reader Net) (r : NetRead) : Type 0 where
+  pub read : Went s (Step.At 0) m (r .next) (r .net)
+  pub addresses : r .net .addresses ≤ 16
+  pub length : r .net .length ≤ 512
+
 -- the same of a net under construction, whose counts stay
 pub record Built (s : List ℕ) (p : Step) (m : Reader Net) (start : Net) (r : NetRead) : Type 0 where
   pub read : Went s p m (r .next) (r .net)

@@ -40,6 +40,10 @@ freeProcess = record { busy = false; at = record { 0 = 0 }; variables = replicat
 unfoldable pub noRights : Rights
 noRights = record { take = false; read = false; put = false; send = false }
 
+-- every right over an address
+unfoldable pub allRights : Rights
+allRights = record { take = true; read = true; put = true; send = true }
+
 unfoldable pub zeroRow : Row
 zeroRow = record { create = false; rights = replicate 16 noRights }
 

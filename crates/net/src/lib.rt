@@ -5,6 +5,7 @@ pub mod code;
 pub mod fields;
 pub mod image;
 pub mod instruction;
+pub mod keeping;
 pub mod locality;
 pub mod matching;
 pub mod network;

@@ -1,7 +1,7 @@
 // Policies (document 01, "The net"): what the processes hosted at a node may do.
 
 ghost use mathlib.Core.Path.{_≡_};
-ghost use Rattle.net.specs.Records.{noRights, zeroRow};
+ghost use Rattle.net.specs.Records.{noRights, allRights, zeroRow};
 
 // The rights over one address: i (take), r (read), o (put), e (send code).
 pub struct Rights {
@@ -26,6 +26,18 @@ impl Rights {
             read: false,
             put: false,
             send: false,
+        }
+    }
+
+    // Every right.
+    pub fn full() -> Rights
+        ensures { λ r. ⌜ r ≡ allRights ⌝ }
+    {
+        Rights {
+            take: true,
+            read: true,
+            put: true,
+            send: true,
         }
     }
 }

@@ -47,7 +47,7 @@ fn checked(p: usize, ok: bool, n: u8) -> Step
 }
 
 // The step as it was where the test holds, or else the fault n.
-fn require_that(from: Step, ok: bool, n: u8) -> Step
+pub fn require_that(from: Step, ok: bool, n: u8) -> Step
     ensures { λ r. ⌜ ((s : List ℕ) → Went s from (require ok n) r tt) ⌝ }
 {
     match from {
