@@ -6,13 +6,16 @@ pub mod BitLaws
 pub mod Budget
 pub mod Every
 pub mod FirstBytes
+pub mod FirstLaws
+pub mod FoldLaws
 pub mod Gives
 pub mod ImageLaws
 pub mod KeepingLaws
 pub mod Laws
 pub mod LayoutLaws
-pub mod ReaderLaws
+pub mod MatchingLaws
 pub mod Reached
+pub mod ReaderLaws
 pub mod ReadingLaws
 pub mod SignedLaws
 pub mod Unmarked

@@ -1,6 +1,6 @@
 -- Readers of bits (document 01, "The image"): from the bytes and the place of the next bit to a value with the place
 -- after it, or to the first fault.
-pub use Rattle.net.specs.declared.bits.Fault.{Fault}
+pub use Rattle.net.specs.declared.image.Fault.{Fault}
 use Prim.Native.Nat.{ℕ, zero, suc, _+_, _-_, _*_, _/_, _%_, _^_}
 use mathlib.Core.Bool.{Bool, true, false}
 use mathlib.Core.List.{List}

@@ -2,7 +2,7 @@
 -- fault, and look at the first 16,384 bytes of an image alone (`LengthClaims.antt` says that this changes nothing).
 pub use Rattle.net.specs.declared.bits.Step.{Step}
 pub use Rattle.net.specs.declared.bits.Taken.{Taken}
-pub use Rattle.net.specs.declared.network.NetRead.{NetRead}
+pub use Rattle.net.specs.declared.bits.NetRead.{NetRead}
 pub use Rattle.net.specs.declared.code.PartsRead.{PartsRead}
 use Prim.Native.Nat.{ℕ, _-_, _<_, _≤_, _^_}
 use mathlib.Core.Bool.{Bool}

@@ -1,15 +1,13 @@
 // The bit reader (document 01, "The image"): a place handed on by value. A step goes from reader to
 // reader; once it is a fault, every later reader passes it on.
+use crate::image::Fault;
+use crate::network::Net;
+use crate::node::Node;
 ghost use Prim.Native.Nat.{ℕ, _+_, _*_, _-_, _<_, _≤_, _^_};
 ghost use mathlib.Core.Path.{_≡_};
 ghost use lib.ListN.{length};
 ghost use Rattle.net.specs.BitReader.{judged, field, numbered, Outcome, fault};
 ghost use Rattle.net.specs.Progress.{seen, Bit, Number, Took, Field};
-
-// What a refusal carries: the number of the first fault.
-pub struct Fault {
-    pub number: u8,
-}
 
 // Where reading stands: at the place of the next bit, or past the first fault.
 pub enum Step {
@@ -20,6 +18,18 @@ pub enum Step {
 // A field's number, 0 after a fault, and the step after it.
 pub struct Taken {
     pub value: usize,
+    pub next: Step,
+}
+
+// A node under construction, with the step after what was read.
+pub struct NodeRead {
+    pub node: Node,
+    pub next: Step,
+}
+
+// A net under construction, with the step after what was read.
+pub struct NetRead {
+    pub net: Net,
     pub next: Step,
 }
 

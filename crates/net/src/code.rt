@@ -1,4 +1,5 @@
 // Instructions of an image (document 01, "The image", part 5).
+use crate::bits::NetRead;
 use crate::bits::Step;
 use crate::bits::take;
 use crate::fields::read_address;
@@ -9,7 +10,6 @@ use crate::instruction::Instruction;
 use crate::instruction::Target;
 use crate::locality::Place;
 use crate::network::Net;
-use crate::network::NetRead;
 use crate::template::read_template;
 ghost use Prim.Native.Nat.{_≤_};
 ghost use Rattle.net.specs.Image.{writtenTarget, heldTarget, target, communication, evaluation, creation};

@@ -1,5 +1,5 @@
 // The image reader (document 01, "The image", "Numbers for an image").
-use crate::bits::Fault;
+use crate::bits::NetRead;
 use crate::bits::Step;
 use crate::bits::number;
 use crate::bits::take;
@@ -9,7 +9,6 @@ use crate::instruction::Instruction;
 use crate::keeping::keeps;
 use crate::locality::Locality;
 use crate::network::Net;
-use crate::network::NetRead;
 use crate::node::Node;
 use crate::policy::Row;
 use crate::process::Process;
@@ -26,6 +25,11 @@ ghost use Rattle.net.specs.Image.{header, padding, endsAt, ending, layou
 ghost use Rattle.net.specs.Image.{refused, accepted, judgedNet, openedOf};
 ghost use Rattle.net.specs.Progress.{seen, Step, Went, Headed};
 ghost use Rattle.net.specs.Records.{nodeAt, processAt};
+
+// What a refusal carries: the number of the first fault.
+pub struct Fault {
+    pub number: u8,
+}
 
 // What reading an image answers.
 pub enum Answer {

@@ -1,8 +1,8 @@
 // The lower crate: the records of a net, matching, policies and the image reader.
 // Everything above it rests on the promises written here and on the definitions of specs/.
-pub mod bits;
-pub mod code;
-pub mod fields;
+mod bits;
+mod code;
+mod fields;
 pub mod image;
 pub mod instruction;
 pub mod keeping;
@@ -14,9 +14,9 @@ pub mod policy;
 pub mod process;
 pub mod reaching;
 pub mod reading;
-pub mod rows;
+mod rows;
 pub mod sound;
-pub mod starts;
-pub mod stores;
-pub mod template;
+mod starts;
+mod stores;
+mod template;
 pub mod tuple;

@@ -1,5 +1,4 @@
 // The net (document 01, "The net").
-use crate::bits::Step;
 use crate::instruction::Instruction;
 use crate::node::Node;
 ghost use mathlib.Core.Path.{_≡_};
@@ -11,12 +10,6 @@ pub struct Net {
     pub length: usize,
     pub nodes: [Node; 16],
     pub code: [Instruction; 512],
-}
-
-// A net under construction, with the step after what was read.
-pub struct NetRead {
-    pub net: Net,
-    pub next: Step,
 }
 
 impl Net {

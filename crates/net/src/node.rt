@@ -1,5 +1,4 @@
 // Nodes (document 01, "The net").
-use crate::bits::Step;
 use crate::policy::Row;
 use crate::process::Process;
 use crate::tuple::Tuple;
@@ -12,12 +11,6 @@ pub struct Node {
     pub processes: [Process; 4],
     pub stored: usize,
     pub tuples: [Tuple; 16],
-}
-
-// A node under construction, with the step after what was read.
-pub struct NodeRead {
-    pub node: Node,
-    pub next: Step,
 }
 
 impl Node {

@@ -1,9 +1,10 @@
 // Process slots (document 01, "The net").
 use crate::locality::Place;
+use crate::tuple::Value;
 use crate::tuple::Variable;
 ghost use mathlib.Core.Path.{_≡_};
 ghost use Rattle.net.specs.Image.{startingAt};
-ghost use Rattle.net.specs.Records.{freeProcess};
+ghost use Rattle.net.specs.Records.{freeProcess, withVariable};
 
 // A slot: free, or held by a process that stands at a place with its variables.
 pub struct Process {
@@ -35,6 +36,19 @@ impl Process {
             busy: true,
             at,
             variables: [unset; 8],
+        }
+    }
+
+    // The process with a value in a variable, or as it was past the last variable.
+    pub fn with_variable(mut self, v: usize, x: Value) -> Process
+        ensures { λ r. ⌜ r ≡ withVariable self v x ⌝ }
+    {
+        if v < 8 {
+            let variable = Variable { value: x };
+            self.variables[v] = variable;
+            self
+        } else {
+            self
         }
     }
 }

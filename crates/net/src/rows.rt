@@ -1,8 +1,8 @@
 // Rows of an image (document 01, "The image", part 2).
+use crate::bits::NetRead;
 use crate::bits::Step;
 use crate::bits::take;
 use crate::network::Net;
-use crate::network::NetRead;
 use crate::policy::Rights;
 use crate::policy::Row;
 ghost use Prim.Native.Nat.{_<_, _≤_};

@@ -1,11 +1,11 @@
 // Starting processes of an image (document 01, "The image", part 3).
+use crate::bits::NetRead;
+use crate::bits::NodeRead;
 use crate::bits::Step;
 use crate::bits::take;
 use crate::fields::read_place;
 use crate::network::Net;
-use crate::network::NetRead;
 use crate::node::Node;
-use crate::node::NodeRead;
 use crate::process::Process;
 ghost use Prim.Native.Nat.{_≤_};
 ghost use Rattle.net.specs.BitReader.{each};

@@ -1,12 +1,12 @@
 // Tuples of an image (document 01, "The image", part 4).
+use crate::bits::NetRead;
+use crate::bits::NodeRead;
 use crate::bits::Step;
 use crate::bits::take;
 use crate::fields::read_address;
 use crate::fields::read_reading;
 use crate::network::Net;
-use crate::network::NetRead;
 use crate::node::Node;
-use crate::node::NodeRead;
 use crate::tuple::Field;
 use crate::tuple::Item;
 use crate::tuple::Tuple;

@@ -1,5 +1,4 @@
 // Templates of an image (document 01, "The image", part 5): the fields of an out, an in or a read.
-use crate::bits::Fault;
 use crate::bits::Step;
 use crate::bits::Taken;
 use crate::bits::take;
@@ -7,6 +6,7 @@ use crate::fields::VariableRead;
 use crate::fields::read_address;
 use crate::fields::read_reading;
 use crate::fields::read_variable;
+use crate::image::Fault;
 use crate::instruction::Instruction;
 use crate::instruction::Pattern;
 use crate::instruction::TemplateField;

@@ -1,0 +1,30 @@
+-- `net::matching::all_defined` meets its contract: after i turns `ok` is the test at each field below i. Assumes nothing.
+use Prim.Native.Nat.{_≤_, _-_}
+use mathlib.Core.Path.{_≡_}
+use lib.Dec.{ltb}
+use borrow.Author.Needs.{needs}
+use Rattle.net.specs.Choice.{implies, all}
+use Rattle.net.specs.Matching.{definedField}
+use Rattle.net.specs.Records.{patternAt}
+use Rattle.net.proofs.AllLaws.{all-none, all-more, all-end}
+use Rattle.net.proofs.matching.all_defined.Statement.{statement}
+use Rattle.net.proofs.matching.all_defined.Tie as tie
+
+abbrev Inv-loop : tie.InvT-loop
+Inv-loop p c ok₀ i₀ ok i = (i ≤ 4) × (ok ≡ all i (λ j. implies (ltb j (c .count)) (definedField p (patternAt c j))))
+
+abbrev μ-loop : tie.MeasureT-loop
+μ-loop p c ok₀ i₀ ok i = 4 - i
+
+pub all-defined-spec : {M : Type 1} → statement M
+all-defined-spec =
+    tie.close
+    (tie.spec
+    Inv-loop
+    μ-loop
+    (λ c. search (needs, all-none))
+    (λ c κs. search needs)
+    (λ c. search needs)
+    (λ c. search needs)
+    (λ c. search (needs, all-more))
+    (λ c. search (needs, all-end)))

@@ -1,0 +1,24 @@
+-- `net::matching::defined_field` meets its contract: an arm for each case of the definition. Assumes nothing.
+use borrow.Author.Needs.{needs}
+use Rattle.net.specs.Matching.{definedField}
+use Rattle.net.proofs.matching.defined_field.Statement.{statement}
+use Rattle.net.proofs.matching.defined_field.Tie as tie
+
+pub defined-field-spec : {M : Type 1} → statement M
+unfolding definedField
+defined-field-spec =
+    tie.close
+    (tie.spec
+    (λ c. search needs)
+    (λ c. search needs)
+    (λ c. search needs)
+    (λ c. search needs)
+    (λ c κs. search needs)
+    (λ c. search needs)
+    (λ c. search needs)
+    (λ c. search needs)
+    (λ c. search needs)
+    (λ c. search needs)
+    (λ c. cc)
+    (λ c. search needs)
+    (λ c. search needs))

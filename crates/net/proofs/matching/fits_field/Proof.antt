@@ -1,0 +1,20 @@
+-- `net::matching::fits_field` meets its contract: an arm for each case of the definition. Assumes nothing.
+use borrow.Author.Needs.{needs}
+use Rattle.net.specs.Matching.{fitsField}
+use Rattle.net.proofs.matching.fits_field.Statement.{statement}
+use Rattle.net.proofs.matching.fits_field.Tie as tie
+
+pub fits-field-spec : {M : Type 1} → statement M
+unfolding fitsField
+fits-field-spec =
+    tie.close
+    (tie.spec
+    (λ c. search needs)
+    (λ c κs. search needs)
+    (λ c. search needs)
+    (λ c κs. search needs)
+    (λ c. search needs)
+    (λ c κs. search needs)
+    (λ c. cc)
+    (λ c. cc)
+    (λ c. cc))

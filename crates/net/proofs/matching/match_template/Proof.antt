@@ -1,0 +1,13 @@
+-- `net::matching::match_template` meets its contract: the parts are what the two calls promise. Assumes nothing.
+use borrow.Author.Needs.{needs}
+use Rattle.net.proofs.MatchingLaws.{matched-parts}
+use Rattle.net.proofs.matching.match_template.Statement.{statement}
+use Rattle.net.proofs.matching.match_template.Tie as tie
+
+pub match-template-spec : {M : Type 1} → statement M
+match-template-spec =
+    tie.close
+    (tie.spec
+    (λ c κs. search needs)
+    (λ c κs. search needs)
+    (λ c. search (needs, matched-parts)))
