@@ -4,8 +4,8 @@ use Rattle.net.proofs.ReadingLaws.{same-bits}
 use Rattle.net.proofs.reading.same_reading.Statement.{statement}
 use Rattle.net.proofs.reading.same_reading.Tie as tie
 
-returns : tie.Need-returns
-returns c = search (needs, same-bits)
-
 pub same-reading-spec : {M : Type 1} → statement M
-same-reading-spec = tie.close (tie.spec returns)
+same-reading-spec =
+    tie.close
+    (tie.spec
+    (λ c. search (needs, same-bits)))

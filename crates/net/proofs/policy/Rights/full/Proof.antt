@@ -1,14 +1,12 @@
+-- `net::policy::Rights::full` meets its contract. Assumes nothing.
 use Rattle.net.specs.Records.{allRights}
 use mathlib.Core.Path.{refl}
 use Rattle.net.proofs.policy.Rights.full.Statement.{statement}
 use Rattle.net.proofs.policy.Rights.full.Tie as tie
-use Rattle.net.proofs.policy.Rights.full.Reads as reads
-use Rattle.net.proofs.policy.Rights.full.Lts as lts
-
--- src/policy.rt:33:5
-returns : tie.Need-returns
-unfolding allRights
-returns c = refl
 
 pub full-spec : {M : Type 1} → statement M
-full-spec = tie.close (tie.spec returns)
+unfolding allRights
+full-spec =
+    tie.close
+    (tie.spec
+    (λ c. refl))
