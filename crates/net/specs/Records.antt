@@ -10,16 +10,17 @@ pub use Rattle.net.specs.declared.policy.Rights.{Rights}
 pub use Rattle.net.specs.declared.policy.Row.{Row}
 pub use Rattle.net.specs.declared.process.Process.{Process}
 pub use Rattle.net.specs.declared.node.Node.{Node}
+pub use Rattle.net.specs.declared.node.Slot.{Slot}
 pub use Rattle.net.specs.declared.instruction.Target.{Target}
 pub use Rattle.net.specs.declared.instruction.Pattern.{Pattern}
 pub use Rattle.net.specs.declared.instruction.TemplateField.{TemplateField}
 pub use Rattle.net.specs.declared.instruction.Action.{Action}
 pub use Rattle.net.specs.declared.instruction.Instruction.{Instruction}
 pub use Rattle.net.specs.declared.network.Net.{Net}
-use Prim.Native.Nat.{ℕ, _+_}
-use Rattle.net.specs.Choice.{choose}
+use Prim.Native.Nat.{ℕ, _+_, _-_}
+use Rattle.net.specs.Choice.{choose, fold, firstBelow}
 use lib.Dec.{ltb}
-use mathlib.Core.Bool.{Bool, true, false}
+use mathlib.Core.Bool.{Bool, true, false, not}
 use mathlib.Core.List.{List, []}
 use lib.ListN.{getD, set, replicate}
 use lib.IntN.{ℤ}
@@ -130,3 +131,29 @@ withInstruction s p c =
 
 unfoldable pub withCounts : Net → ℕ → ℕ → Net
 withCounts s n k = record { addresses = n; length = k; nodes = s .nodes; code = s .code }
+
+-- ---- changes that a step makes
+
+-- the process at another place
+unfoldable pub movedTo : Process → Place → Process
+movedTo p q = record { busy = p .busy; at = q; variables = p .variables }
+
+-- a new process at a place, with a copy of the variables
+unfoldable pub copiedTo : Process → Place → Process
+copiedTo p q = record { busy = true; at = q; variables = p .variables }
+
+-- what stands at place j once the tuple at place i is taken: younger tuples move up by one place
+unfoldable pub afterTaking : Node → ℕ → ℕ → Tuple
+afterTaking x i j = choose (ltb j i) (tupleAt x j) (choose (ltb j 15) (tupleAt x (j + 1)) zeroTuple)
+
+unfoldable pub withoutTuple : Node → ℕ → Node
+withoutTuple x i = record {
+  row = x .row;
+  processes = x .processes;
+  stored = x .stored - 1;
+  tuples = fold 16 (λ j ts. set ts j (afterTaking x i j)) (x .tuples)
+}
+
+-- the lowest free slot of a node
+unfoldable pub freeSlot : Node → Slot
+freeSlot x = firstBelow 4 (λ j. not (processAt x j .busy)) Slot.Number Slot.Full

@@ -13,6 +13,12 @@ pub struct Node {
     pub tuples: [Tuple; 16],
 }
 
+// A process slot of a node, or that none is free.
+pub enum Slot {
+    Number(usize),
+    Full,
+}
+
 impl Node {
     // A node that is not in use.
     pub fn zero() -> Node

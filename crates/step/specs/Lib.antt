@@ -1,0 +1,4 @@
+pub mod Answer
+pub mod Pick
+pub mod Request
+pub mod Types

@@ -1,0 +1,167 @@
+-- One pick (document 01, "One pick"): the answer and the net after it, for every net and every byte. In what follows s
+-- is the net, a the hosting address, k the slot, p the process that stands there.
+use Prim.Native.Nat.{ℕ, _+_, _/_, _%_}
+use mathlib.Core.Bool.{Bool, true, false}
+use mathlib.Core.List.{List}
+use lib.ListN.{set, replicate}
+use lib.Dec.{eqb, ltb}
+use lib.IntN.{ℤ}
+use Rattle.net.specs.Choice.{choose, fold}
+use Rattle.net.specs.Records.{processAt, nodeAt, instructionAt, withProcess, withTuple, withNode, withRow, withRights}
+use Rattle.net.specs.Records.{withVariable, movedTo, copiedTo, withoutTuple, freeSlot, freeProcess, allRights, zeroNode}
+use Rattle.net.specs.Records.{zeroTuple, withField}
+use Rattle.net.specs.Matching.{evaluatedOf, matchedOf, wantAt}
+use Rattle.net.specs.Keeping.{keepsOf}
+use Rattle.net.specs.Soundness.{soundOf}
+use Rattle.step.specs.Answer.{Answer, Picked}
+use Rattle.step.specs.Request.{Request, requestOf, granted}
+use Rattle.step.specs.Types.{Locality, Place, Item, Tuple, Rights, Row, Process, Node, Slot, Net, Instruction, Value}
+use Rattle.step.specs.Types.{Field, Want, Evaluated, Found, Matched}
+
+-- ---- what a pick's byte names: address (4 bits), slot (2 bits), 2 zero bits
+unfoldable pub hostOf : ℕ → ℕ
+hostOf b = b / 16
+
+unfoldable pub slotOf : ℕ → ℕ
+slotOf b = b / 4 % 4
+
+unfoldable pub spareOf : ℕ → ℕ
+spareOf b = b % 4
+
+-- ---- answers
+unfoldable pub unchanged : Answer → Net → Picked
+unchanged answer s = record { answer = answer; net = s }
+
+unfoldable pub performed : Net → Picked
+performed s = record { answer = Answer.Performed; net = s }
+
+-- ---- the tuple of an out: its field values. A formal, which a sound net's out does not have, counts as nought
+unfoldable pub itemOf : Want → Item
+itemOf (Want.Exactly x) = x
+itemOf (Want.AnyReading v) = Item.Reading (ℤ.pos 0)
+itemOf (Want.AnyAddress v) = Item.Reading (ℤ.pos 0)
+
+unfoldable pub tupleOf : Evaluated → Tuple
+tupleOf e = fold 4 (λ i t. choose (ltb i (e .count)) (withField t (record { item = itemOf (wantAt e i) })) t) zeroTuple
+
+-- ---- what each request does
+
+-- the host with its process in slot k replaced
+unfoldable pub withHost : Net → ℕ → ℕ → Process → Net
+withHost s a k p = withNode s a (withProcess (nodeAt s a) k p)
+
+-- stop: the slot is freed
+unfoldable pub stopped : Net → ℕ → ℕ → Picked
+stopped s a k = record { answer = Answer.Ended; net = withHost s a k freeProcess }
+
+-- the tuple added at l, as the newest
+unfoldable pub added : Net → ℕ → Tuple → Net
+added s l t = withNode s l (withTuple (nodeAt s l) t)
+
+unfoldable pub out : Net → ℕ → ℕ → Process → ℕ → Place → Tuple → Picked
+out s a k p l q t =
+    choose (ltb (nodeAt s l .stored) 16) (performed (added (withHost s a k (movedTo p q)) l t)) (unchanged Answer.NoRoom s)
+
+-- the tuple at place i taken at l
+unfoldable pub taken : Net → ℕ → ℕ → Net
+taken s l i = withNode s l (withoutTuple (nodeAt s l) i)
+
+unfoldable pub inFound : Net → ℕ → ℕ → ℕ → Place → Found → Process → Picked
+inFound s a k l q (Found.At i) p = performed (taken (withHost s a k (movedTo p q)) l i)
+inFound s a k l q Found.Nothing p = unchanged Answer.NoTuple s
+
+unfoldable pub input : Net → ℕ → ℕ → ℕ → Place → Matched → Picked
+input s a k l q m = inFound s a k l q (m .found) (m .process)
+
+unfoldable pub readFound : Net → ℕ → ℕ → Place → Found → Process → Picked
+readFound s a k q (Found.At i) p = performed (withHost s a k (movedTo p q))
+readFound s a k q Found.Nothing p = unchanged Answer.NoTuple s
+
+unfoldable pub read : Net → ℕ → ℕ → Place → Matched → Picked
+read s a k q m = readFound s a k q (m .found) (m .process)
+
+-- a copy of the process starts at the sent place in slot j of l
+unfoldable pub startedIn : Net → ℕ → ℕ → ℕ → Process → Place → Place → Slot → Picked
+startedIn s a k l p sent q (Slot.Number j) =
+    performed (withHost (withHost s a k (movedTo p q)) l j (copiedTo p sent))
+startedIn s a k l p sent q Slot.Full = unchanged Answer.NoRoom s
+
+-- eval: the sent code has to keep within the target's row, where self means the target
+unfoldable pub eval : Net → ℕ → ℕ → Process → Locality → Place → Place → Picked
+eval s a k p l sent q =
+    choose (keepsOf (s .code) sent l (nodeAt s (l .0) .row))
+    (startedIn s a k (l .0) p sent q (freeSlot (nodeAt s (l .0))))
+    (unchanged Answer.NotWithin s)
+
+-- fork: the first branch stays in its slot, the second enters the lowest free slot there
+unfoldable pub fork : Net → ℕ → ℕ → Process → Place → Place → Picked
+fork s a k p q r = startedIn s a k a p r q (freeSlot (nodeAt s a))
+
+-- new: the lowest unused address n. Its row is a copy of the creator's as it stood, with every right on itself; the
+-- creator's row gains every right on it, and no other row changes
+unfoldable pub gaining : Row → ℕ → Row
+gaining r n = withRights r n allRights
+
+unfoldable pub opened : Net → Net
+opened s = record { addresses = s .addresses + 1; length = s .length; nodes = s .nodes; code = s .code }
+
+unfoldable pub created : Net → ℕ → ℕ → Process → ℕ → Place → Net
+created s a k p v q =
+    withNode
+    (withNode (opened s) a
+    (withRow
+    (withProcess (nodeAt s a) k (movedTo (withVariable p v (Value.Address (record { 0 = s .addresses }))) q))
+    (gaining (nodeAt s a .row) (s .addresses))))
+    (s .addresses)
+    (withRow zeroNode (gaining (nodeAt s a .row) (s .addresses)))
+
+unfoldable pub create : Net → ℕ → ℕ → Process → ℕ → Place → Picked
+create s a k p v q = choose (ltb (s .addresses) 16) (performed (created s a k p v q)) (unchanged Answer.NoRoom s)
+
+unfoldable pub done : Net → ℕ → ℕ → Process → Evaluated → Request → Picked
+done s a k p e Request.Lack = unchanged Answer.NotSet s
+done s a k p e Request.Stop = stopped s a k
+done s a k p e (Request.Out l q) = out s a k p (l .0) q (tupleOf e)
+done s a k p e (Request.In l q) = input s a k (l .0) q (matchedOf p (nodeAt s (l .0)) e)
+done s a k p e (Request.Read l q) = read s a k q (matchedOf p (nodeAt s (l .0)) e)
+done s a k p e (Request.Eval l sent q) = eval s a k p l sent q
+done s a k p e (Request.New v q) = create s a k p v q
+done s a k p e (Request.Fork q r) = fork s a k p q r
+
+-- ---- the order of the tests: 9, 8, 7, then 1 at a stop, 6, 4, 5, then 3 or 2
+unfoldable pub isLack : Request → Bool
+isLack Request.Lack = true
+isLack Request.Stop = false
+isLack (Request.Out l q) = false
+isLack (Request.In l q) = false
+isLack (Request.Read l q) = false
+isLack (Request.Eval l sent q) = false
+isLack (Request.New v q) = false
+isLack (Request.Fork q r) = false
+
+-- the process p hosted at a in slot k makes its step
+unfoldable pub acting : Net → ℕ → ℕ → Process → Evaluated → Request → Picked
+acting s a k p e r =
+    choose (isLack r) (unchanged Answer.NotSet s)
+    (choose (granted (nodeAt s a .row) r) (done s a k p e r) (unchanged Answer.NoRight s))
+
+unfoldable pub processStep : Net → ℕ → ℕ → Process → Instruction → Picked
+processStep s a k p c =
+    acting s a k p (evaluatedOf (record { 0 = a }) p c) (requestOf (record { 0 = a }) p c)
+
+-- a pick on a net that is known to be sound
+unfoldable pub stepOf : Net → ℕ → Picked
+stepOf s b =
+    choose (eqb (spareOf b) 0)
+    (choose (ltb (hostOf b) (s .addresses))
+    (choose (processAt (nodeAt s (hostOf b)) (slotOf b) .busy)
+    (processStep s (hostOf b) (slotOf b)
+    (processAt (nodeAt s (hostOf b)) (slotOf b))
+    (instructionAt (s .code) (processAt (nodeAt s (hostOf b)) (slotOf b) .at .0)))
+    (unchanged Answer.FreeSlot s))
+    (unchanged Answer.NotInUse s))
+    (unchanged Answer.Malformed s)
+
+-- a pick: 10 first
+unfoldable pub pickOf : Net → ℕ → Picked
+pickOf s b = choose (soundOf s) (stepOf s b) (unchanged Answer.Unsound s)

@@ -1,0 +1,4 @@
+// One pick (document 01, "One pick"), above the crate `net`.
+pub mod answer;
+pub mod request;
+pub mod step;
