@@ -2,6 +2,7 @@
 //! written from document 01 alone. Other programs are compared with it.
 
 pub mod bits;
+pub mod dump;
 pub mod generate;
 pub mod image;
 pub mod matching;

@@ -14,6 +14,7 @@ pub mod KeepingLaws
 pub mod Laws
 pub mod LayoutLaws
 pub mod MatchingLaws
+pub mod NodeLaws
 pub mod Reached
 pub mod ReaderLaws
 pub mod ReadingLaws

@@ -151,7 +151,7 @@ withoutTuple x i = record {
   row = x .row;
   processes = x .processes;
   stored = x .stored - 1;
-  tuples = fold 16 (λ j ts. set ts j (afterTaking x i j)) (x .tuples)
+  tuples = fold 16 (λ j ts. set ts j (afterTaking x i j)) (x .tuples);
 }
 
 -- the lowest free slot of a node

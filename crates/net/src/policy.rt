@@ -1,7 +1,7 @@
 // Policies (document 01, "The net"): what the processes hosted at a node may do.
 
 ghost use mathlib.Core.Path.{_≡_};
-ghost use Rattle.net.specs.Records.{noRights, allRights, zeroRow};
+ghost use Rattle.net.specs.Records.{noRights, allRights, zeroRow, withRights};
 
 // The rights over one address: i (take), r (read), o (put), e (send code).
 pub struct Rights {
@@ -51,6 +51,18 @@ impl Row {
         Row {
             create: false,
             rights: [none; 16],
+        }
+    }
+
+    // The row with other rights over an address, or as it was past the last one.
+    pub fn with_rights(mut self, l: usize, r: Rights) -> Row
+        ensures { λ x. ⌜ x ≡ withRights self l r ⌝ }
+    {
+        if l < 16 {
+            self.rights[l] = r;
+            self
+        } else {
+            self
         }
     }
 }

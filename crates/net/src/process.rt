@@ -4,7 +4,7 @@ use crate::tuple::Value;
 use crate::tuple::Variable;
 ghost use mathlib.Core.Path.{_≡_};
 ghost use Rattle.net.specs.Image.{startingAt};
-ghost use Rattle.net.specs.Records.{freeProcess, withVariable};
+ghost use Rattle.net.specs.Records.{freeProcess, withVariable, movedTo, copiedTo};
 
 // A slot: free, or held by a process that stands at a place with its variables.
 pub struct Process {
@@ -25,6 +25,23 @@ impl Process {
             at,
             variables: [unset; 8],
         }
+    }
+
+    // The process at another place.
+    pub fn moved_to(mut self, at: Place) -> Process
+        ensures { λ r. ⌜ r ≡ movedTo self at ⌝ }
+    {
+        self.at = at;
+        self
+    }
+
+    // A new process at a place, with a copy of the variables.
+    pub fn copied_to(mut self, at: Place) -> Process
+        ensures { λ r. ⌜ r ≡ copiedTo self at ⌝ }
+    {
+        self.busy = true;
+        self.at = at;
+        self
     }
 
     // A process that starts at a place, with every variable unset.

@@ -1,0 +1,51 @@
+-- Laws of the methods of rows and nodes (`specs/Records.antt`). Assumes nothing.
+use Prim.Native.Nat.{ℕ, _+_, _-_, _<_, _≤_}
+use mathlib.Core.Path.{_≡_, refl, sym, ap, _∙_}
+use mathlib.Core.Bool.{Bool, true, false, not}
+use mathlib.Core.List.{List}
+use native.Mathlib.Omega.{arith}
+use lib.ListN.{length, set}
+use lib.Seq.{set-out}
+use Rattle.net.specs.Choice.{fold}
+use Rattle.net.specs.Records.{Tuple, Rights, Row, Process, Node, withRights, withProcess, afterTaking, withoutTuple}
+use Rattle.net.proofs.FoldLaws.{fold-none, fold-more, fold-end}
+
+-- a store past the last place changes nothing
+pub rights-out : (r : Row) (l : ℕ) (x : Rights) → length (r .rights) ≡ 16 → 16 ≤ l → r ≡ withRights r l x
+unfolding withRights
+rights-out r l x e h = rw (set-out (r .rights) l x (omega arith))
+
+pub process-out : (x : Node) (k : ℕ) (p : Process) → length (x .processes) ≡ 4 → 4 ≤ k → x ≡ withProcess x k p
+unfolding withProcess
+process-out x k p e h = rw (set-out (x .processes) k p (omega arith))
+
+-- the node while its tuples move up: j of them stand in their new places
+pub record Taking (x : Node) (i : ℕ) (node : Node) (j : ℕ) : Type 0 where
+  pub low : j ≤ 16
+  pub row : node .row ≡ x .row
+  pub processes : node .processes ≡ x .processes
+  pub stored : node .stored ≡ x .stored - 1
+  pub tuples : node .tuples ≡ fold j (λ k ts. set ts k (afterTaking x i k)) (x .tuples)
+
+module _ (x : Node) (i : ℕ) where
+  pub taking-none : (n : ℕ) → n ≡ x .stored - 1 → Taking x i (record { row = x .row; processes = x .processes; stored = n; tuples = x .tuples }) 0
+  taking-none n e = record { low = omega arith; row = refl; processes = refl; stored = e; tuples = fold-none _ (x .tuples) (x .tuples) refl }
+
+  pub taking-more : (node : Node) (j : ℕ) (t : Tuple) → Taking x i node j → j < 16 → t ≡ afterTaking x i j
+      → Taking x i (record { row = node .row; processes = node .processes; stored = node .stored; tuples = set (node .tuples) j t }) (j + 1)
+  taking-more node j t h l e = record {
+    low = omega arith;
+    row = h .row;
+    processes = h .processes;
+    stored = h .stored;
+    tuples = fold-more _ (x .tuples) j (node .tuples) _ (h .tuples) (ap (set (node .tuples) j) e);
+  }
+
+  pub taking-all : (node : Node) (j : ℕ) → Taking x i node j → 16 ≤ j → node ≡ withoutTuple x i
+  unfolding withoutTuple
+  taking-all node j h l = λ d. record {
+    row = h .row d;
+    processes = h .processes d;
+    stored = h .stored d;
+    tuples = fold-end _ (x .tuples) j 16 (node .tuples) (h .tuples) (h .low) l d;
+  }

@@ -1,0 +1,219 @@
+//! A net as the program `inspect` dumps it (the layout stands in
+//! crates/inspect/src/dump.rt), and what that program makes of images.
+
+use crate::net::*;
+use std::io::{Read, Write};
+use std::path::PathBuf;
+use std::process::{Child, Command, Stdio};
+
+/// The bytes of a dumped net.
+pub const DUMP_BYTES: usize = 23_267;
+
+/// What is made of an image: 0 or the number it is refused with, and the
+/// dump of the net it gives.
+#[derive(Clone, PartialEq, Eq, Debug)]
+pub struct Opened {
+    pub number: u8,
+    pub dump: Vec<u8>,
+}
+
+/// The whole net as bytes.
+pub fn dump(net: &Net) -> Vec<u8> {
+    let mut out = Vec::with_capacity(DUMP_BYTES);
+    out.push(net.address_count);
+    put_two(&mut out, net.code_length);
+    for node in net.nodes.iter() {
+        put_node(&mut out, node);
+    }
+    for instruction in net.code.iter() {
+        put_instruction(&mut out, instruction);
+    }
+    out
+}
+
+fn put_two(out: &mut Vec<u8>, number: u16) {
+    out.extend(number.to_le_bytes());
+}
+
+// A kind, then a value in four bytes.
+fn put_kind(out: &mut Vec<u8>, kind: u8, value: i32) {
+    out.push(kind);
+    out.extend(value.to_le_bytes());
+}
+
+fn put_node(out: &mut Vec<u8>, node: &Node) {
+    out.push(node.row.create as u8);
+    for rights in &node.row.rights {
+        let high = (rights.take as u8) << 3 | (rights.read as u8) << 2;
+        out.push(high | (rights.put as u8) << 1 | rights.send as u8);
+    }
+    for process in &node.processes {
+        put_process(out, process);
+    }
+    out.push(node.tuple_count);
+    for tuple in &node.tuples {
+        put_tuple(out, tuple);
+    }
+}
+
+fn put_process(out: &mut Vec<u8>, process: &Process) {
+    out.push(process.busy as u8);
+    put_two(out, process.at.0);
+    for value in &process.variables {
+        match *value {
+            Value::Unset => put_kind(out, 0, 0),
+            Value::Reading(reading) => put_kind(out, 1, reading),
+            Value::Address(address) => put_kind(out, 2, address.0.into()),
+        }
+    }
+}
+
+fn put_tuple(out: &mut Vec<u8>, tuple: &Tuple) {
+    out.push(tuple.count);
+    for field in &tuple.fields {
+        match *field {
+            Field::Reading(reading) => put_kind(out, 1, reading),
+            Field::Address(address) => put_kind(out, 2, address.0.into()),
+        }
+    }
+}
+
+fn put_instruction(out: &mut Vec<u8>, instruction: &Instruction) {
+    put_action(out, &instruction.action);
+    out.push(instruction.count);
+    for field in &instruction.fields {
+        match *field {
+            TemplateField::Reading(reading) => put_kind(out, 0, reading),
+            TemplateField::Address(address) => put_kind(out, 1, address.0.into()),
+            TemplateField::Own => put_kind(out, 2, 0),
+            TemplateField::Variable(variable) => put_kind(out, 3, variable.into()),
+            TemplateField::FormalReading(variable) => put_kind(out, 4, variable.into()),
+            TemplateField::FormalAddress(variable) => put_kind(out, 5, variable.into()),
+        }
+    }
+}
+
+// The action's number, its target, two places and the variable of a new.
+fn put_action(out: &mut Vec<u8>, action: &Action) {
+    let none = Place(0);
+    let (number, target, places, variable) = match *action {
+        Action::Stop => (0, None, [none, none], 0),
+        Action::Out { target, next } => (1, Some(target), [next, none], 0),
+        Action::In { target, next } => (2, Some(target), [next, none], 0),
+        Action::Read { target, next } => (3, Some(target), [next, none], 0),
+        Action::Eval { target, sent, next } => (4, Some(target), [sent, next], 0),
+        Action::New { variable, next } => (5, None, [next, none], variable),
+        Action::Fork { first, second } => (6, None, [first, second], 0),
+    };
+    out.push(number);
+    out.extend(match target {
+        None => [0, 0],
+        Some(Target::Written(address)) => [0, address.0],
+        Some(Target::Own) => [1, 0],
+        Some(Target::Variable(variable)) => [2, variable],
+    });
+    put_two(out, places[0].0);
+    put_two(out, places[1].0);
+    out.push(variable);
+}
+
+/// Where a program of the repository lies: in the directory that
+/// CAVINDORUM_BIN names, or where `rt check` links it.
+pub fn program(name: &str) -> PathBuf {
+    let linked = concat!(env!("CARGO_MANIFEST_DIR"), "/../target/bin");
+    let directory = std::env::var_os("CAVINDORUM_BIN").unwrap_or_else(|| linked.into());
+    PathBuf::from(directory).join(name)
+}
+
+/// What the program `inspect` makes of each of these images. A missing
+/// program, or one that writes too little or too much, is a failure.
+pub fn inspect(images: &[Vec<u8>]) -> Vec<Opened> {
+    let mut child = start_inspect();
+    let mut input = child.stdin.take().expect("the input is a pipe");
+    let mut output = child.stdout.take().expect("the output is a pipe");
+    let opened = std::thread::scope(|scope| {
+        scope.spawn(move || {
+            for image in images {
+                // A program that ends too early is found out below.
+                let _ = input.write_all(&framed(image));
+            }
+        });
+        let opened = images.iter().map(|_| read_opened(&mut output)).collect();
+        assert_eq!(output.read(&mut [0]).ok(), Some(0), "more than the answers");
+        opened
+    });
+    let status = child.wait().expect("inspect ends");
+    assert!(status.success(), "inspect: {status}");
+    opened
+}
+
+fn start_inspect() -> Child {
+    let path = program("inspect");
+    let started = Command::new(&path)
+        .stdin(Stdio::piped())
+        .stdout(Stdio::piped())
+        .spawn();
+    started.unwrap_or_else(|error| {
+        let path = path.display();
+        panic!("{path}: {error}; `rt check inspect` makes it")
+    })
+}
+
+// An image as the program takes it: its length, then its bytes.
+fn framed(image: &[u8]) -> Vec<u8> {
+    assert!(image.len() < 16_384, "inspect takes at most 16,383 bytes");
+    let mut bytes = (image.len() as u16).to_le_bytes().to_vec();
+    bytes.extend(image);
+    bytes
+}
+
+fn read_opened(output: &mut impl Read) -> Opened {
+    let mut bytes = vec![0; 1 + DUMP_BYTES];
+    output
+        .read_exact(&mut bytes)
+        .expect("an answer for each image");
+    Opened {
+        number: bytes[0],
+        dump: bytes.split_off(1),
+    }
+}
+
+#[cfg(test)]
+mod tests {
+    use super::*;
+
+    #[test]
+    fn a_dump_has_its_length() {
+        assert_eq!(dump(&Net::empty()).len(), DUMP_BYTES);
+    }
+
+    #[test]
+    fn each_record_shows() {
+        let mut net = Net::empty();
+        net.address_count = 2;
+        net.code_length = 300;
+        net.nodes[0].row.rights[1] = Rights {
+            take: true,
+            read: false,
+            put: true,
+            send: false,
+        };
+        net.nodes[0].processes[0] = Process::starting(Place(258));
+        net.nodes[0].processes[0].variables[7] = Value::Address(Locality(1));
+        net.nodes[0].tuple_count = 1;
+        net.nodes[0].tuples[0] = Tuple::of(&[Field::Reading(-2)]);
+        let target = Target::Variable(3);
+        let (sent, next) = (Place(257), Place(5));
+        net.code[0] = Instruction::plain(Action::Eval { target, sent, next });
+        net.code[0].fields[0] = TemplateField::FormalAddress(6);
+        let bytes = dump(&net);
+        assert_eq!(bytes[..3], [2, 44, 1]);
+        assert_eq!(bytes[3..6], [0, 0, 10]);
+        assert_eq!(bytes[20..23], [1, 2, 1]);
+        assert_eq!(bytes[58..63], [2, 1, 0, 0, 0]);
+        assert_eq!(bytes[192..199], [1, 1, 1, 0xFE, 0xFF, 0xFF, 0xFF]);
+        let code = &bytes[3 + 16 * 526..];
+        assert_eq!(code[..9], [4, 2, 3, 1, 1, 5, 0, 0, 0]);
+        assert_eq!(code[9..14], [5, 6, 0, 0, 0]);
+    }
+}
