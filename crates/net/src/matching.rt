@@ -52,7 +52,7 @@ pub struct Matched {
 // ---- evaluating a template, with the variables as they are before the step
 
 // The value of a variable: unset past the last variable.
-fn variable(p: Process, v: u8) -> Value
+pub fn variable(p: Process, v: u8) -> Value
     ensures { λ r. ⌜ r ≡ variableAt p v ⌝ }
 {
     let at = v as usize;
