@@ -1,5 +1,9 @@
 pub mod Answer
+pub mod DemandOne
 pub mod Pick
 pub mod Plan
 pub mod Request
+pub mod Rules
+pub mod Shape
+pub mod SoundKept
 pub mod Types

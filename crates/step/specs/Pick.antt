@@ -149,17 +149,18 @@ unfoldable pub processStep : Net → ℕ → ℕ → Process → Instruction →
 processStep s a k p c =
     acting s a k p (evaluatedOf (record { 0 = a }) p c) (requestOf (record { 0 = a }) p c)
 
+-- the process in slot k of address a, if there is one
+unfoldable pub slotStep : Net → ℕ → ℕ → Picked
+slotStep s a k =
+    choose (processAt (nodeAt s a) k .busy)
+    (processStep s a k (processAt (nodeAt s a) k) (instructionAt (s .code) (processAt (nodeAt s a) k .at .0)))
+    (unchanged Answer.FreeSlot s)
+
 -- a pick on a net that is known to be sound
 unfoldable pub stepOf : Net → ℕ → Picked
 stepOf s b =
     choose (eqb (spareOf b) 0)
-    (choose (ltb (hostOf b) (s .addresses))
-    (choose (processAt (nodeAt s (hostOf b)) (slotOf b) .busy)
-    (processStep s (hostOf b) (slotOf b)
-    (processAt (nodeAt s (hostOf b)) (slotOf b))
-    (instructionAt (s .code) (processAt (nodeAt s (hostOf b)) (slotOf b) .at .0)))
-    (unchanged Answer.FreeSlot s))
-    (unchanged Answer.NotInUse s))
+    (choose (ltb (hostOf b) (s .addresses)) (slotStep s (hostOf b) (slotOf b)) (unchanged Answer.NotInUse s))
     (unchanged Answer.Malformed s)
 
 -- a pick: 10 first

@@ -2,17 +2,21 @@
 -- `proofs/PutBack.antt` shows that this is the step of `Pick.antt`.
 pub use Rattle.step.specs.declared.plan.Effect.{Effect}
 pub use Rattle.step.specs.declared.plan.Plan.{Plan}
-use Prim.Native.Nat.{ℕ}
+use Prim.Native.Nat.{ℕ, _+_}
 use mathlib.Core.Bool.{Bool, true, false}
+use mathlib.Core.Path.{_≡_}
+use mathlib.Core.List.{List}
+use lib.ListN.{length}
 use lib.Dec.{ltb}
 use Rattle.net.specs.Choice.{choose}
 use Rattle.net.specs.Records.{nodeAt, withProcess, withTuple, withNode, withRow, withVariable, movedTo, copiedTo}
 use Rattle.net.specs.Records.{withoutTuple, freeSlot, freeProcess, zeroTuple, zeroRow, zeroNode}
 use Rattle.net.specs.Matching.{matchedOf}
-use Rattle.step.specs.Types.{Locality, Place, Value, Tuple, Row, Process, Node, Slot, Net, Evaluated, Found, Matched}
+use Rattle.net.specs.Keeping.{keepsOf}
+use Rattle.step.specs.Types.{Locality, Place, Value, Tuple, Row, Process, Node, Slot, Net, Evaluated, Found, Matched, Instruction}
 use Rattle.step.specs.Answer.{Answer, Picked}
 use Rattle.step.specs.Request.{Request, granted}
-use Rattle.step.specs.Pick.{tupleOf, gaining, opened, unchanged, isLack}
+use Rattle.step.specs.Pick.{tupleOf, gaining, isLack}
 
 -- ---- plans
 
@@ -24,7 +28,7 @@ still answer = record {
   row = zeroRow;
   effect = Effect.Nothing;
   tuple = zeroTuple;
-  started = freeProcess
+  started = freeProcess;
 }
 
 -- the host's process and row as given, and an effect at the target
@@ -35,7 +39,7 @@ going r p effect t started = record {
   row = r;
   effect = effect;
   tuple = t;
-  started = started
+  started = started;
 }
 
 unfoldable pub stopPlan : Row → Plan
@@ -45,7 +49,7 @@ stopPlan r = record {
   row = r;
   effect = Effect.Nothing;
   tuple = zeroTuple;
-  started = freeProcess
+  started = freeProcess;
 }
 
 unfoldable pub outPlan : Row → Process → Node → Place → Tuple → Plan
@@ -124,12 +128,15 @@ effectOn (Effect.Take i) plan y = withoutTuple y i
 effectOn (Effect.Start j) plan y = withProcess y j (plan .started)
 effectOn Effect.Open plan y = withRow zeroNode (plan .row)
 
+unfoldable pub grownCount : Effect → ℕ → ℕ
+grownCount Effect.Nothing n = n
+grownCount Effect.Put n = n
+grownCount (Effect.Take i) n = n
+grownCount (Effect.Start j) n = n
+grownCount Effect.Open n = n + 1
+
 unfoldable pub grown : Effect → Net → Net
-grown Effect.Nothing s = s
-grown Effect.Put s = s
-grown (Effect.Take i) s = s
-grown (Effect.Start j) s = s
-grown Effect.Open s = opened s
+grown effect s = record { addresses = grownCount effect (s .addresses); length = s .length; nodes = s .nodes; code = s .code }
 
 -- the host with its process and its row
 unfoldable pub hostAfter : Plan → ℕ → Node → Node
@@ -143,3 +150,26 @@ putBack s a k l plan =
     choose (changes (plan .answer))
     (withNode (hosted s a k plan) l (effectOn (plan .effect) plan (nodeAt (hosted s a k plan) l)))
     s
+
+-- ---- whether the code that a request sends keeps within the row of its target
+unfoldable pub sentWithin : List Instruction → Row → Request → Bool
+sentWithin code r Request.Lack = true
+sentWithin code r Request.Stop = true
+sentWithin code r (Request.Out l q) = true
+sentWithin code r (Request.In l q) = true
+sentWithin code r (Request.Read l q) = true
+sentWithin code r (Request.Eval l sent q) = keepsOf code sent l r
+sentWithin code r (Request.New v q) = true
+sentWithin code r (Request.Fork q q′) = true
+
+-- the plan of a request in a net
+unfoldable pub planIn : Net → ℕ → Process → Evaluated → Request → Plan
+planIn s a p e req =
+    planOf (nodeAt s a .row) p (nodeAt s (targetIndex a (s .addresses) req)) e (s .addresses)
+    (sentWithin (s .code) (nodeAt s (targetIndex a (s .addresses) req) .row) req)
+    req
+
+-- a plan as the code draws it: the row's length is what its type fixes
+pub record Planned (r : Row) (p : Process) (y : Node) (e : Evaluated) (n : ℕ) (within : Bool) (req : Request) (plan : Plan) : Type 0 where
+  pub is : plan ≡ planOf r p y e n within req
+  pub long : length (r .rights) ≡ 16

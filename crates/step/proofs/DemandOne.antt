@@ -1,0 +1,74 @@
+-- The claims of `specs/DemandOne.antt`: a step that is performed is one that a rule allows, and each rule has its right
+-- among its premises; a pick that is refused hands back the net that it was given.
+-- Assumes nothing.
+use Prim.Native.Nat.{ℕ, _<_}
+use mathlib.Core.Path.{_≡_, refl}
+use mathlib.Core.Bool.{Bool}
+use native.Mathlib.Omega.{arith}
+use Rattle.net.specs.Choice.{choose}
+use Rattle.net.proofs.Every.{chosen}
+use Rattle.step.specs.Types.{Locality, Action, Net}
+use Rattle.step.specs.Answer.{Answer, Picked, numberOf}
+use Rattle.step.specs.Request.{requestOf}
+use Rattle.step.specs.Pick.{hostOf, slotOf, unchanged, performed, stopped, processStep, stepOf, slotStep, pickOf}
+use Rattle.step.specs.Rules.{processIn, instructionIn, rowIn, Stands, Step, OUT, IN, READ, EVAL, NEW, FORK}
+use Rattle.step.specs.DemandOne.{Held, out-held, in-held, read-held, eval-held, new-held, fork-held}
+use Rattle.step.specs.DemandOne.{pickedProcess, pickedAction, OnlyWithRight, RefusedChangesNothing}
+use Rattle.step.proofs.Outcomes.{Outcome, performs, refuses, ends, outcome}
+use Rattle.step.proofs.Rules.{picked-step}
+
+-- ---- only with the right
+module _ (s : Net) (a : Locality) (k : ℕ) where
+  held-at :
+      (x : Action) → Stands s a k x → Held (rowIn s a) a (processIn s a k) x
+      → Held (rowIn s a) a (processIn s a k) (instructionIn s a k .action)
+  held-at x h r = rw (h .acts) r
+
+  held : (after : Net) → Step s a k after → Held (rowIn s a) a (processIn s a k) (instructionIn s a k .action)
+  held _ (OUT h p d g room) = held-at _ h (out-held (p .points) g)
+  held _ (IN h p d g o) = held-at _ h (in-held (p .points) g)
+  held _ (READ h p d g o) = held-at _ h (read-held (p .points) g)
+  held _ (EVAL h p g within f) = held-at _ h (eval-held (p .points) g)
+  held _ (NEW h g room) = held-at _ h (new-held g)
+  held _ (FORK h f) = held-at _ h fork-held
+
+is-performed : (w : Answer) → numberOf w ≡ 0 → w ≡ Answer.Performed
+unfolding numberOf
+is-performed Answer.Performed h = refl
+is-performed Answer.Ended h = absurd (omega arith)
+is-performed Answer.NoTuple h = absurd (omega arith)
+is-performed Answer.NoRoom h = absurd (omega arith)
+is-performed Answer.NoRight h = absurd (omega arith)
+is-performed Answer.NotWithin h = absurd (omega arith)
+is-performed Answer.NotSet h = absurd (omega arith)
+is-performed Answer.FreeSlot h = absurd (omega arith)
+is-performed Answer.NotInUse h = absurd (omega arith)
+is-performed Answer.Malformed h = absurd (omega arith)
+is-performed Answer.Unsound h = absurd (omega arith)
+
+pub onlyWithRight : OnlyWithRight
+unfolding OnlyWithRight pickedProcess pickedAction rowIn processIn instructionIn
+onlyWithRight s b h =
+    held s (record { 0 = hostOf b }) (slotOf b) (pickOf s b .net)
+    (picked-step s b (pickOf s b .net)
+    (record { is = λ i. record { answer = is-performed (pickOf s b .answer) h i; net = pickOf s b .net } }))
+
+-- ---- refused changes nothing
+Kept : Net → Picked → Type 0
+Kept s r = 1 < numberOf (r .answer) → r .net ≡ s
+
+kept : (s : Net) (a k : ℕ) (x : Action) (r : Picked) → Outcome s a k x r → Kept s r
+unfolding Kept performed unchanged stopped numberOf
+kept s a k _ _ (performs n) l = absurd (omega arith)
+kept s a k _ _ (refuses n l′) l = refl
+kept s a k _ _ ends l = absurd (omega arith)
+
+or-refused : (s : Net) (b : Bool) (r : Picked) (n : Answer) → Kept s r → Kept s (choose b r (unchanged n s))
+unfolding Kept unchanged
+or-refused s b r n h = chosen (Kept s) b r _ (λ _. h) (λ _ _. refl)
+
+pub refusedChangesNothing : RefusedChangesNothing
+unfolding RefusedChangesNothing Kept pickOf stepOf slotStep processStep requestOf
+refusedChangesNothing s b =
+    or-refused s _ _ _ (or-refused s _ _ _ (or-refused s _ _ _ (or-refused s _ _ _
+    (kept s (hostOf b) (slotOf b) _ _ (outcome s (record { 0 = hostOf b }) (slotOf b) _ _ _)))))

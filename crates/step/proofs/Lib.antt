@@ -1,0 +1,14 @@
+pub mod DemandOne
+pub mod Lowest
+pub mod Outcomes
+pub mod PickLaws
+pub mod PutBack
+pub mod ReadBack
+pub mod Rules
+pub mod SoundChanges
+pub mod SoundFacts
+pub mod SoundKept
+pub mod SoundRequests
+pub mod StepFacts
+pub mod StepLaws
+pub mod Within

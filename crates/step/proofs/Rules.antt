@@ -1,0 +1,351 @@
+-- The claims of `specs/Rules.antt`: a pick is read back, test by test, to the rule whose premises the tests are, and a
+-- rule's premises let each test pass.
+-- Assumes nothing.
+use Prim.Native.Nat.{ℕ, _<_, _≤_}
+use mathlib.Core.Path.{_≡_, refl, sym, ap, subst, _∙_}
+use mathlib.Core.Logic.{_↔_}
+use mathlib.Core.Bool.{Bool, true, false, not}
+use native.Mathlib.Omega.{arith}
+use lib.Dec.{ltb}
+use borrow.Author.Tests.{ltb-true, lt-ltb, eq-eqb, not-true, not-false}
+use Rattle.net.specs.Choice.{both}
+use Rattle.net.specs.Records.{processAt, tupleAt, nodeAt, movedTo, copiedTo, freeSlot}
+use Rattle.net.specs.Matching.{fitsOf, boundOf, boundAt, matchedOf, oldestOf}
+use Rattle.net.specs.Soundness.{soundOf, targetSound, actionSound}
+use Rattle.net.proofs.Laws.{both-i, both-l, both-r, both-false-r, choose-true, choose-false}
+use Rattle.step.specs.Types.{Locality, Place, Process, Node, Slot, Target, Action, Evaluated, Net, Found}
+use Rattle.step.specs.Answer.{Answer, Picked, numberOf}
+use Rattle.step.specs.Request.{Aim, Request, targetOf, at, spoken, asked, requestOf, granted}
+use Rattle.step.specs.Pick.{hostOf, slotOf, spareOf, performed, unchanged, withHost, stopped, out, inFound, input}
+use Rattle.step.specs.Pick.{readFound, read, startedIn, eval, fork, create, done, isLack, acting, processStep}
+use Rattle.step.specs.Pick.{stepOf, slotStep, pickOf}
+use Rattle.step.specs.Rules.{processIn, instructionIn, templateIn, rowIn, Stands, Points, OldestThatFits}
+use Rattle.step.specs.Rules.{LowestFree, Step, OUT, IN, READ, EVAL, NEW, FORK, Stop, NIL}
+use Rattle.step.specs.Rules.{StepIsPick, StopIsPick}
+use Rattle.step.proofs.Lowest.{Lowest, first-is, first-cases}
+use Rattle.step.proofs.StepFacts.{Facts, facts, stored-few, Running, running, target-exists}
+use Rattle.step.proofs.Within.{keeps-within, within-keeps}
+use Rattle.step.proofs.Outcomes.{Outcome, performs, refuses, ends, outcome}
+use Rattle.step.proofs.ReadBack.{Gave, same-number, refused, through, Aimed, acted, aimed, spoke, seated}
+
+-- ---- the lowest free slot and the oldest tuple that fits, as the definitions look for them
+free-test : Node → ℕ → Bool
+free-test x j = not (processAt x j .busy)
+
+slot-lowest : (x : Node) (j : ℕ) → Lowest 4 (free-test x) j ↔ LowestFree x j
+unfolding free-test
+slot-lowest x j = (
+  λ h. record { slot = h .below; free = not-true _ (h .holds); lowest = λ i l. not-false _ (h .before i l) },
+  λ h. record { below = h .slot; holds = ap not (h .free); before = λ i l. ap not (h .lowest i l) },
+)
+
+slot-is : (x : Node) (j : ℕ) → LowestFree x j → freeSlot x ≡ Slot.Number j
+unfolding freeSlot free-test
+slot-is x j h = first-is 4 (free-test x) Slot.Number Slot.Full j (slot-lowest x j .1 h)
+
+slot-cases :
+    (P : Slot → Type 0) (x : Node) → ((j : ℕ) → LowestFree x j → P (Slot.Number j)) → P Slot.Full → P (freeSlot x)
+unfolding freeSlot free-test
+slot-cases P x f = first-cases P 4 (free-test x) Slot.Number Slot.Full (λ j h. f j (slot-lowest x j .0 h))
+
+fit-test : Node → Evaluated → ℕ → Bool
+fit-test x e i = both (ltb i (x .stored)) (fitsOf (tupleAt x i) e)
+
+both-false : (x y : Bool) → x ≡ true → both x y ≡ false → y ≡ false
+unfolding both
+both-false x y e h = rw e at h
+
+oldest-lowest : (x : Node) (e : Evaluated) (i : ℕ) → x .stored ≤ 16 → Lowest 16 (fit-test x e) i ↔ OldestThatFits x e i
+unfolding fit-test
+oldest-lowest x e i few = (
+  λ h.
+      let l : i < x .stored = ltb-true _ _ (both-l _ _ (h .holds)) in
+      record {
+        present = l;
+        fits = both-r _ _ (h .holds);
+        oldest = λ j m. both-false _ _ (lt-ltb j (x .stored) (omega arith)) (h .before j m);
+      },
+  λ h.
+      let l : i < x .stored = h .present in
+      record {
+        below = omega arith;
+        holds = both-i _ _ (lt-ltb _ _ l) (h .fits);
+        before = λ j m. sym (both-false-r _ _ (lt-ltb j (x .stored) (omega arith)) (h .oldest j m));
+      },
+)
+
+oldest-is : (x : Node) (e : Evaluated) (i : ℕ) → x .stored ≤ 16 → OldestThatFits x e i → oldestOf x e ≡ Found.At i
+unfolding oldestOf fit-test
+oldest-is x e i few h = first-is 16 (fit-test x e) Found.At Found.Nothing i (oldest-lowest x e i few .1 h)
+
+oldest-cases :
+    (P : Found → Type 0) (x : Node) (e : Evaluated) → x .stored ≤ 16 → ((i : ℕ) → OldestThatFits x e i → P (Found.At i))
+    → P Found.Nothing → P (oldestOf x e)
+unfolding oldestOf fit-test
+oldest-cases P x e few f =
+    first-cases P 16 (fit-test x e) Found.At Found.Nothing (λ i h. f i (oldest-lowest x e i few .0 h))
+
+-- ---- a busy slot of an address in use, in a sound net
+record Seat (s : Net) (a : Locality) (k : ℕ) : Type 0 where
+  ok : Facts s
+  used : a .0 < s .addresses
+  low : k < 4
+
+module _ (s : Net) (a : Locality) (k : ℕ) (seat : Seat s a k) where
+  runs : processIn s a k .busy ≡ true → Running (s .addresses) (s .length) (processIn s a k)
+  unfolding processIn
+  runs = running (s .addresses) (s .length) (nodeAt s (a .0)) k (seat .ok .nodes (a .0) (seat .used)) (seat .low)
+
+  sound-action : (x : Action) → Stands s a k x → actionSound (s .addresses) (s .length) x ≡ true
+  unfolding instructionIn
+  sound-action x h = rw (h .acts) at (seat .ok .actions (processIn s a k .at .0) (runs (h .busy) .placed))
+
+  sent-low : (t : Target) (sent q : Place) → Stands s a k (Action.Eval t sent q) → sent .0 < s .length
+  unfolding actionSound
+  sent-low t sent q h = ltb-true _ _ (both-l _ _ (both-r _ _ (sound-action _ h)))
+
+  few-stored : (l : Locality) → l .0 < s .addresses → nodeAt s (l .0) .stored ≤ 16
+  few-stored l h = stored-few (s .addresses) (s .length) (nodeAt s (l .0)) (seat .ok .nodes (l .0) h)
+
+-- ---- from the pick to the rule
+final-0 : numberOf Answer.Performed ≤ 1
+unfolding numberOf
+final-0 = omega arith
+
+final-1 : numberOf Answer.Ended ≤ 1
+unfolding numberOf
+final-1 = omega arith
+
+module _ (s : Net) (a : Locality) (k : ℕ) (after : Net) (seat : Seat s a k) where
+  -- the net that the rule gives is the net after
+  as-performed : (n : Net) → Gave Answer.Performed after (performed n) → Step s a k n → Step s a k after
+  unfolding performed
+  as-performed n h step = subst (Step s a k) (ap (λ (x : Picked). x .net) (h .is)) step
+
+  -- an address was aimed at, with the right of the request there
+  record Reached (t : Target) (f : Locality → Request) : Type 0 where
+    l : Locality
+    to : Points s a k t l
+    right : granted (rowIn s a) (f l) ≡ true
+    rest : Gave Answer.Performed after (done s (a .0) k (processIn s a k) (templateIn s a k) (f l))
+
+  reached :
+      (x : Action) (t : Target) (f : Locality → Request) → Stands s a k x → targetSound (s .addresses) t ≡ true
+      → Aimed Answer.Performed after s (a .0) k (processIn s a k) (templateIn s a k) (targetOf a (processIn s a k) t) f
+      → Reached t f
+  unfolding rowIn
+  reached x t f h sound aim =
+      let ac = acted final-0 s (a .0) k _ _ _ (aim .acts) in
+      record {
+        l = aim .l;
+        to = record {
+          points = aim .points;
+          exists =
+              target-exists (s .addresses) (s .length) a (processIn s a k) t (aim .l) (seat .used)
+              (runs s a k seat (h .busy)) sound (aim .points);
+        };
+        right = ac .test;
+        rest = ac .rest;
+      }
+
+  -- a template met the oldest tuple that fits
+  matched :
+      (l : Locality) (go : Found → Process → Picked)
+      → l .0 < s .addresses
+      → ((i : ℕ)
+      → OldestThatFits (nodeAt s (l .0)) (templateIn s a k) i
+      → Gave Answer.Performed after
+      (go (Found.At i) (boundOf (processIn s a k) (tupleAt (nodeAt s (l .0)) i) (templateIn s a k)))
+      → Step s a k after)
+      → (Gave Answer.Performed after (go Found.Nothing (processIn s a k)) → ⊥)
+      → Gave Answer.Performed after
+      (go (oldestOf (nodeAt s (l .0)) (templateIn s a k))
+      (boundAt (oldestOf (nodeAt s (l .0)) (templateIn s a k)) (processIn s a k) (nodeAt s (l .0)) (templateIn s a k)))
+      → Step s a k after
+  unfolding boundAt
+  matched l go low f none =
+      oldest-cases
+      (λ m.
+      Gave Answer.Performed after (go m (boundAt m (processIn s a k) (nodeAt s (l .0)) (templateIn s a k)))
+      → Step s a k after)
+      (nodeAt s (l .0)) (templateIn s a k) (few-stored s a k seat l low) f (λ h. absurd (none h))
+
+  -- a started process found the lowest free slot
+  started :
+      (l : ℕ) (sent q : Place)
+      → ((j : ℕ)
+      → LowestFree (nodeAt s l) j
+      → Step s a k (withHost (withHost s (a .0) k (movedTo (processIn s a k) q)) l j (copiedTo (processIn s a k) sent)))
+      → Gave Answer.Performed after (startedIn s (a .0) k l (processIn s a k) sent q (freeSlot (nodeAt s l)))
+      → Step s a k after
+  unfolding startedIn numberOf
+  started l sent q f =
+      slot-cases
+      (λ j. Gave Answer.Performed after (startedIn s (a .0) k l (processIn s a k) sent q j) → Step s a k after)
+      (nodeAt s l) (λ j h g. as-performed _ g (f j h)) (λ g. absurd (refused final-0 Answer.NoRoom s (omega arith) g))
+
+  -- by the action
+  step-by :
+      (x : Action) → Stands s a k x → actionSound (s .addresses) (s .length) x ≡ true
+      → Gave Answer.Performed after
+      (acting s (a .0) k (processIn s a k) (templateIn s a k) (asked a (processIn s a k) (templateIn s a k) x))
+      → Step s a k after
+  unfolding asked granted done actionSound numberOf rowIn stopped out input inFound read readFound matchedOf eval fork
+      create
+  step-by Action.Stop h sound g =
+      let no = same-number (acted final-0 s (a .0) k _ _ _ g .rest) in
+      absurd (omega arith)
+  step-by (Action.Out t q) h sound g =
+      let sp = spoke final-0 s (a .0) k _ _ _ _ g in
+      let r = reached _ t _ h (both-l _ _ sound) (sp .aims) in
+      let room = through final-0 Answer.NoRoom s _ _ (omega arith) (r .rest) in
+      as-performed _ (room .rest) (OUT h (r .to) (sp .defined) (r .right) (ltb-true _ _ (room .test)))
+  step-by (Action.In t q) h sound g =
+      let sp = spoke final-0 s (a .0) k _ _ _ _ g in
+      let r = reached _ t _ h (both-l _ _ sound) (sp .aims) in
+      matched (r .l) (inFound s (a .0) k (r .l .0) q) (r .to .exists)
+      (λ i o m. as-performed _ m (IN h (r .to) (sp .defined) (r .right) o))
+      (refused final-0 Answer.NoTuple s (omega arith))
+      (r .rest)
+  step-by (Action.Read t q) h sound g =
+      let sp = spoke final-0 s (a .0) k _ _ _ _ g in
+      let r = reached _ t _ h (both-l _ _ sound) (sp .aims) in
+      matched (r .l) (readFound s (a .0) k q) (r .to .exists)
+      (λ i o m. as-performed _ m (READ h (r .to) (sp .defined) (r .right) o))
+      (refused final-0 Answer.NoTuple s (omega arith))
+      (r .rest)
+  step-by (Action.Eval t sent q) h sound g =
+      let r = reached _ t _ h (both-l _ _ sound) (aimed final-0 s (a .0) k _ _ _ _ g) in
+      let kept = through final-0 Answer.NotWithin s _ _ (omega arith) (r .rest) in
+      let within = keeps-within s (seat .ok) sent (sent-low s a k seat t sent q h) (r .l) _ (kept .test) in
+      started (r .l .0) sent q (λ j f. EVAL h (r .to) (r .right) within f) (kept .rest)
+  step-by (Action.New v q) h sound g =
+      let ac = acted final-0 s (a .0) k _ _ _ g in
+      let room = through final-0 Answer.NoRoom s _ _ (omega arith) (ac .rest) in
+      as-performed _ (room .rest) (NEW h (ac .test) (ltb-true _ _ (room .test)))
+  step-by (Action.Fork q r) h sound g = started (a .0) r q (λ j f. FORK h f) (acted final-0 s (a .0) k _ _ _ g .rest)
+
+-- a stop, and nothing else, is answered 1
+stop-by :
+    (s : Net) (a : Locality) (k : ℕ) (after : Net) (x : Action) (r : Picked) → Outcome s (a .0) k x r → Stands s a k x
+    → Gave Answer.Ended after r → Stop s a k after
+unfolding performed stopped unchanged numberOf
+stop-by s a k after _ _ (performs n) h g = let no = same-number g in absurd (omega arith)
+stop-by s a k after _ _ (refuses n l) h g = let no = same-number g in absurd (omega arith)
+stop-by s a k after _ _ ends h g = subst (Stop s a k) (ap (λ (x : Picked). x .net) (g .is)) (NIL h)
+
+-- ---- from the rule to the pick
+at-is : (aim : Aim) (f : Locality → Request) (l : Locality) → aim ≡ Aim.At l → at aim f ≡ f l
+unfolding at
+at-is aim f l e = rw e
+
+spoken-is :
+    (e : Evaluated) (aim : Aim) (f : Locality → Request) (l : Locality) → e .defined ≡ true → aim ≡ Aim.At l
+    → spoken e aim f ≡ f l
+unfolding spoken
+spoken-is e aim f l d p = choose-true _ _ _ d ∙ at-is aim f l p
+
+module _ (s : Net) (a : Locality) (k : ℕ) where
+  Does : Picked → Type 0
+  Does r = processStep s (a .0) k (processIn s a k) (instructionIn s a k) ≡ r
+
+  does :
+      (x : Action) (r : Request) → Stands s a k x
+      → asked a (processIn s a k) (templateIn s a k) x ≡ r
+      → isLack r ≡ false
+      → granted (rowIn s a) r ≡ true
+      → Does (done s (a .0) k (processIn s a k) (templateIn s a k) r)
+  unfolding Does processStep requestOf templateIn acting rowIn
+  does x r h e n g =
+      ap (acting s (a .0) k (processIn s a k) (templateIn s a k))
+      (ap (asked a (processIn s a k) (templateIn s a k)) (h .acts) ∙ e)
+      ∙ choose-false _ _ _ n
+      ∙ choose-true _ _ _ g
+
+  step-does : (after : Net) → Seat s a k → Step s a k after → Does (performed after)
+  unfolding Does asked isLack granted done out input inFound read readFound matchedOf boundAt eval fork create startedIn
+  step-does _ seat (OUT h p d g room) =
+      does _ _ h (spoken-is _ _ _ _ d (p .points)) refl g ∙ choose-true _ _ _ (lt-ltb _ _ room)
+  step-does _ seat (IN h p d g o) =
+      does _ _ h (spoken-is _ _ _ _ d (p .points)) refl g ∙ rw (oldest-is _ _ _ (few-stored s a k seat _ (p .exists)) o)
+  step-does _ seat (READ h p d g o) =
+      does _ _ h (spoken-is _ _ _ _ d (p .points)) refl g ∙ rw (oldest-is _ _ _ (few-stored s a k seat _ (p .exists)) o)
+  step-does _ seat (EVAL h p g within f) =
+      does _ _ h (at-is _ _ _ (p .points)) refl g
+      ∙ choose-true _ _ _ (within-keeps s (seat .ok) _ (sent-low s a k seat _ _ _ h) _ _ within)
+      ∙ rw (slot-is _ _ f)
+  step-does _ seat (NEW h g room) = does _ _ h refl refl g ∙ choose-true _ _ _ (lt-ltb _ _ room)
+  step-does _ seat (FORK h f) = does _ _ h refl refl refl ∙ rw (slot-is _ _ f)
+
+  stop-does : (after : Net) → Stop s a k after → Does (record { answer = Answer.Ended; net = after })
+  unfolding Does asked isLack granted done stopped
+  stop-does _ (NIL h) = does _ _ h refl refl refl
+
+  stands-busy : (after : Net) → Step s a k after → processIn s a k .busy ≡ true
+  stands-busy _ (OUT h p d g room) = h .busy
+  stands-busy _ (IN h p d g o) = h .busy
+  stands-busy _ (READ h p d g o) = h .busy
+  stands-busy _ (EVAL h p g within f) = h .busy
+  stands-busy _ (NEW h g room) = h .busy
+  stands-busy _ (FORK h f) = h .busy
+
+  stop-busy : (after : Net) → Stop s a k after → processIn s a k .busy ≡ true
+  stop-busy _ (NIL h) = h .busy
+
+-- ---- the claims
+seat-of : (s : Net) (b : ℕ) → soundOf s ≡ true → hostOf b < s .addresses → Seat s (record { 0 = hostOf b }) (slotOf b)
+unfolding slotOf
+seat-of s b sound used = record { ok = facts s sound; used = used; low = omega arith }
+
+pick-is :
+    (s : Net) (b : ℕ) → soundOf s ≡ true → spareOf b ≡ 0 → hostOf b < s .addresses
+    → processIn s (record { 0 = hostOf b }) (slotOf b) .busy ≡ true
+    → pickOf s b
+    ≡ processStep s (hostOf b) (slotOf b) (processIn s (record { 0 = hostOf b }) (slotOf b))
+    (instructionIn s (record { 0 = hostOf b }) (slotOf b))
+unfolding pickOf stepOf slotStep processIn instructionIn
+pick-is s b sound spare used busy =
+    choose-true _ _ _ sound ∙ choose-true _ _ _ (eq-eqb _ _ spare) ∙ choose-true _ _ _ (lt-ltb _ _ used)
+    ∙ choose-true _ _ _ busy
+
+stands-at :
+    (s : Net) (a : Locality) (k : ℕ) → processAt (nodeAt s (a .0)) k .busy ≡ true
+    → Stands s a k (instructionIn s a k .action)
+unfolding processIn
+stands-at s a k busy = record { busy = busy; acts = refl }
+
+pub picked-step :
+    (s : Net) (b : ℕ) (after : Net) → Gave Answer.Performed after (pickOf s b)
+    → Step s (record { 0 = hostOf b }) (slotOf b) after
+unfolding processIn instructionIn templateIn processStep requestOf
+picked-step s b after h =
+    let p = seated final-0 s b h in
+    let seat = seat-of s b (p .sound) (p .used) in
+    let stands = stands-at s (record { 0 = hostOf b }) (slotOf b) (p .busy) in
+    step-by s (record { 0 = hostOf b }) (slotOf b) after seat _ stands (sound-action s _ _ seat _ stands) (p .acts)
+
+pub stepIsPick : StepIsPick
+unfolding StepIsPick performed Does
+stepIsPick s sound b after = (
+  λ e.
+      let h : Gave Answer.Performed after (pickOf s b) = record { is = e } in
+      let p = seated final-0 s b h in
+      (p .spare, p .used, picked-step s b after h),
+  λ h.
+      let step = h .2 in
+      pick-is s b sound (h .0) (h .1) (stands-busy s _ _ after step)
+      ∙ step-does s _ _ after (seat-of s b sound (h .1)) step,
+)
+
+pub stopIsPick : StopIsPick
+unfolding StopIsPick Does processIn instructionIn templateIn processStep requestOf
+stopIsPick s sound b after = (
+  λ e.
+      let p = seated final-1 s b (record { is = e }) in (
+        p .spare,
+        p .used,
+        stop-by s (record { 0 = hostOf b }) (slotOf b) after _ _ (outcome s (record { 0 = hostOf b }) (slotOf b) _ _ _)
+            (stands-at s (record { 0 = hostOf b }) (slotOf b) (p .busy)) (p .acts),
+      ),
+  λ h. pick-is s b sound (h .0) (h .1) (stop-busy s _ _ after (h .2)) ∙ stop-does s _ _ after (h .2),
+)

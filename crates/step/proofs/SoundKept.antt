@@ -1,0 +1,175 @@
+-- The claim of `specs/SoundKept.antt`: every pick keeps a net sound. Each request that is within a sound net keeps the
+-- facts of `SoundFacts.antt` (`done-kept`), and an instruction of a sound net asks for no other (`SoundRequests.antt`).
+-- Assumes nothing.
+use Prim.Native.Nat.{ℕ, zero, suc, _<_}
+use mathlib.Core.Path.{_≡_, refl, sym, ap, _∙_}
+use mathlib.Core.Bool.{Bool, true}
+use mathlib.Core.List.{List}
+use native.Mathlib.Omega.{arith}
+use lib.ListN.{getD, set, List·getD-map}
+use lib.Seq.{map-set-same}
+use borrow.Author.Tests.{ltb-true}
+use Rattle.net.specs.Choice.{firstFrom, firstBelow}
+use Rattle.net.specs.Records.{processAt, nodeAt, tupleAt, withProcess, withNode, movedTo, freeProcess}
+use Rattle.net.specs.Matching.{oldestOf, boundAt, matchedOf}
+use Rattle.net.specs.Soundness.{tupleSound, instructionSound, soundOf}
+use Rattle.net.proofs.Laws.{both-l, choose-true}
+use Rattle.net.proofs.Every.{chosen, chosen-lt}
+use Rattle.step.specs.Types.{Place, Tuple, Process, Node, Slot, Instruction, Net, Evaluated, Found}
+use Rattle.step.specs.Answer.{Answer, Picked}
+use Rattle.step.specs.Request.{Request}
+use Rattle.step.specs.Pick.{hostOf, slotOf, unchanged, performed, withHost, stopped, out, inFound, input}
+use Rattle.step.specs.Pick.{readFound, read, startedIn, eval, fork, create, done, acting, processStep}
+use Rattle.step.specs.Pick.{slotStep, stepOf, pickOf}
+use Rattle.step.specs.Shape.{ShapedTuple, Shaped}
+use Rattle.step.specs.SoundKept.{SoundKept}
+use Rattle.step.proofs.SoundFacts.{Good, NetOk, sound-apart, ok-sound, ok-shaped}
+use Rattle.step.proofs.SoundChanges.{Running, running-apart, running-together, moved, copied, free}
+use Rattle.step.proofs.SoundChanges.{node-at, instruction-at, with-host, added-kept, taken-kept, created-kept}
+use Rattle.step.proofs.SoundRequests.{bound, RequestOk, request-ok}
+
+-- ---- the lowest number at which a test holds, or nothing
+module _ {A : Type 0} (Q : A → Type 0) (test : ℕ → Bool) (at : ℕ → A) (nothing : A) where
+  first-is : Q nothing → ((i : ℕ) → test i ≡ true → Q (at i)) → (k i : ℕ) → Q (firstFrom k i test at nothing)
+  unfolding firstFrom
+  first-is none found zero i = none
+  first-is none found (suc k) i = chosen Q (test i) _ _ (found i) (λ _. first-is none found k (suc i))
+
+FoundOk : Node → Found → Type 0
+FoundOk x (Found.At i) = i < x .stored
+FoundOk x Found.Nothing = Unit {0}
+
+oldest-ok : (x : Node) (e : Evaluated) → FoundOk x (oldestOf x e)
+unfolding FoundOk oldestOf firstBelow
+oldest-ok x e =
+    first-is (FoundOk x) _ Found.At Found.Nothing tt (λ i h. ltb-true i (x .stored) (both-l _ _ h)) 16 0
+
+-- ---- a change of a process leaves the tuple counts
+same-at :
+    {A : Type 0} (f : A → ℕ) (xs : List A) (a l : ℕ) (y d : A) → f y ≡ f (getD xs a d)
+    → f (getD (set xs a y) l d) ≡ f (getD xs l d)
+same-at f xs a l y d e =
+    sym (List·getD-map f (set xs a y) l d)
+    ∙ ap (λ (m : List ℕ). getD m l (f d)) (map-set-same f xs a y d e)
+    ∙ List·getD-map f xs l d
+
+stored-same : (s : Net) (a i l : ℕ) (p : Process) → nodeAt (withHost s a i p) l .stored ≡ nodeAt s l .stored
+unfolding withHost withNode withProcess nodeAt
+stored-same s a i l p = same-at (λ x. x .stored) (s .nodes) a l _ _ refl
+
+-- ---- an answer's net
+record Kept (r : Picked) : Type 0 where
+  net-ok : NetOk (r .net)
+
+same-kept : (s : Net) (x : Answer) → NetOk s → Kept (unchanged x s)
+unfolding unchanged
+same-kept s x ok = record { net-ok = ok }
+
+performed-kept : (s : Net) → NetOk s → Kept (performed s)
+unfolding performed
+performed-kept s ok = record { net-ok = ok }
+
+-- ---- each request, of the process p that runs at a in slot i
+module _
+    (s : Net) (ok : NetOk s) (a i : ℕ) (hosted : a < s .addresses) (p : Process)
+    (runs : Running (s .addresses) (s .length) p)
+  where
+    move-kept :
+        (r : Process) (q : Place) → Running (s .addresses) (s .length) r → q .0 < s .length
+        → NetOk (withHost s a i (movedTo r q))
+    move-kept r q g h = with-host s ok a i _ hosted (running-together _ _ _ (moved _ _ r q g h))
+
+    stopped-kept : Kept (stopped s a i)
+    unfolding stopped
+    stopped-kept = record { net-ok = with-host s ok a i freeProcess hosted (free _ _) }
+
+    out-kept :
+        (l : ℕ) (q : Place) (t : Tuple) → l < s .addresses → q .0 < s .length
+        → Good (tupleSound (s .addresses)) ShapedTuple t → Kept (out s a i p l q t)
+    unfolding out withHost withNode
+    out-kept l q t h g u =
+        chosen Kept _ _ _ (λ _. performed-kept _ (added-kept _ (move-kept p q runs g) l t h u)) (λ _. same-kept s _ ok)
+
+    bound-at :
+        (l j : ℕ) (e : Evaluated) → l < s .addresses → j < nodeAt s l .stored
+        → Running (s .addresses) (s .length) (boundAt (Found.At j) p (nodeAt s l) e)
+    unfolding boundAt tupleAt
+    bound-at l j e h g =
+        let x = node-at s ok l h in
+        bound _ _ p _ e runs (x .tuples-ok .holds j (omega (arith, x .room)) .used g .passes)
+
+    module _ (l : ℕ) (q : Place) (e : Evaluated) (reached : l < s .addresses) (next : q .0 < s .length) where
+      in-kept :
+          (f : Found) → FoundOk (nodeAt s l) f → Kept (inFound s a i l q f (boundAt f p (nodeAt s l) e))
+      unfolding inFound FoundOk withHost withNode
+      in-kept (Found.At j) h =
+          performed-kept _
+          (taken-kept _ (move-kept _ q (bound-at l j e reached h) next) l j reached (rw (stored-same s a i l) h))
+      in-kept Found.Nothing h = same-kept s _ ok
+
+      read-kept : (f : Found) → FoundOk (nodeAt s l) f → Kept (readFound s a i q f (boundAt f p (nodeAt s l) e))
+      unfolding readFound FoundOk
+      read-kept (Found.At j) h = performed-kept _ (move-kept _ q (bound-at l j e reached h) next)
+      read-kept Found.Nothing h = same-kept s _ ok
+
+      started-kept : (sent : Place) → sent .0 < s .length → (j : Slot) → Kept (startedIn s a i l p sent q j)
+      unfolding startedIn withHost withNode
+      started-kept sent h (Slot.Number j) =
+          performed-kept _
+          (with-host _ (move-kept p q runs next) l j _ reached (running-together _ _ _ (copied _ _ p sent runs h)))
+      started-kept sent h Slot.Full = same-kept s _ ok
+
+    create-kept : (v : ℕ) (q : Place) → q .0 < s .length → Kept (create s a i p v q)
+    unfolding create
+    create-kept v q h =
+        chosen-lt Kept (s .addresses) 16 _ _
+        (λ room. performed-kept _ (created-kept s ok a i p v q hosted room runs h)) (λ _. same-kept s _ ok)
+
+    done-kept : (e : Evaluated) (r : Request) → RequestOk (s .addresses) (s .length) e r → Kept (done s a i p e r)
+    unfolding done RequestOk input read matchedOf eval fork
+    done-kept e Request.Lack h = same-kept s _ ok
+    done-kept e Request.Stop h = stopped-kept
+    done-kept e (Request.Out l q) h = out-kept (l .0) q _ (h .0) (h .1) (h .2)
+    done-kept e (Request.In l q) h = in-kept (l .0) q e (h .0) (h .1) _ (oldest-ok _ e)
+    done-kept e (Request.Read l q) h = read-kept (l .0) q e (h .0) (h .1) _ (oldest-ok _ e)
+    done-kept e (Request.Eval l sent q) h =
+        chosen Kept _ _ _ (λ _. started-kept (l .0) q e (h .0) (h .2) sent (h .1) _) (λ _. same-kept s _ ok)
+    done-kept e (Request.New v q) h = create-kept v q h
+    done-kept e (Request.Fork q r) h = started-kept a q e hosted (h .0) r (h .1) _
+
+    step-kept :
+        (c : Instruction) → instructionSound (s .addresses) (s .length) c ≡ true → Kept (processStep s a i p c)
+    unfolding processStep acting
+    step-kept c h =
+        chosen Kept _ _ _ (λ _. same-kept s _ ok)
+        (λ _. chosen Kept _ _ _
+        (λ _. done-kept _ _ (request-ok (s .addresses) (s .length) (record { 0 = a }) p c hosted runs h))
+        (λ _. same-kept s _ ok))
+
+-- ---- a pick
+slot-below : (b : ℕ) → slotOf b < 4
+unfolding slotOf
+slot-below b = omega arith
+
+pick-kept : (s : Net) (b : ℕ) → NetOk s → Kept (stepOf s b)
+unfolding stepOf slotStep processAt
+pick-kept s b ok =
+    chosen Kept _ _ _
+    (λ _. chosen-lt Kept (hostOf b) (s .addresses) _ _
+    (λ hosted. chosen Kept _ _ _
+    (λ busy.
+    let node-ok = node-at s ok (hostOf b) hosted in
+    let runs = running-apart _ _ _ (node-ok .processes-ok .holds (slotOf b) (slot-below b)) busy in
+    step-kept s ok (hostOf b) (slotOf b) hosted _ runs _ (instruction-at s ok _ (runs .place)))
+    (λ _. same-kept s _ ok)) (λ _. same-kept s _ ok)) (λ _. same-kept s _ ok)
+
+pub step-sound-kept :
+    (s : Net) (b : ℕ) → Shaped s → soundOf s ≡ true
+    → (soundOf (stepOf s b .net) ≡ true) × Shaped (stepOf s b .net)
+step-sound-kept s b shaped sound =
+    let ok = pick-kept s b (sound-apart s shaped sound) .net-ok in
+    (ok-sound _ ok, ok-shaped _ ok)
+
+pub sound-kept : SoundKept
+unfolding SoundKept pickOf
+sound-kept s b h shaped sound = rw choose-true (step-sound-kept s b shaped sound)

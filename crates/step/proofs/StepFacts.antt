@@ -1,0 +1,89 @@
+-- What a step may rest on in a sound net: counts in range, places below the code length, and targets that exist.
+-- Assumes nothing.
+use Prim.Native.Nat.{ℕ, _<_, _≤_}
+use mathlib.Core.Path.{_≡_, sym, _∙_}
+use mathlib.Core.Bool.{Bool, true}
+use native.Mathlib.Omega.{arith}
+use lib.Dec.{ltb}
+use borrow.Author.Tests.{ltb-true, leb-true, lt-ltb}
+use Rattle.net.specs.Choice.{choose}
+use Rattle.net.specs.Records.{variableAt, processAt, nodeAt, instructionAt}
+use Rattle.net.specs.Reaching.{Follows, out-next, in-next, read-next, eval-next, new-next, fork-first, fork-second}
+use Rattle.net.specs.Soundness.{inRange, valueSound, processSound, tuplesSound, nodeSound, targetSound, actionSound}
+use Rattle.net.specs.Soundness.{instructionSound, nodesSound, codeSound, soundOf}
+use Rattle.net.proofs.Laws.{both-l, both-r, all-e, choose-true}
+use Rattle.step.specs.Request.{Aim, aimOf, targetOf}
+use Rattle.step.specs.Types.{Locality, Place, Value, Process, Node, Target, Action, Net}
+
+high : (low x top : ℕ) → inRange low x top ≡ true → x ≤ top
+unfolding inRange
+high low x top h = leb-true x top (both-r _ _ h)
+
+used : (a b : ℕ) (x y : Bool) → choose (ltb a b) x y ≡ true → a < b → x ≡ true
+used a b x y h l = sym (choose-true _ x y (lt-ltb a b l)) ∙ h
+
+-- ---- the net
+pub record Facts (s : Net) : Type 0 where
+  pub few : s .addresses ≤ 16
+  pub short : s .length ≤ 512
+  pub nodes : (a : ℕ) → a < s .addresses → nodeSound (s .addresses) (s .length) (nodeAt s a) ≡ true
+  pub actions :
+      (p : ℕ) → p < s .length → actionSound (s .addresses) (s .length) (instructionAt (s .code) p .action) ≡ true
+
+pub facts : (s : Net) → soundOf s ≡ true → Facts s
+unfolding soundOf nodesSound codeSound instructionSound
+facts s h =
+    let few : s .addresses ≤ 16 = high 1 _ 16 (both-l _ _ (both-l _ _ h)) in
+    let short : s .length ≤ 512 = high 1 _ 512 (both-r _ _ (both-l _ _ h)) in
+    record {
+      few = few;
+      short = short;
+      nodes = λ a l. used a _ _ _ (all-e 16 _ (both-l _ _ (both-r _ _ h)) a (omega arith)) l;
+      actions = λ p l. both-l _ _ (used p _ _ _ (all-e 512 _ (both-r _ _ (both-r _ _ h)) p (omega arith)) l);
+    }
+
+-- ---- a node
+pub stored-few : (n k : ℕ) (x : Node) → nodeSound n k x ≡ true → x .stored ≤ 16
+unfolding nodeSound tuplesSound
+stored-few n k x h = leb-true _ _ (both-l _ _ (both-r _ _ (both-r _ _ h)))
+
+pub record Running (n k : ℕ) (p : Process) : Type 0 where
+  pub placed : p .at .0 < k
+  pub values : (v : ℕ) → v < 8 → valueSound n (variableAt p v) ≡ true
+
+pub running :
+    (n k : ℕ) (x : Node) (i : ℕ) → nodeSound n k x ≡ true → i < 4 → processAt x i .busy ≡ true
+    → Running n k (processAt x i)
+unfolding nodeSound processSound
+running n k x i h l b =
+    let sound : processSound n k (processAt x i) ≡ true = all-e 4 _ (both-l _ _ (both-r _ _ h)) i l in
+    let full = sym (choose-true _ _ _ b) ∙ sound in
+    record {
+      placed = ltb-true _ _ (both-l _ _ full);
+      values = all-e 8 _ (both-r _ _ full);
+    }
+
+-- ---- targets and next places
+held-exists : (n : ℕ) (x : Value) (l : Locality) → valueSound n x ≡ true → aimOf x ≡ Aim.At l → l .0 < n
+unfolding valueSound aimOf
+held-exists n Value.Unset l h e = let z : _≡_ {A = ℕ} 0 1 = cc in absurd (omega arith)
+held-exists n (Value.Reading x) l h e = let z : _≡_ {A = ℕ} 0 1 = cc in absurd (omega arith)
+held-exists n (Value.Address m) l h e = let same : m ≡ l = cc in rw (← same) (ltb-true _ _ h)
+
+pub target-exists :
+    (n k : ℕ) (a : Locality) (p : Process) (t : Target) (l : Locality)
+    → a .0 < n → Running n k p → targetSound n t ≡ true → targetOf a p t ≡ Aim.At l → l .0 < n
+unfolding targetSound targetOf
+target-exists n k a p (Target.Written m) l h r g e = let same : m ≡ l = cc in rw (← same) (ltb-true _ _ g)
+target-exists n k a p Target.Own l h r g e = let same : a ≡ l = cc in rw (← same) h
+target-exists n k a p (Target.Held v) l h r g e = held-exists n (variableAt p v) l (r .values v (ltb-true _ _ g)) e
+
+pub follow-low : (n k : ℕ) (q : Place) (x : Action) → Follows q x → actionSound n k x ≡ true → q .0 < k
+unfolding actionSound
+follow-low n k q _ out-next h = ltb-true _ _ (both-r _ _ h)
+follow-low n k q _ in-next h = ltb-true _ _ (both-r _ _ h)
+follow-low n k q _ read-next h = ltb-true _ _ (both-r _ _ h)
+follow-low n k q _ eval-next h = ltb-true _ _ (both-r _ _ (both-r _ _ h))
+follow-low n k q _ new-next h = ltb-true _ _ (both-r _ _ h)
+follow-low n k q _ fork-first h = ltb-true _ _ (both-l _ _ h)
+follow-low n k q _ fork-second h = ltb-true _ _ (both-r _ _ h)

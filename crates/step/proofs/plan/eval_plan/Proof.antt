@@ -1,0 +1,16 @@
+-- `step::plan::eval_plan` meets its contract. Assumes nothing.
+use Rattle.net.proofs.Laws.{branches}
+use Rattle.step.specs.Plan.{evalPlan}
+use borrow.Author.Needs.{needs}
+use Rattle.step.proofs.plan.eval_plan.Statement.{statement}
+use Rattle.step.proofs.plan.eval_plan.Tie as tie
+
+pub eval-plan-spec : {M : Type 1} → statement M
+unfolding evalPlan
+eval-plan-spec =
+    tie.close
+    (tie.spec
+    (λ c κs. search needs)
+    (λ c κs. search needs)
+    (λ c. search (needs, branches))
+    (λ c. search (needs, branches)))

@@ -1,0 +1,36 @@
+-- `step::plan::granted_plan` meets its contract. Assumes nothing.
+use Rattle.step.specs.Plan.{donePlan}
+use Rattle.step.proofs.StepLaws.{by7}
+use borrow.Author.Needs.{needs}
+use Rattle.step.proofs.plan.granted_plan.Statement.{statement}
+use Rattle.step.proofs.plan.granted_plan.Tie as tie
+
+pub granted-plan-spec : {M : Type 1} → statement M
+unfolding donePlan
+granted-plan-spec =
+    tie.close
+    (tie.spec
+    (λ c. search needs)
+    (λ c κs. search needs)
+    (λ c. search needs)
+    (λ c κs. search needs)
+    (λ c. search needs)
+    (λ c κs. search needs)
+    (λ c. search needs)
+    (λ c κs. search needs)
+    (λ c. search needs)
+    (λ c κs. search needs)
+    (λ c. search needs)
+    (λ c κs. search needs)
+    (λ c. search needs)
+    (λ c κs. search needs)
+    (λ c. search needs)
+    (λ c κs. search needs)
+    (λ c. search (needs, by7 donePlan))
+    (λ c. search (needs, by7 donePlan))
+    (λ c. search (needs, by7 donePlan))
+    (λ c. search (needs, by7 donePlan))
+    (λ c. search (needs, by7 donePlan))
+    (λ c. search (needs, by7 donePlan))
+    (λ c. search (needs, by7 donePlan))
+    (λ c. search (needs, by7 donePlan)))

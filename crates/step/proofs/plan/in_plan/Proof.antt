@@ -1,0 +1,19 @@
+-- `step::plan::in_plan` meets its contract. Assumes nothing.
+use Rattle.step.proofs.StepLaws.{by-third, going-as}
+use Rattle.step.specs.Plan.{inPlan}
+use borrow.Author.Needs.{needs}
+use Rattle.step.proofs.plan.in_plan.Statement.{statement}
+use Rattle.step.proofs.plan.in_plan.Tie as tie
+
+pub in-plan-spec : {M : Type 1} → statement M
+unfolding inPlan
+in-plan-spec =
+    tie.close
+    (tie.spec
+    (λ c. search needs)
+    (λ c κs. search needs)
+    (λ c κs. search needs)
+    (λ c. search needs)
+    (λ c κs. search needs)
+    (λ c. search (needs, by-third inPlan, going-as))
+    (λ c. search (needs, by-third inPlan, going-as)))

@@ -1,0 +1,19 @@
+-- `step::plan::out_plan` meets its contract. Assumes nothing.
+use Rattle.net.proofs.Laws.{if-lt, if-not-lt}
+use Rattle.step.proofs.StepLaws.{going-as}
+use Rattle.step.specs.Plan.{outPlan}
+use borrow.Author.Needs.{needs}
+use Rattle.step.proofs.plan.out_plan.Statement.{statement}
+use Rattle.step.proofs.plan.out_plan.Tie as tie
+
+pub out-plan-spec : {M : Type 1} → statement M
+unfolding outPlan
+out-plan-spec =
+    tie.close
+    (tie.spec
+    (λ c κs. search needs)
+    (λ c κs. search needs)
+    (λ c κs. search needs)
+    (λ c κs. search needs)
+    (λ c. search (needs, if-lt, if-not-lt, going-as))
+    (λ c. search (needs, if-lt, if-not-lt, going-as)))

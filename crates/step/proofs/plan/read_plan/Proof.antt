@@ -1,0 +1,19 @@
+-- `step::plan::read_plan` meets its contract. Assumes nothing.
+use Rattle.step.proofs.StepLaws.{by-third, going-as}
+use Rattle.step.specs.Plan.{readPlan}
+use borrow.Author.Needs.{needs}
+use Rattle.step.proofs.plan.read_plan.Statement.{statement}
+use Rattle.step.proofs.plan.read_plan.Tie as tie
+
+pub read-plan-spec : {M : Type 1} → statement M
+unfolding readPlan
+read-plan-spec =
+    tie.close
+    (tie.spec
+    (λ c. search needs)
+    (λ c κs. search needs)
+    (λ c κs. search needs)
+    (λ c. search needs)
+    (λ c κs. search needs)
+    (λ c. search (needs, by-third readPlan, going-as))
+    (λ c. search (needs, by-third readPlan, going-as)))

@@ -1,0 +1,18 @@
+-- `step::request::aim_at` meets its contract. Assumes nothing.
+use Rattle.step.proofs.StepLaws.{by}
+use Rattle.step.specs.Request.{aimOf}
+use borrow.Author.Needs.{needs}
+use Rattle.step.proofs.request.aim_at.Statement.{statement}
+use Rattle.step.proofs.request.aim_at.Tie as tie
+
+pub aim-at-spec : {M : Type 1} → statement M
+unfolding aimOf
+aim-at-spec =
+    tie.close
+    (tie.spec
+    (λ c. search needs)
+    (λ c. search needs)
+    (λ c. search needs)
+    (λ c. search (needs, by aimOf))
+    (λ c. search (needs, by aimOf))
+    (λ c. search (needs, by aimOf)))

@@ -1,0 +1,155 @@
+-- The rules from outside (document 01, "One pick", "Reaching and rights"; document 004, sections 2.1 to 2.3): the steps
+-- that the process in slot k of address a can make in the net s, as a relation between the net before and the net
+-- after, with one rule for each action. A rule has no order of tests: it says what has to hold, and what the net is
+-- then. Document 004 lets a step choose any tuple that matches and any address not in use; document 01 takes the oldest
+-- tuple and the lowest address, and adds rights, room and the rule for sent code.
+use Prim.Native.Nat.{ℕ, _<_}
+use mathlib.Core.Path.{_≡_}
+use mathlib.Core.Logic.{_↔_}
+use mathlib.Core.Bool.{true, false}
+use mathlib.Core.List.{List}
+use Rattle.net.specs.Records.{processAt, tupleAt, nodeAt, instructionAt, movedTo, copiedTo, freeProcess}
+use Rattle.net.specs.Matching.{evaluatedOf, fitsOf, boundOf}
+use Rattle.net.specs.Reaching.{Reaches}
+use Rattle.net.specs.Keeping.{mayTake, mayRead, mayPut, maySend, mayCreate, permits}
+use Rattle.net.specs.Soundness.{soundOf}
+use Rattle.step.specs.Answer.{Answer}
+use Rattle.step.specs.Request.{Aim, targetOf}
+use Rattle.step.specs.Pick.{hostOf, slotOf, spareOf, pickOf, withHost, added, taken, created, tupleOf}
+use Rattle.step.specs.Types.{Locality, Place, Row, Process, Node, Target, Action, Instruction, Evaluated, Net}
+
+-- ---- what the rules speak of
+
+-- the process in slot k of address a, the instruction at its place, and that instruction's template, evaluated
+unfoldable pub processIn : Net → Locality → ℕ → Process
+processIn s a k = processAt (nodeAt s (a .0)) k
+
+unfoldable pub instructionIn : Net → Locality → ℕ → Instruction
+instructionIn s a k = instructionAt (s .code) (processIn s a k .at .0)
+
+unfoldable pub templateIn : Net → Locality → ℕ → Evaluated
+templateIn s a k = evaluatedOf a (processIn s a k) (instructionIn s a k)
+
+-- the row of the hosting node
+unfoldable pub rowIn : Net → Locality → Row
+rowIn s a = nodeAt s (a .0) .row
+
+-- ---- premises
+
+-- the slot is busy, and the action is the one at the place of its process
+pub record Stands (s : Net) (a : Locality) (k : ℕ) (action : Action) : Type 0 where
+  pub busy : processIn s a k .busy ≡ true
+  pub acts : instructionIn s a k .action ≡ action
+
+-- the target points to l, and the node l exists (document 004, section 2.1, asks for that in every rule)
+pub record Points (s : Net) (a : Locality) (k : ℕ) (t : Target) (l : Locality) : Type 0 where
+  pub points : targetOf a (processIn s a k) t ≡ Aim.At l
+  pub exists : l .0 < s .addresses
+
+-- the tuple at place i of the node fits, and no older one does
+pub record OldestThatFits (x : Node) (e : Evaluated) (i : ℕ) : Type 0 where
+  pub present : i < x .stored
+  pub fits : fitsOf (tupleAt x i) e ≡ true
+  pub oldest : (j : ℕ) → j < i → fitsOf (tupleAt x j) e ≡ false
+
+-- slot j of the node is free, and every lower one is busy
+pub record LowestFree (x : Node) (j : ℕ) : Type 0 where
+  pub slot : j < 4
+  pub free : processAt x j .busy ≡ false
+  pub lowest : (i : ℕ) → i < j → processAt x i .busy ≡ true
+
+-- the code from the place `sent` keeps within the row of l: each instruction reached has its right
+pub record KeepsWithin (code : List Instruction) (sent : Place) (l : Locality) (row : Row) : Type 0 where
+  pub permitted : (q : Place) → Reaches code sent q → permits row l (instructionAt code (q .0) .action) ≡ true
+
+-- ---- the rules. Above each stands the rule of document 004, in which l :: P is the process P at address l; nodes that
+-- stay as they are are left out of it
+pub data Step (s : Net) (a : Locality) (k : ℕ) : Net → Type 0 where
+  -- l :: out(t)@l′.P ∥ l′ :: P′ ↣ l :: P ∥ l′ :: P′ ∥ l′ :: ⟨et⟩, where t evaluates to et.
+  -- The tuple is the newest at its target, which has room for it
+  OUT :
+      {t : Target} {q : Place} {l : Locality}
+      → Stands s a k (Action.Out t q)
+      → Points s a k t l
+      → templateIn s a k .defined ≡ true
+      → mayPut (rowIn s a) l ≡ true
+      → nodeAt s (l .0) .stored < 16
+      → Step s a k (added (withHost s (a .0) k (movedTo (processIn s a k) q)) (l .0) (tupleOf (templateIn s a k)))
+  -- l :: in(T)@l′.P ∥ l′ :: ⟨et⟩ ↣ l :: Pσ ∥ l′ :: nil, where T evaluated matches et with the substitution σ.
+  -- The tuple is the oldest that fits, and σ sets the formals
+  IN :
+      {t : Target} {q : Place} {l : Locality} {i : ℕ}
+      → Stands s a k (Action.In t q)
+      → Points s a k t l
+      → templateIn s a k .defined ≡ true
+      → mayTake (rowIn s a) l ≡ true
+      → OldestThatFits (nodeAt s (l .0)) (templateIn s a k) i
+      → Step s a k
+      (taken
+      (withHost s (a .0) k
+      (movedTo (boundOf (processIn s a k) (tupleAt (nodeAt s (l .0)) i) (templateIn s a k)) q))
+      (l .0)
+      i)
+  -- l :: read(T)@l′.P ∥ l′ :: ⟨et⟩ ↣ l :: Pσ ∥ l′ :: ⟨et⟩, where T evaluated matches et with the substitution σ
+  READ :
+      {t : Target} {q : Place} {l : Locality} {i : ℕ}
+      → Stands s a k (Action.Read t q)
+      → Points s a k t l
+      → templateIn s a k .defined ≡ true
+      → mayRead (rowIn s a) l ≡ true
+      → OldestThatFits (nodeAt s (l .0)) (templateIn s a k) i
+      → Step s a k
+      (withHost s (a .0) k
+      (movedTo (boundOf (processIn s a k) (tupleAt (nodeAt s (l .0)) i) (templateIn s a k)) q))
+  -- l :: eval(Q)@l′.P ∥ l′ :: P′ ↣ l :: P ∥ l′ :: P′ | Q.
+  -- Q is the code at the sent place, judged by the row of l′; it has a copy of the variables
+  EVAL :
+      {t : Target} {sent q : Place} {l : Locality} {j : ℕ}
+      → Stands s a k (Action.Eval t sent q)
+      → Points s a k t l
+      → maySend (rowIn s a) l ≡ true
+      → KeepsWithin (s .code) sent l (nodeAt s (l .0) .row)
+      → LowestFree (nodeAt s (l .0)) j
+      → Step s a k
+      (withHost (withHost s (a .0) k (movedTo (processIn s a k) q)) (l .0) j (copiedTo (processIn s a k) sent))
+  -- L ⊢ l :: newloc(u).P ↣ L ∪ {l′} ⊢ l :: P[l′/u] ∥ l′ :: nil, where l′ is not in L.
+  -- L holds the addresses in use, and l′ is the lowest other one
+  NEW :
+      {v : ℕ} {q : Place}
+      → Stands s a k (Action.New v q)
+      → mayCreate (rowIn s a) ≡ true
+      → s .addresses < 16
+      → Step s a k (created s (a .0) k (processIn s a k) v q)
+  -- l :: P₁ | P₂ ≡ l :: P₁ ∥ l :: P₂, the law (CLONE), from left to right.
+  -- P₁ stays in its slot, and P₂ has a copy of the variables
+  FORK :
+      {q r : Place} {j : ℕ}
+      → Stands s a k (Action.Fork q r)
+      → LowestFree (nodeAt s (a .0)) j
+      → Step s a k
+      (withHost (withHost s (a .0) k (movedTo (processIn s a k) q)) (a .0) j (copiedTo (processIn s a k) r))
+
+-- l :: P | nil ≡ l :: P, the law (ABS), from left to right: a process that ends, whose slot is freed
+pub data Stop (s : Net) (a : Locality) (k : ℕ) : Net → Type 0 where
+  NIL : Stands s a k Action.Stop → Stop s a k (withHost s (a .0) k freeProcess)
+
+-- ---- the claims (demand 2, "A pick performs a step when document 01's rules, taken from µKLAIM, allow that step, and
+-- only then"). They hold for every byte: one that is not well formed, or of an unused address, allows no step.
+
+-- a pick of a sound net is answered 0 and leaves a net when a rule allows the step to that net, and only then
+unfoldable pub StepIsPick : Type 0
+StepIsPick =
+    (s : Net)
+    → soundOf s ≡ true
+    → (b : ℕ) (after : Net)
+    → (pickOf s b ≡ record { answer = Answer.Performed; net = after })
+    ↔ ((spareOf b ≡ 0) × (hostOf b < s .addresses) × Step s (record { 0 = hostOf b }) (slotOf b) after)
+
+-- and it is answered 1 and leaves a net when the process ends so, and only then
+unfoldable pub StopIsPick : Type 0
+StopIsPick =
+    (s : Net)
+    → soundOf s ≡ true
+    → (b : ℕ) (after : Net)
+    → (pickOf s b ≡ record { answer = Answer.Ended; net = after })
+    ↔ ((spareOf b ≡ 0) × (hostOf b < s .addresses) × Stop s (record { 0 = hostOf b }) (slotOf b) after)
