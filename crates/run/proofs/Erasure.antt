@@ -1,0 +1,208 @@
+-- The tenant rule of one net, by erasure: a pick outside the tenant commutes with the view, and a pick of a tenant's
+-- address leaves the view as it was.
+-- Assumes nothing.
+use Prim.Native.Nat.{ℕ}
+use mathlib.Core.Path.{_≡_, refl, ap, _∙_}
+use mathlib.Core.Bool.{Bool, true, false}
+use Rattle.net.specs.Choice.{choose}
+use Rattle.net.specs.Records.{nodeAt, rightsAt, noRights}
+use Rattle.net.specs.Keeping.{mayTake, mayRead, mayPut, maySend, mayCreate}
+use Rattle.net.proofs.Every.{chosen}
+use Rattle.step.specs.Request.{granted}
+use Rattle.step.specs.Pick.{hostOf, unchanged, performed, withHost, stopped, added, out, taken, inFound, input}
+use Rattle.step.specs.Pick.{readFound, read, startedIn, eval, fork, created, create, done, acting}
+use Rattle.step.specs.Pick.{processStep, slotStep, stepOf}
+use Rattle.run.specs.Types.{Place, Tuple, Process, Slot, Net, Evaluated, Found, Request, Answer}
+use Rattle.run.specs.Types.{Rights, Picked}
+use Rattle.run.proofs.View.{view, view-addresses, view-code, view-node, view-out, view-in, view-opened}
+use Rattle.run.proofs.View.{seen, seen-choose, seen-unchanged, seen-performed}
+use Rattle.run.proofs.Fence.{Fence, tested, never, new-outside}
+
+-- the sides of a choice may be equal under its test only
+choose-both : {A : Type 0} (b : Bool) (x x′ y y′ : A) → (b ≡ true → x ≡ x′) → y ≡ y′ → choose b x y ≡ choose b x′ y′
+unfolding choose
+choose-both true x x′ y y′ f e = f refl
+choose-both false x x′ y y′ f e = e
+
+module _ (tenant : ℕ → Bool) where
+  -- ---- changes outside the tenant
+  host-out :
+      (s : Net) (a k : ℕ) (p : Process) → tenant a ≡ false
+      → view tenant (withHost s a k p) ≡ withHost (view tenant s) a k p
+  unfolding withHost
+  host-out s a k p h = simp (view-out, view-node)
+
+  added-out :
+      (s : Net) (l : ℕ) (t : Tuple) → tenant l ≡ false → view tenant (added s l t) ≡ added (view tenant s) l t
+  unfolding added
+  added-out s l t h = simp (view-out, view-node)
+
+  taken-out : (s : Net) (l i : ℕ) → tenant l ≡ false → view tenant (taken s l i) ≡ taken (view tenant s) l i
+  unfolding taken
+  taken-out s l i h = simp (view-out, view-node)
+
+  created-out :
+      (s : Net) (a k : ℕ) (p : Process) (v : ℕ) (q : Place) → tenant a ≡ false → tenant (s .addresses) ≡ false
+      → view tenant (created s a k p v q) ≡ created (view tenant s) a k p v q
+  unfolding created
+  created-out s a k p v q h g = simp (view-out, view-node, view-opened, view-addresses)
+
+  ruleset outward = (
+    seen-choose,
+    seen-unchanged,
+    seen-performed,
+    host-out,
+    added-out,
+    taken-out,
+    created-out,
+    view-node,
+    view-code,
+    view-addresses,
+  )
+
+  -- ---- a pick outside the tenant
+  module _ (s : Net) (f : Fence tenant s) (a k : ℕ) (o : tenant a ≡ false) where
+    -- the target of a right that an outside row has is outside
+    target-out :
+        (l : ℕ) (right : Rights → Bool) → right noRights ≡ false → right (rightsAt (nodeAt s a .row) l) ≡ true
+        → tenant l ≡ false
+    target-out l right n h =
+        tested (tenant l) (λ t. never _ h (ap right (f .rows a .outside l o t) ∙ n)) (λ t. t)
+
+    in-out :
+        (l : ℕ) (q : Place) (i : Found) (p : Process) → tenant l ≡ false
+        → seen tenant (inFound s a k l q i p) ≡ inFound (view tenant s) a k l q i p
+    unfolding inFound
+    in-out l q (Found.At i) p h = simp outward
+    in-out l q Found.Nothing p h = simp outward
+
+    read-out :
+        (q : Place) (i : Found) (p : Process)
+        → seen tenant (readFound s a k q i p) ≡ readFound (view tenant s) a k q i p
+    unfolding readFound
+    read-out q (Found.At i) p = simp outward
+    read-out q Found.Nothing p = simp outward
+
+    started-out :
+        (l : ℕ) (p : Process) (sent q : Place) (j : Slot) → tenant l ≡ false
+        → seen tenant (startedIn s a k l p sent q j) ≡ startedIn (view tenant s) a k l p sent q j
+    unfolding startedIn
+    started-out l p sent q (Slot.Number j) h = simp outward
+    started-out l p sent q Slot.Full h = simp outward
+
+    stopped-out : seen tenant (stopped s a k) ≡ stopped (view tenant s) a k
+    unfolding stopped seen
+    stopped-out = simp outward
+
+    done-out :
+        (p : Process) (e : Evaluated) (r : Request) → granted (nodeAt s a .row) r ≡ true
+        → seen tenant (done s a k p e r) ≡ done (view tenant s) a k p e r
+    unfolding done granted out input read eval create fork mayTake mayRead mayPut maySend noRights
+    done-out p e Request.Lack h = simp outward
+    done-out p e Request.Stop h = stopped-out
+    done-out p e (Request.Out l q) h =
+        let t : tenant (l .0) ≡ false = target-out (l .0) (λ x. x .put) refl h in simp outward
+    done-out p e (Request.In l q) h =
+        let t : tenant (l .0) ≡ false = target-out (l .0) (λ x. x .take) refl h in simp (outward, in-out)
+    done-out p e (Request.Read l q) h =
+        let t : tenant (l .0) ≡ false = target-out (l .0) (λ x. x .read) refl h in simp (outward, read-out)
+    done-out p e (Request.Eval l sent q) h =
+        let t : tenant (l .0) ≡ false = target-out (l .0) (λ x. x .send) refl h in simp (outward, started-out)
+    done-out p e (Request.New v q) h = let t = new-outside tenant s f in simp outward
+    done-out p e (Request.Fork q r) h = simp (outward, started-out)
+
+    acting-out :
+        (p : Process) (e : Evaluated) (r : Request)
+        → seen tenant (acting s a k p e r) ≡ acting (view tenant s) a k p e r
+    unfolding acting
+    acting-out p e r =
+        simp outward
+        (choose-both _ _ _ _ _ (λ _. refl) (choose-both _ _ _ _ _ (λ h. done-out p e r h) refl))
+
+    slot-out : seen tenant (slotStep s a k) ≡ slotStep (view tenant s) a k
+    unfolding slotStep processStep
+    slot-out = simp (outward, acting-out)
+
+  pub step-out :
+      (s : Net) (b : ℕ) → Fence tenant s → tenant (hostOf b) ≡ false
+      → seen tenant (stepOf s b) ≡ stepOf (view tenant s) b
+  unfolding stepOf
+  step-out s b f o = simp (outward, slot-out s f)
+
+  -- ---- a pick of the tenant
+  host-in : (s : Net) (a k : ℕ) (p : Process) → tenant a ≡ true → view tenant (withHost s a k p) ≡ view tenant s
+  unfolding withHost
+  host-in s a k p h = simp view-in
+
+  added-in : (s : Net) (l : ℕ) (t : Tuple) → tenant l ≡ true → view tenant (added s l t) ≡ view tenant s
+  unfolding added
+  added-in s l t h = simp view-in
+
+  taken-in : (s : Net) (l i : ℕ) → tenant l ≡ true → view tenant (taken s l i) ≡ view tenant s
+  unfolding taken
+  taken-in s l i h = simp view-in
+
+  record Unseen (s : Net) (r : Picked) : Type 0 where
+    same : view tenant (r .net) ≡ view tenant s
+
+  unseen-unchanged : (s : Net) (w : Answer) → Unseen s (unchanged w s)
+  unfolding unchanged
+  unseen-unchanged s w = record { same = refl }
+
+  unseen-performed : (s t : Net) → view tenant t ≡ view tenant s → Unseen s (performed t)
+  unfolding performed
+  unseen-performed s t e = record { same = e }
+
+  ruleset inward = (host-in, added-in, taken-in)
+
+  module _ (s : Net) (f : Fence tenant s) (a k : ℕ) (o : tenant a ≡ true) where
+    target-in :
+        (l : ℕ) (x : Bool) → x ≡ true → (tenant l ≡ false → x ≡ false) → tenant l ≡ true
+    target-in l x h g = tested (tenant l) (λ t. t) (λ t. never x h (g t))
+
+    in-in : (l : ℕ) (q : Place) (i : Found) (p : Process) → tenant l ≡ true → Unseen s (inFound s a k l q i p)
+    unfolding inFound
+    in-in l q (Found.At i) p h = unseen-performed s _ (simp inward)
+    in-in l q Found.Nothing p h = unseen-unchanged s _
+
+    read-in : (q : Place) (i : Found) (p : Process) → Unseen s (readFound s a k q i p)
+    unfolding readFound
+    read-in q (Found.At i) p = unseen-performed s _ (simp inward)
+    read-in q Found.Nothing p = unseen-unchanged s _
+
+    started-in :
+        (l : ℕ) (p : Process) (sent q : Place) (j : Slot) → tenant l ≡ true → Unseen s (startedIn s a k l p sent q j)
+    unfolding startedIn
+    started-in l p sent q (Slot.Number j) h = unseen-performed s _ (simp inward)
+    started-in l p sent q Slot.Full h = unseen-unchanged s _
+
+    done-in :
+        (p : Process) (e : Evaluated) (r : Request) → granted (nodeAt s a .row) r ≡ true → Unseen s (done s a k p e r)
+    unfolding done granted stopped out input read eval create fork mayTake mayRead mayPut maySend mayCreate
+    done-in p e Request.Lack h = unseen-unchanged s _
+    done-in p e Request.Stop h = record { same = host-in s a k _ o }
+    done-in p e (Request.Out l q) h =
+        let t : tenant (l .0) ≡ true = target-in (l .0) _ h (f .rows a .no-put (l .0) o) in
+        chosen (Unseen s) _ _ _ (λ _. unseen-performed s _ (simp inward)) (λ _. unseen-unchanged s _)
+    done-in p e (Request.In l q) h = in-in _ q _ _ (target-in (l .0) _ h (f .rows a .no-take (l .0) o))
+    done-in p e (Request.Read l q) h = read-in q _ _
+    done-in p e (Request.Eval l sent q) h =
+        chosen (Unseen s) _ _ _
+        (λ _. started-in _ p sent q _ (target-in (l .0) _ h (f .rows a .no-send (l .0) o)))
+        (λ _. unseen-unchanged s _)
+    done-in p e (Request.New v q) h = never _ h (f .rows a .no-creation o)
+    done-in p e (Request.Fork q r) h = started-in a p r q _ o
+
+  step-unseen : (s : Net) (b : ℕ) → Fence tenant s → tenant (hostOf b) ≡ true → Unseen s (stepOf s b)
+  unfolding stepOf slotStep processStep acting
+  step-unseen s b f o =
+      chosen (Unseen s) _ _ _
+      (λ _. chosen (Unseen s) _ _ _
+      (λ _. chosen (Unseen s) _ _ _
+      (λ _. chosen (Unseen s) _ _ _ (λ _. unseen-unchanged s _)
+      (λ _. chosen (Unseen s) _ _ _ (λ h. done-in s f _ _ o _ _ _ h) (λ _. unseen-unchanged s _)))
+      (λ _. unseen-unchanged s _)) (λ _. unseen-unchanged s _)) (λ _. unseen-unchanged s _)
+
+  pub step-in :
+      (s : Net) (b : ℕ) → Fence tenant s → tenant (hostOf b) ≡ true → view tenant (stepOf s b .net) ≡ view tenant s
+  step-in s b f o = step-unseen s b f o .same

@@ -1,0 +1,7 @@
+pub mod Erasure
+pub mod Fence
+pub mod TenantOfNets
+pub mod TenantRule
+pub mod View
+pub mod Whole
+pub mod Yields

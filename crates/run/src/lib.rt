@@ -1,0 +1,1 @@
+// Runs over many picks, above the crate `step`.
