@@ -1,5 +1,5 @@
-//! A net as the program `inspect` dumps it (the layout stands in
-//! crates/inspect/src/dump.rt), and what that program makes of images.
+//! A net as the programs `inspect` and `replay` dump it (the layout stands
+//! in crates/dump/src/lib.rt), and what `inspect` makes of images.
 
 use crate::net::*;
 use std::io::{Read, Write};
@@ -17,14 +17,20 @@ pub struct Opened {
     pub dump: Vec<u8>,
 }
 
-/// The whole net as bytes.
-pub fn dump(net: &Net) -> Vec<u8> {
+/// The counts and the nodes as bytes: what a pick can change.
+pub fn dump_state(net: &Net) -> Vec<u8> {
     let mut out = Vec::with_capacity(DUMP_BYTES);
     out.push(net.address_count);
     put_two(&mut out, net.code_length);
     for node in net.nodes.iter() {
         put_node(&mut out, node);
     }
+    out
+}
+
+/// The whole net as bytes.
+pub fn dump(net: &Net) -> Vec<u8> {
+    let mut out = dump_state(net);
     for instruction in net.code.iter() {
         put_instruction(&mut out, instruction);
     }
@@ -117,6 +123,19 @@ fn put_action(out: &mut Vec<u8>, action: &Action) {
     out.push(variable);
 }
 
+/// The record that a byte of a dump is of.
+pub fn record_at(byte: usize) -> String {
+    match byte {
+        0..=2 => format!("counts, byte {byte}"),
+        3..=8418 => format!("node {}, byte {}", (byte - 3) / 526, (byte - 3) % 526),
+        _ => format!(
+            "instruction {}, byte {}",
+            (byte - 8419) / 29,
+            (byte - 8419) % 29
+        ),
+    }
+}
+
 /// Where a program of the repository lies: in the directory that
 /// CAVINDORUM_BIN names, or where `rt check` links it.
 pub fn program(name: &str) -> PathBuf {
@@ -128,7 +147,7 @@ pub fn program(name: &str) -> PathBuf {
 /// What the program `inspect` makes of each of these images. A missing
 /// program, or one that writes too little or too much, is a failure.
 pub fn inspect(images: &[Vec<u8>]) -> Vec<Opened> {
-    let mut child = start_inspect();
+    let mut child = start("inspect");
     let mut input = child.stdin.take().expect("the input is a pipe");
     let mut output = child.stdout.take().expect("the output is a pipe");
     let opened = std::thread::scope(|scope| {
@@ -147,15 +166,16 @@ pub fn inspect(images: &[Vec<u8>]) -> Vec<Opened> {
     opened
 }
 
-fn start_inspect() -> Child {
-    let path = program("inspect");
+/// Starts a program of the repository with its input and output as pipes.
+pub fn start(name: &str) -> Child {
+    let path = program(name);
     let started = Command::new(&path)
         .stdin(Stdio::piped())
         .stdout(Stdio::piped())
         .spawn();
     started.unwrap_or_else(|error| {
         let path = path.display();
-        panic!("{path}: {error}; `rt check inspect` makes it")
+        panic!("{path}: {error}; `rt check {name}` makes it")
     })
 }
 

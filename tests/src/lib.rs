@@ -9,5 +9,6 @@ pub mod matching;
 pub mod net;
 pub mod random;
 pub mod register;
+pub mod replay;
 pub mod sound;
 pub mod step;

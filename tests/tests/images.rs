@@ -2,7 +2,7 @@
 //! that concern images, and random images. Each image is compared in its
 //! answer and in the whole net.
 
-use cavindorum_tests::dump::{dump, inspect, Opened};
+use cavindorum_tests::dump::{dump, inspect, record_at, Opened};
 use cavindorum_tests::generate::{damaged_image, valid_image};
 use cavindorum_tests::image::{read_image, write_image};
 use cavindorum_tests::net::*;
@@ -40,19 +40,6 @@ fn compare(image: &[u8], found: &Opened) {
         let (program, model) = (found.dump[at], expected[at]);
         let record = record_at(at);
         panic!("{record}: program {program}, model {model}; image {image:02X?}");
-    }
-}
-
-// The record that a byte of a dump is of.
-fn record_at(byte: usize) -> String {
-    match byte {
-        0..=2 => format!("counts, byte {byte}"),
-        3..=8418 => format!("node {}, byte {}", (byte - 3) / 526, (byte - 3) % 526),
-        _ => format!(
-            "instruction {}, byte {}",
-            (byte - 8419) / 29,
-            (byte - 8419) % 29
-        ),
     }
 }
 

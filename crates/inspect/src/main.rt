@@ -1,20 +1,27 @@
 // A test tool: reads images from standard input and writes what the image reader makes of each to
 // standard output. An image comes as its length, 2 bytes little-endian and at most 16,383, then its bytes.
-// dump.rt says what is written. It ends where the input does, or at a length that is too large.
-use dump::put_opened;
+// For each it writes the answer, one byte, 0 accepted, else the number of the refusal, then the net as the
+// crate `dump` lays it out. It ends where the input does, or at a length that is too large.
+use dump::put_net;
 use libc::STDIN_FILENO;
 use libc::STDOUT_FILENO;
+use net::image::Answer;
 
-mod bytes;
-mod code;
-mod dump;
-mod nodes;
+fn number_of(answer: Answer) -> u8 {
+    match answer {
+        Answer::Accepted => 0,
+        Answer::Refused(fault) => fault.number,
+    }
+}
 
 // Writes what is made of one image; false where that fails.
 fn answer(image: &[u8]) -> bool {
     let opened = net::image::read_image(image);
+    let answer = opened.answer;
+    let net = opened.net;
     let mut out = [0u8; 23268];
-    put_opened(&mut out, opened);
+    out[0] = number_of(answer);
+    put_net(&mut out, 1, net);
     io::write_all(STDOUT_FILENO, &out)
 }
 

@@ -1,0 +1,151 @@
+// A test tool: makes picks by the proved step. It reads records from standard input: a net, as the crate
+// `dump` lays it out, the number of picks, 2 bytes little-endian, and the picks. For each pick it writes the
+// answer's number, 1 byte, and the digest of the counts and nodes after it, 8 bytes little-endian; after the
+// last pick of a record the whole net. It ends where the input does.
+use dump::put_net;
+use dump::put_state;
+use libc::STDIN_FILENO;
+use libc::STDOUT_FILENO;
+use net::network::Net;
+use restore::net_of;
+use step::answer::Answer;
+use step::step::Host;
+
+mod bytes;
+mod code;
+mod nodes;
+mod restore;
+
+// The answer's number in document 01, "One pick".
+fn number_of(answer: Answer) -> u8 {
+    match answer {
+        Answer::Performed => 0,
+        Answer::Ended => 1,
+        Answer::NoTuple => 2,
+        Answer::NoRoom => 3,
+        Answer::NoRight => 4,
+        Answer::NotWithin => 5,
+        Answer::NotSet => 6,
+        Answer::FreeSlot => 7,
+        Answer::NotInUse => 8,
+        Answer::Malformed => 9,
+        Answer::Unsound => 10,
+    }
+}
+
+// A digest with one byte more; the prime is 2^56 - 5.
+fn mixed(digest: u64, b: u8) -> u64 {
+    let low = digest % 72057594037927931;
+    let byte = b as u64;
+    low * 256 + byte
+}
+
+fn digest_of(s: &[u8]) -> u64 {
+    let mut digest = 0;
+    let mut i = 0;
+    while i < s.len() {
+        digest = mixed(digest, s[i]);
+        i += 1;
+    }
+    digest
+}
+
+// The digest of what a pick can change.
+fn digest_state(net: Net) -> u64 {
+    let mut out = [0u8; 8419];
+    put_state(&mut out, 0, net);
+    digest_of(&out)
+}
+
+// A number from the second byte on, little-endian.
+fn put_number(out: &mut [u8], number: u64) {
+    let mut rest = number;
+    let mut i = 1;
+    while i < out.len() {
+        out[i] = (rest % 256) as u8;
+        rest = rest / 256;
+        i += 1;
+    }
+}
+
+fn write_pick(answer: Answer, net: Net) -> bool {
+    let mut out = [0u8; 9];
+    out[0] = number_of(answer);
+    put_number(&mut out, digest_state(net));
+    io::write_all(STDOUT_FILENO, &out)
+}
+
+// One pick, written; gives the net after it.
+fn make_pick(net: Net, b: u8) -> Net {
+    let host = Host { net };
+    let picked = host.pick(b);
+    let answer = picked.answer;
+    let after = picked.net;
+    write_pick(answer, after);
+    after
+}
+
+fn make_picks(net: Net, picks: &[u8]) -> Net {
+    let mut after = net;
+    let mut i = 0;
+    while i < picks.len() {
+        after = make_pick(after, picks[i]);
+        i += 1;
+    }
+    after
+}
+
+fn write_net(net: Net) -> bool {
+    let mut out = [0u8; 23267];
+    put_net(&mut out, 0, net);
+    io::write_all(STDOUT_FILENO, &out)
+}
+
+// Reads so many bytes into a buffer, and gives how many came: none where there is no room.
+fn read_bytes(buffer: &mut [u8], length: usize) -> usize {
+    if length <= buffer.len() {
+        io::read_full(STDIN_FILENO, &mut buffer[..length])
+    } else {
+        0
+    }
+}
+
+// The first of the picks on a net, and the net after them.
+fn run_first(net: Net, picks: &[u8], count: usize) -> bool {
+    if count <= picks.len() {
+        write_net(make_picks(net, &picks[..count]))
+    } else {
+        false
+    }
+}
+
+// Reads so many picks and makes them.
+fn run_next(net: Net, count: usize) -> bool {
+    let mut picks = [0u8; 65535];
+    let got = read_bytes(&mut picks, count);
+    if got == count {
+        run_first(net, &picks, count)
+    } else {
+        false
+    }
+}
+
+// One record; false at the end of the input.
+fn take_turn() -> bool {
+    let mut head = [0u8; 23269];
+    let got = read_bytes(&mut head, 23269);
+    if got == 23269 {
+        let count = bytes::two_at(&head, 23267);
+        run_next(net_of(&head), count as usize)
+    } else {
+        false
+    }
+}
+
+// A proved loop has to end, and nothing says that the input does: no run uses up these turns.
+fn main() {
+    let mut turns = u64::MAX;
+    while turns > 0 && take_turn() {
+        turns -= 1;
+    }
+}

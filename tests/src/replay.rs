@@ -1,0 +1,119 @@
+//! Picks made by the program `replay`, each compared with the model's.
+
+use crate::dump::{dump, dump_state, record_at, start, DUMP_BYTES};
+use crate::net::Net;
+use crate::step::pick;
+use std::io::{BufReader, Read, Write};
+
+/// A net and the picks to be made from it, one after another.
+#[derive(Clone, Debug)]
+pub struct Run {
+    pub net: Net,
+    pub picks: Vec<u8>,
+}
+
+/// What the model makes of a run: the answers, and the net at the end.
+#[derive(Clone, Debug)]
+pub struct Made {
+    pub answers: Vec<u8>,
+    pub net: Net,
+}
+
+/// Makes the picks of each run by the program and by the model. Answer and
+/// digest of counts and nodes are compared after each pick, and the whole
+/// net after each run; a difference is a failure.
+pub fn replay(runs: &[Run]) -> Vec<Made> {
+    let mut child = start("replay");
+    let mut input = child.stdin.take().expect("the input is a pipe");
+    let mut output = BufReader::new(child.stdout.take().expect("the output is a pipe"));
+    // A failure drops the output, which ends the program and so the writing.
+    let made = std::thread::scope(move |scope| {
+        scope.spawn(move || {
+            for run in runs {
+                // A program that ends too early is found out below.
+                let _ = input.write_all(&framed(run));
+            }
+        });
+        let made = runs.iter().map(|run| compare(run, &mut output)).collect();
+        assert_eq!(output.read(&mut [0]).ok(), Some(0), "more than the answers");
+        made
+    });
+    let status = child.wait().expect("replay ends");
+    assert!(status.success(), "replay: {status}");
+    made
+}
+
+// A run as the program takes it: the net, the number of picks, the picks.
+fn framed(run: &Run) -> Vec<u8> {
+    let mut bytes = dump(&run.net);
+    let count = u16::try_from(run.picks.len()).expect("at most 65,535 picks");
+    bytes.extend(count.to_le_bytes());
+    bytes.extend(&run.picks);
+    bytes
+}
+
+fn compare(run: &Run, output: &mut impl Read) -> Made {
+    let mut net = run.net.clone();
+    let mut answers = Vec::with_capacity(run.picks.len());
+    let mut expected = digest(&dump_state(&net));
+    for (index, byte) in run.picks.iter().enumerate() {
+        let before = net.clone();
+        let answer = pick(&mut net, *byte);
+        if net != before {
+            expected = digest(&dump_state(&net));
+        }
+        let found = read_pick(output);
+        if found != (answer, expected) {
+            let found = found.0;
+            let net = if found == answer { ", another net" } else { "" };
+            panic!("pick {index}, {byte:#04X}: program {found}, model {answer}{net}; net before: {before:?}");
+        }
+        answers.push(answer);
+    }
+    compare_whole(&net, output);
+    Made { answers, net }
+}
+
+// An answer and a digest.
+fn read_pick(output: &mut impl Read) -> (u8, u64) {
+    let mut bytes = [0; 9];
+    output
+        .read_exact(&mut bytes)
+        .expect("an answer to each pick");
+    let digest = bytes[1..].try_into().expect("eight bytes");
+    (bytes[0], u64::from_le_bytes(digest))
+}
+
+fn compare_whole(net: &Net, output: &mut impl Read) {
+    let mut found = vec![0; DUMP_BYTES];
+    output.read_exact(&mut found).expect("a net after each run");
+    let expected = dump(net);
+    if let Some(at) = (0..DUMP_BYTES).find(|at| found[*at] != expected[*at]) {
+        let (program, model) = (found[at], expected[at]);
+        panic!("{}: program {program}, model {model}", record_at(at));
+    }
+}
+
+/// The digest of bytes, as in crates/replay/src/main.rt.
+pub fn digest(bytes: &[u8]) -> u64 {
+    const PRIME: u64 = (1 << 56) - 5;
+    bytes
+        .iter()
+        .fold(0, |digest, byte| digest % PRIME * 256 + u64::from(*byte))
+}
+
+#[cfg(test)]
+mod tests {
+    use super::*;
+
+    #[test]
+    fn digests_differ_where_bytes_do() {
+        let bytes = dump_state(&Net::empty());
+        let plain = digest(&bytes);
+        for at in 0..bytes.len() {
+            let mut other = bytes.clone();
+            other[at] += 1;
+            assert_ne!(digest(&other), plain, "byte {at}");
+        }
+    }
+}

@@ -1,0 +1,360 @@
+//! The proved step beside the model: the edges of document 01 that concern
+//! picks, and random picks. Each pick is compared in its answer and in the
+//! net after it.
+
+use cavindorum_tests::generate::{net_after_picks, pick_byte, picks, random_net, sound_net};
+use cavindorum_tests::net::*;
+use cavindorum_tests::random::Random;
+use cavindorum_tests::replay::{replay, Made, Run};
+use cavindorum_tests::sound::sound;
+
+const NONE: Rights = Rights::NONE;
+const TAKE: Rights = Rights { take: true, ..NONE };
+const READ: Rights = Rights { read: true, ..NONE };
+const PUT: Rights = Rights { put: true, ..NONE };
+const SEND: Rights = Rights { send: true, ..NONE };
+
+const OWN: Target = Target::Own;
+const FAR: Target = Target::Written(Locality(1));
+const HELD: Target = Target::Variable(0);
+
+const FORMAL: TemplateField = TemplateField::FormalReading(0);
+
+// Nets by hand.
+
+fn out(target: Target, fields: &[TemplateField], next: u16) -> Instruction {
+    let next = Place(next);
+    Instruction::with(Action::Out { target, next }, fields)
+}
+
+fn take(target: Target, fields: &[TemplateField], next: u16) -> Instruction {
+    let next = Place(next);
+    Instruction::with(Action::In { target, next }, fields)
+}
+
+fn read(target: Target, fields: &[TemplateField], next: u16) -> Instruction {
+    let next = Place(next);
+    Instruction::with(Action::Read { target, next }, fields)
+}
+
+fn eval(target: Target, sent: u16, next: u16) -> Instruction {
+    let (sent, next) = (Place(sent), Place(next));
+    Instruction::plain(Action::Eval { target, sent, next })
+}
+
+fn new(variable: u8, next: u16) -> Instruction {
+    let next = Place(next);
+    Instruction::plain(Action::New { variable, next })
+}
+
+fn fork(first: u16, second: u16) -> Instruction {
+    let (first, second) = (Place(first), Place(second));
+    Instruction::plain(Action::Fork { first, second })
+}
+
+fn readings(readings: &[i32]) -> Tuple {
+    let fields: Vec<Field> = readings.iter().map(|x| Field::Reading(*x)).collect();
+    Tuple::of(&fields)
+}
+
+fn address(address: u8) -> Tuple {
+    Tuple::of(&[Field::Address(Locality(address))])
+}
+
+/// This code and one more stop after it; a process at place 0 of address 0
+/// in slot 0, whose row has these rights over its own address.
+fn net(addresses: u8, rights: Rights, code: &[Instruction]) -> Net {
+    let mut net = Net::empty();
+    net.address_count = addresses;
+    net.code_length = code.len() as u16 + 1;
+    net.code[..code.len()].copy_from_slice(code);
+    net.nodes[0].row.rights[0] = rights;
+    net.nodes[0].processes[0] = Process::starting(Place(0));
+    net
+}
+
+fn fill(net: &mut Net, at: usize, tuples: &[Tuple]) {
+    net.nodes[at].tuple_count = tuples.len() as u8;
+    net.nodes[at].tuples = Node::ZERO.tuples;
+    net.nodes[at].tuples[..tuples.len()].copy_from_slice(tuples);
+}
+
+/// Sets a variable of the process.
+fn set(net: &mut Net, variable: usize, value: Value) {
+    net.nodes[0].processes[0].variables[variable] = value;
+}
+
+// Comparing.
+
+/// What program and model both make of these picks.
+fn made(net: &Net, picks: &[u8]) -> Made {
+    let (net, picks) = (net.clone(), picks.to_vec());
+    replay(&[Run { net, picks }]).remove(0)
+}
+
+/// The answer to a pick of slot 0 at address 0 that leaves the net as it
+/// was.
+fn unchanged(net: &Net) -> u8 {
+    let made = made(net, &[0]);
+    assert_eq!(made.net, *net);
+    made.answers[0]
+}
+
+/// The net after a pick of slot 0 at address 0 that is answered with 0.
+fn performed(net: &Net) -> Net {
+    let made = made(net, &[0]);
+    assert_eq!(made.answers, [0]);
+    made.net
+}
+
+// The edges.
+
+#[test]
+fn in_at_self_without_a_tuple_is_2() {
+    let mut net = net(1, TAKE, &[take(OWN, &[FORMAL], 1)]);
+    assert_eq!(unchanged(&net), 2);
+    fill(&mut net, 0, &[address(0)]);
+    assert_eq!(unchanged(&net), 2);
+}
+
+#[test]
+fn out_to_15_tuples_is_0_and_to_16_is_3() {
+    let mut net = net(1, PUT, &[out(OWN, &[TemplateField::Own], 0)]);
+    fill(&mut net, 0, &[readings(&[3]); 15]);
+    let mut after = performed(&net);
+    assert_eq!(after.nodes[0].tuple_count, 16);
+    assert_eq!(after.nodes[0].tuples[15], address(0));
+    assert_eq!(unchanged(&after), 3);
+    after.nodes[0].row.rights[0] = NONE;
+    assert_eq!(unchanged(&after), 4);
+}
+
+#[test]
+fn read_at_a_variable_holding_self_with_i_but_not_r_is_4() {
+    let mut net = net(1, TAKE, &[read(HELD, &[FORMAL], 1)]);
+    fill(&mut net, 0, &[readings(&[1])]);
+    assert_eq!(unchanged(&net), 6);
+    set(&mut net, 0, Value::Reading(0));
+    assert_eq!(unchanged(&net), 6);
+    set(&mut net, 0, Value::Address(Locality(0)));
+    assert_eq!(unchanged(&net), 4);
+    net.nodes[0].row.rights[0] = READ;
+    let after = performed(&net);
+    assert_eq!(after.nodes[0].tuples, net.nodes[0].tuples);
+    assert_eq!(after.nodes[0].processes[0].variables[0], Value::Reading(1));
+}
+
+#[test]
+fn the_older_of_two_that_fit_is_taken() {
+    let mut net = net(1, TAKE, &[take(OWN, &[FORMAL], 1)]);
+    fill(&mut net, 0, &[address(0), readings(&[7]), readings(&[8])]);
+    let after = performed(&net);
+    let mut expected = net.clone();
+    fill(&mut expected, 0, &[address(0), readings(&[8])]);
+    set(&mut expected, 0, Value::Reading(7));
+    expected.nodes[0].processes[0].at = Place(1);
+    assert_eq!(after, expected);
+}
+
+#[test]
+fn no_formal_is_set_when_a_later_field_does_not_fit() {
+    let fields = [FORMAL, TemplateField::Reading(1)];
+    let mut net = net(1, TAKE, &[take(OWN, &fields, 1)]);
+    fill(&mut net, 0, &[readings(&[1, 2])]);
+    assert_eq!(unchanged(&net), 2);
+}
+
+#[test]
+fn an_actual_variable_has_its_value_from_before() {
+    let fields = [FORMAL, TemplateField::Variable(0)];
+    let mut net = net(1, TAKE, &[take(OWN, &fields, 1)]);
+    fill(&mut net, 0, &[readings(&[5, 5]), readings(&[5, 1])]);
+    assert_eq!(unchanged(&net), 6);
+    set(&mut net, 0, Value::Reading(1));
+    let after = performed(&net);
+    assert_eq!(after.nodes[0].tuples[0], readings(&[5, 5]));
+    assert_eq!(after.nodes[0].processes[0].variables[0], Value::Reading(5));
+}
+
+#[test]
+fn eval_to_itself_fills_its_own_slots() {
+    let mut net = net(1, SEND, &[eval(OWN, 1, 0)]);
+    set(&mut net, 2, Value::Reading(-1));
+    let filled = made(&net, &[0; 4]);
+    assert_eq!(filled.answers, [0, 0, 0, 3]);
+    let mut expected = net.clone();
+    for slot in 1..4 {
+        expected.nodes[0].processes[slot] = net.nodes[0].processes[0];
+        expected.nodes[0].processes[slot].at = Place(1);
+    }
+    assert_eq!(filled.net, expected);
+    assert_eq!(unchanged(&filled.net), 3);
+}
+
+#[test]
+fn fork_fills_a_slot_of_its_node() {
+    let mut net = net(1, NONE, &[fork(1, 0)]);
+    net.nodes[0].processes.swap(0, 2);
+    let filled = made(&net, &[0x08]);
+    assert_eq!(filled.answers, [0]);
+    let processes = &filled.net.nodes[0].processes;
+    assert_eq!(processes[0], Process::starting(Place(0)));
+    assert_eq!(processes[2], Process::starting(Place(1)));
+    net.nodes[0].processes = [Process::starting(Place(0)); SLOTS];
+    assert_eq!(unchanged(&net), 3);
+}
+
+#[test]
+fn sent_code_is_judged_by_the_target_s_row() {
+    let code = [eval(FAR, 1, 2), out(OWN, &[TemplateField::Own], 2)];
+    let mut net = net(2, Rights::ALL, &code);
+    net.nodes[0].row.rights[1] = Rights::ALL;
+    assert_eq!(unchanged(&net), 5);
+    net.nodes[1].row.rights[1] = PUT;
+    let sent = made(&net, &[0, 0x10]);
+    assert_eq!(sent.answers, [0, 0]);
+    assert_eq!(sent.net.nodes[1].tuples[0], address(1));
+    net.nodes[1].processes = [Process::starting(Place(2)); SLOTS];
+    assert_eq!(unchanged(&net), 3);
+    net.nodes[0].row.rights[1].send = false;
+    assert_eq!(unchanged(&net), 4);
+}
+
+#[test]
+fn a_barred_action_with_a_full_target_is_4() {
+    let mut net = net(2, Rights::ALL, &[out(FAR, &[TemplateField::Own], 1)]);
+    fill(&mut net, 1, &[readings(&[0]); 16]);
+    net.nodes[1].row.rights[0] = Rights::ALL;
+    assert_eq!(unchanged(&net), 4);
+    net.nodes[0].row.rights[1] = PUT;
+    assert_eq!(unchanged(&net), 3);
+}
+
+#[test]
+fn creation_at_15_is_0_and_at_16_is_3_or_4() {
+    let mut net = net(15, READ, &[new(0, 0)]);
+    assert_eq!(unchanged(&net), 4);
+    net.nodes[0].row.create = true;
+    let mut after = performed(&net);
+    let mut expected = net.clone();
+    expected.address_count = 16;
+    expected.nodes[0].row.rights[15] = Rights::ALL;
+    expected.nodes[15].row = expected.nodes[0].row;
+    set(&mut expected, 0, Value::Address(Locality(15)));
+    assert_eq!(after, expected);
+    assert_eq!(unchanged(&after), 3);
+    after.nodes[0].row.create = false;
+    assert_eq!(unchanged(&after), 4);
+}
+
+#[test]
+fn stop_zeroes_the_slot() {
+    let mut net = net(1, NONE, &[]);
+    net.nodes[0].processes[2] = Process::starting(Place(0));
+    set(&mut net, 4, Value::Reading(1));
+    let ended = made(&net, &[0, 0]);
+    assert_eq!(ended.answers, [1, 7]);
+    net.nodes[0].processes[0] = Process::FREE;
+    assert_eq!(ended.net, net);
+}
+
+#[test]
+fn ten_nine_eight_seven_stand_in_this_order() {
+    let mut net = net(1, NONE, &[]);
+    let picks = [0xFF, 0x01, 0x02, 0x07, 0xF0, 0x10, 0x04, 0x0C, 0x00, 0x00];
+    let sound = made(&net, &picks);
+    assert_eq!(sound.answers, [9, 9, 9, 9, 8, 8, 7, 7, 1, 7]);
+    net.nodes[0].processes[1].at = Place(1);
+    let damaged = made(&net, &picks);
+    assert_eq!(damaged.answers, [10; 10]);
+    assert_eq!(damaged.net, net);
+    assert_eq!(made(&Net::empty(), &[0, 1, 0xFF]).answers, [10; 3]);
+}
+
+/// Each of the 256 picks on one net.
+#[test]
+fn every_pick() {
+    let mut random = Random::new(200);
+    let every = |net: Net| (0..=255).map(move |pick| (net.clone(), vec![pick]));
+    let runs = (0..8).map(|_| sound_net(&mut random)).flat_map(every);
+    replay(
+        &runs
+            .map(|(net, picks)| Run { net, picks })
+            .collect::<Vec<_>>(),
+    );
+}
+
+// Random picks.
+
+const BATCH: usize = 100;
+
+/// Runs compared in batches, and how often each answer was met.
+fn compare_many(seed: u64, count: usize, make: fn(&mut Random) -> Run) -> [usize; 11] {
+    let mut random = Random::new(seed);
+    let mut met = [0; 11];
+    for _ in 0..count / BATCH {
+        let runs: Vec<_> = (0..BATCH).map(|_| make(&mut random)).collect();
+        for answer in replay(&runs).iter().flat_map(|made| &made.answers) {
+            met[*answer as usize] += 1;
+        }
+    }
+    met
+}
+
+/// That every answer to a sound net was met often.
+fn assert_all_met(met: [usize; 11], picks: usize) {
+    assert_eq!(met.iter().sum::<usize>(), picks);
+    assert!(
+        met[..10].iter().all(|count| *count > picks / 1000),
+        "{met:?}"
+    );
+    assert_eq!(met[10], 0);
+    println!("answers 0 to 10: {met:?}");
+}
+
+fn from_sound_net(random: &mut Random) -> Run {
+    let net = sound_net(random);
+    let picks = picks(random, &net, 250);
+    Run { net, picks }
+}
+
+fn from_reached_net(random: &mut Random) -> Run {
+    let net = net_after_picks(random);
+    let picks = picks(random, &net, 250);
+    Run { net, picks }
+}
+
+fn from_random_net(random: &mut Random) -> Run {
+    let net = random_net(random);
+    let picks = (0..4).map(|_| pick_byte(random, &net)).collect();
+    Run { net, picks }
+}
+
+#[test]
+fn picks_from_sound_nets() {
+    assert_all_met(compare_many(201, 2_000, from_sound_net), 500_000);
+}
+
+#[test]
+fn picks_from_reached_nets() {
+    assert_all_met(compare_many(202, 2_000, from_reached_net), 500_000);
+}
+
+#[test]
+fn picks_from_damaged_nets() {
+    let met = compare_many(203, 8_000, from_random_net);
+    assert!(met[10] > 4_000 && met[10] < 28_000, "{met:?}");
+    println!("answers 0 to 10: {met:?}");
+}
+
+/// A net that is not sound comes back as it was.
+#[test]
+fn damaged_nets_are_unchanged() {
+    let mut random = Random::new(204);
+    let damaged = std::iter::repeat_with(|| from_random_net(&mut random));
+    let runs: Vec<_> = damaged.filter(|run| !sound(&run.net)).take(500).collect();
+    for (run, made) in runs.iter().zip(replay(&runs)) {
+        assert_eq!(made.answers, [10; 4]);
+        assert_eq!(made.net, run.net);
+    }
+}
