@@ -3,9 +3,9 @@
 // For each it writes the answer, one byte, 0 accepted, else the number of the refusal, then the net as the
 // crate `dump` lays it out. It ends where the input does, or at a length that is too large.
 use dump::put_net;
+use image::reader::Answer;
 use libc::STDIN_FILENO;
 use libc::STDOUT_FILENO;
-use net::image::Answer;
 
 fn number_of(answer: Answer) -> u8 {
     match answer {
@@ -16,7 +16,7 @@ fn number_of(answer: Answer) -> u8 {
 
 // Writes what is made of one image; false where that fails.
 fn answer(image: &[u8]) -> bool {
-    let opened = net::image::read_image(image);
+    let opened = image::reader::read_image(image);
     let answer = opened.answer;
     let net = opened.net;
     let mut out = [0u8; 23268];

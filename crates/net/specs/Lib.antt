@@ -1,12 +1,7 @@
-pub mod BitReader
 pub mod Choice
-pub mod Image
-pub mod ImageClaims
 pub mod Judged
 pub mod Keeping
-pub mod LengthClaims
 pub mod Matching
-pub mod Progress
 pub mod Reaching
 pub mod ReachingClaims
 pub mod Records

@@ -38,6 +38,10 @@ unsetVariable = record { value = Value.Unset }
 unfoldable pub freeProcess : Process
 freeProcess = record { busy = false; at = record { 0 = 0 }; variables = replicate 8 unsetVariable }
 
+-- a process as an image starts it: every variable unset
+unfoldable pub startingAt : Place → Process
+startingAt p = record { busy = true; at = p; variables = replicate 8 unsetVariable }
+
 unfoldable pub noRights : Rights
 noRights = record { take = false; read = false; put = false; send = false }
 

@@ -3,8 +3,7 @@ use crate::locality::Place;
 use crate::tuple::Value;
 use crate::tuple::Variable;
 ghost use mathlib.Core.Path.{_≡_};
-ghost use Rattle.net.specs.Image.{startingAt};
-ghost use Rattle.net.specs.Records.{freeProcess, withVariable, movedTo, copiedTo};
+ghost use Rattle.net.specs.Records.{freeProcess, startingAt, withVariable, movedTo, copiedTo};
 
 // A slot: free, or held by a process that stands at a place with its variables.
 pub struct Process {

@@ -11,10 +11,10 @@ use lib.ListN.{length, getD, getD-replicate}
 use Rattle.net.specs.Choice.{both}
 use Rattle.net.specs.Records.{nodeAt, rightsAt, noRights, zeroNode, zeroRow}
 use Rattle.net.specs.Soundness.{isNone, soundOf}
-use Rattle.net.specs.Image.{openedOf}
-use Rattle.net.specs.ImageClaims.{AcceptedIsSound}
+use Rattle.image.specs.Image.{openedOf}
+use Rattle.image.specs.ImageClaims.{AcceptedIsSound}
 use Rattle.net.proofs.Laws.{both-l, both-r}
-use Rattle.net.proofs.AcceptedSound.{accepted-is-sound}
+use Rattle.image.proofs.AcceptedSound.{accepted-is-sound}
 use Rattle.step.proofs.SoundFacts.{pastRights, sound-apart}
 use Rattle.step.proofs.SoundChanges.{node-at}
 use Rattle.run.specs.Types.{Rights, Node, Net, Reading}

@@ -6,17 +6,17 @@ use mathlib.Core.Bool.{Bool, true, false}
 use mathlib.Core.List.{List}
 use native.Mathlib.Omega.{arith}
 use lib.ListN.{length, length-set}
-use Rattle.net.specs.Records.{zeroTuple, zeroRow, zeroNode, zeroInstruction, emptyNet}
+use Rattle.net.specs.Records.{startingAt, zeroTuple, zeroRow, zeroNode, zeroInstruction, emptyNet}
 use Rattle.net.specs.Records.{freeProcess, processAt, tupleAt, nodeAt, instructionAt}
 use Rattle.net.specs.Records.{withField, withRights, withRow, withProcess, withTuple, withPattern, withAction}
 use Rattle.net.specs.Records.{withNode, withInstruction, withCounts}
-use Rattle.net.specs.BitReader.{Outcome, Reader, each}
-use Rattle.net.specs.Image.{header, creating, rights, row, rowOf, rows, startingAt, process, processes, processesOf}
-use Rattle.net.specs.Image.{allProcesses, tupleField, tuple, stored, tuples, tuplesOf, allTuples}
-use Rattle.net.specs.Image.{templateField, template, communication, evaluation, creation, forking, instruction}
-use Rattle.net.specs.Image.{instructionOf, code, ending, layout, judgedNet, openedOf, accepted, refused, admits}
+use Rattle.image.specs.BitReader.{Outcome, Reader, each}
+use Rattle.image.specs.Image.{header, creating, rights, row, rowOf, rows, process, processes, processesOf}
+use Rattle.image.specs.Image.{allProcesses, tupleField, tuple, stored, tuples, tuplesOf, allTuples}
+use Rattle.image.specs.Image.{templateField, template, communication, evaluation, creation, forking, instruction}
+use Rattle.image.specs.Image.{instructionOf, code, ending, layout, judgedNet, openedOf, accepted, refused, admits}
 use Rattle.net.proofs.Every.{chosen, Every, every-replicate, every-set}
-use Rattle.net.proofs.Gives.{gives-field}
+use Rattle.image.proofs.Gives.{gives-field}
 use Rattle.step.specs.Shape.{ShapedTuple, ShapedProcess, ShapedNode, ShapedInstruction, Shaped}
 use Rattle.step.proofs.SoundFacts.{pastNode, pastInstruction}
 use Rattle.run.specs.Types.{Place, Tuple, Row, Process, Node, Instruction, Net, Target, Action, Opened}

@@ -4,8 +4,8 @@ use Prim.Native.Nat.{ℕ, zero, suc, _+_, _<_}
 use mathlib.Core.Path.{_≡_}
 use mathlib.Core.List.{List, [], _∷_}
 use native.Mathlib.Omega.{arith}
-use Rattle.net.specs.BitReader.{Outcome, got, fault, Reader, done, andThen, _>>=_, _>>_, turns, each, alternative}
-use Rattle.net.proofs.Gives.{Fine, value, stopped, Gives}
+use Rattle.image.specs.BitReader.{Outcome, got, fault, Reader, done, andThen, _>>=_, _>>_, turns, each, alternative}
+use Rattle.image.proofs.Gives.{Fine, value, stopped, Gives}
 use Rattle.run.specs.Types.{Fault}
 
 pub data Holding {A : Type 0} (P : A → Type 0) : Outcome A → Type 0 where

@@ -2,7 +2,7 @@
 -- one left, whatever its answer.
 use Prim.Native.Nat.{ℕ}
 use mathlib.Core.List.{List, [], _∷_}
-use Rattle.net.specs.Image.{openedOf}
+use Rattle.image.specs.Image.{openedOf}
 use Rattle.step.specs.Pick.{pickOf}
 use Rattle.run.specs.Types.{Net, Fault, Opened, Reading, Answer, Picked}
 

@@ -5,7 +5,7 @@ use mathlib.Core.Bool.{Bool, true, false}
 use mathlib.Core.List.{List, [], _∷_}
 use Rattle.net.specs.Choice.{choose}
 use Rattle.net.specs.Records.{nodeAt, rightsAt, noRights}
-use Rattle.net.specs.Image.{openedOf}
+use Rattle.image.specs.Image.{openedOf}
 use Rattle.step.specs.Pick.{hostOf}
 use Rattle.run.specs.Types.{Row, Node, Net, Reading, Answer}
 use Rattle.run.specs.Run.{Ran, Outcome, ran, runOf}

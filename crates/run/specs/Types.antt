@@ -15,9 +15,9 @@ pub use Rattle.net.specs.declared.network.Net.{Net}
 pub use Rattle.net.specs.declared.matching.Evaluated.{Evaluated}
 pub use Rattle.net.specs.declared.matching.Found.{Found}
 pub use Rattle.net.specs.declared.matching.Matched.{Matched}
-pub use Rattle.net.specs.declared.image.Fault.{Fault}
-pub use Rattle.net.specs.declared.image.Opened.{Opened}
-pub use Rattle.net.specs.declared.image.Answer.{Answer as Reading}
+pub use Rattle.image.specs.declared.reader.Fault.{Fault}
+pub use Rattle.image.specs.declared.reader.Opened.{Opened}
+pub use Rattle.image.specs.declared.reader.Answer.{Answer as Reading}
 pub use Rattle.step.specs.declared.request.Request.{Request}
 pub use Rattle.step.specs.declared.answer.Answer.{Answer}
 pub use Rattle.step.specs.declared.answer.Picked.{Picked}

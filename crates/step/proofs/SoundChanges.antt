@@ -19,7 +19,7 @@ use Rattle.net.specs.Soundness.{tupleSound, isZeroItem, isZeroTuple, isNone, va
 use Rattle.net.specs.Soundness.{nodeSound, instructionSound}
 use Rattle.net.proofs.Laws.{both-i, both-l, both-r, choose-true, all-i, all-e}
 use Rattle.net.proofs.Every.{chosen-lt, Every, every-replicate, every-set, every-weaken, Filled, filled-set, filled-add}
-use Rattle.net.proofs.AcceptedNode.{pastProcess, pastTuple}
+use Rattle.net.proofs.Past.{pastProcess, pastTuple}
 use Rattle.step.specs.Types.{Value, Variable, Tuple, Row, Process, Node, Place, Net}
 use Rattle.step.specs.Shape.{ShapedTuple, ShapedProcess}
 use Rattle.step.specs.Pick.{withHost, added, taken, gaining, opened, created}

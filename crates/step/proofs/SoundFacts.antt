@@ -19,7 +19,7 @@ use Rattle.net.specs.Soundness.{targetSound, patternSound, templateSound, actio
 use Rattle.net.specs.Soundness.{instructionSound, isZeroInstruction, nodesSound, codeSound, soundOf}
 use Rattle.net.proofs.Laws.{both-i, both-l, both-r, implies-i, implies-e, choose-true, choose-false, all-i, all-e}
 use Rattle.net.proofs.Every.{chosen, chosen-lt, Every, Filled}
-use Rattle.net.proofs.AcceptedNode.{in-range, pastProcess, pastTuple}
+use Rattle.net.proofs.Past.{in-range, pastProcess, pastTuple}
 use Rattle.step.specs.Types.{Value, Item, Tuple, Rights, Row, Process, Node, Target, Pattern, Action}
 use Rattle.step.specs.Types.{Instruction, Net}
 use Rattle.step.specs.Shape.{ShapedTuple, ShapedProcess, ShapedNode, ShapedInstruction, Shaped}

@@ -17,7 +17,7 @@ use Rattle.net.specs.Soundness.{inRange, itemSound, isZeroItem, tupleSound, val
 use Rattle.net.specs.Soundness.{targetSound, patternSound, templateSound, actionSound, templateFor, instructionSound}
 use Rattle.net.proofs.Laws.{both-i, both-l, both-r, all-e}
 use Rattle.net.proofs.Every.{chosen, chosen-lt, Every, every-replicate, every-set, Filled, filled-add, filled-all}
-use Rattle.net.proofs.AcceptedNode.{in-range}
+use Rattle.net.proofs.Past.{in-range}
 use Rattle.step.specs.Types.{Locality, Value, Item, Field, Tuple, Process, Target, Pattern}
 use Rattle.step.specs.Types.{Action, Instruction, Want, Wanted, Evaluated}
 use Rattle.step.specs.Request.{Aim, Request, aimOf, targetOf, at, spoken, asked, requestOf}

@@ -1,5 +1,5 @@
 -- `net::process::Process::starting` meets its contract. Assumes nothing.
-use Rattle.net.specs.Image.{startingAt}
+use Rattle.net.specs.Records.{startingAt}
 use borrow.Author.Needs.{needs}
 use Rattle.net.proofs.process.Process.starting.Statement.{statement}
 use Rattle.net.proofs.process.Process.starting.Tie as tie

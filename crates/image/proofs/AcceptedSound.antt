@@ -1,0 +1,244 @@
+-- An accepted net is sound, and a refused image gives the empty net and a number from 21 to 30: the claims of
+-- `specs/ImageClaims.antt`. The net under construction is sound at all times, since zero records are.
+-- Assumes nothing.
+use Prim.Native.Nat.{ℕ, _<_}
+use mathlib.Core.Path.{_≡_, refl, sym, subst, subst₂}
+use mathlib.Core.Bool.{true, false}
+use mathlib.Core.List.{List, []}
+use native.Mathlib.Omega.{arith}
+use Rattle.image.specs.Types.{Node, Action, Instruction, Net}
+use Rattle.net.specs.Records.{zeroNode, zeroInstruction, emptyNet, nodeAt, instructionAt}
+use Rattle.net.specs.Records.{withNode, withInstruction, withCounts}
+use Rattle.net.specs.Soundness.{nodeSound, isZeroNode, instructionSound, isZeroInstruction}
+use Rattle.net.specs.Soundness.{nodesSound, codeSound, soundOf}
+use Rattle.image.specs.BitReader.{Fault, Outcome, Reader, each, numbered}
+use Rattle.image.specs.Image.{Answer, Opened, header, row, rowOf, rows, processes, processesOf, allProcesses}
+use Rattle.image.specs.Image.{tuples, tuplesOf, allTuples, instruction, instructionOf, code, endsAt, ending}
+use Rattle.image.specs.Image.{layout, admits, refused, accepted, judgedNet, openedOf}
+use Rattle.image.specs.ImageClaims.{AcceptedIsSound, RefusedIsEmpty, RefusedIsNumbered}
+use Rattle.net.proofs.Laws.{both-i}
+use Rattle.net.proofs.Every.{chosen, Every, every-replicate, every-weaken, Filled, filled-set, filled-all}
+use Rattle.image.proofs.Gives.{Listed, Fine, value, stopped, Gives, gives-done, gives-weaken, gives-then, gives-and}
+use Rattle.image.proofs.Gives.{gives-each, gives-require, Between, gives-field}
+use Rattle.net.proofs.Past.{in-range}
+use Rattle.image.proofs.AcceptedNode.{NodeOk, node-sound, zero-node, zero-node-ok}
+use Rattle.image.proofs.AcceptedNode.{gives-row, set-row, gives-processes, gives-tuples}
+use Rattle.image.proofs.AcceptedCode.{zero-instruction, stop-sound, gives-instruction}
+
+-- ---- the net under construction
+
+-- what stands past the end of an array
+abbrev pastNode : Node
+pastNode = record { row = record { create = false; rights = [] }; processes = []; stored = 0; tuples = [] }
+
+abbrev pastInstruction : Instruction
+pastInstruction = record { action = Action.Stop; count = 0; template = [] }
+
+record NetOk (n k : ℕ) (s : Net) : Type 0 where
+  addresses-are : s .addresses ≡ n
+  length-is : s .length ≡ k
+  addresses-in : Between 1 n 17
+  length-in : Between 1 k 513
+  nodes-ok : Every (Filled (NodeOk n k) (λ x. isZeroNode x ≡ true) n) pastNode 16 (s .nodes)
+  code-ok :
+      Every (Filled (λ c. instructionSound n k c ≡ true) (λ c. isZeroInstruction c ≡ true) k) pastInstruction 512
+      (s .code)
+
+ok-sound : (s : Net) → NetOk (s .addresses) (s .length) s → soundOf s ≡ true
+unfolding soundOf nodesSound codeSound nodeAt instructionAt
+ok-sound s ok =
+    let n : ℕ = s .addresses in
+    let k : ℕ = s .length in
+    both-i _ _
+    (both-i _ _ (in-range 1 n 16 (ok .addresses-in .above) (omega arith))
+    (in-range 1 k 512 (ok .length-in .above) (omega arith)))
+    (both-i _ _
+    (filled-all (nodeSound n k) isZeroNode pastNode 16 n (s .nodes)
+    (every-weaken (ok .nodes-ok) (λ j x e. record { used = λ l. node-sound n k x (e .used l); unused = e .unused })))
+    (filled-all (instructionSound n k) isZeroInstruction pastInstruction 512 k (s .code) (ok .code-ok)))
+
+net-sound : (n k : ℕ) (s : Net) → NetOk n k s → soundOf s ≡ true
+net-sound n k s ok =
+    ok-sound s (subst₂ (λ (a b : ℕ). NetOk a b s) (sym (ok .addresses-are)) (sym (ok .length-is)) ok)
+
+-- a reader over a number, at an equal number
+gives-at : {A : Type 0} {P : A → Type 0} {m n : ℕ} (f : ℕ → Reader A) → m ≡ n → Gives (f n) P → Gives (f m) P
+gives-at {P} f e g = subst (λ x. Gives (f x) P) (sym e) g
+
+-- ---- 1. the header: every record is zero
+record SomeOk (s : Net) : Type 0 where
+  n : ℕ
+  k : ℕ
+  net-ok : NetOk n k s
+
+empty-ok : (n k : ℕ) → Between 1 n 17 → Between 1 k 513 → NetOk n k (withCounts emptyNet n k)
+unfolding withCounts emptyNet
+empty-ok n k h g = record {
+  addresses-are = refl;
+  length-is = refl;
+  addresses-in = h;
+  length-in = g;
+  nodes-ok = every-replicate _ pastNode 16 zeroNode
+      (λ j _. record { used = λ _. zero-node-ok n k; unused = λ _. zero-node });
+  code-ok = every-replicate _ pastInstruction 512 zeroInstruction
+      (λ j _. record { used = λ _. stop-sound n k; unused = λ _. zero-instruction });
+}
+
+gives-header : Gives header SomeOk
+unfolding header
+gives-header =
+    gives-then (gives-field 4 1 2 21 (omega arith))
+    (λ format _. gives-then (gives-field 5 1 17 22 (omega arith))
+    (λ n h. gives-then (gives-field 10 1 513 22 (omega arith))
+    (λ k g. gives-done _ _ (record { n = n; k = k; net-ok = empty-ok n k h g }))))
+
+module _ (n k : ℕ) where
+  -- ---- 2 to 4. what stands at each address
+  set-node : (s : Net) (a : ℕ) (x : Node) → a < n → NetOk n k s → NodeOk n k x → NetOk n k (withNode s a x)
+  unfolding withNode
+  set-node s a x h ok x-ok = record {
+    addresses-are = ok .addresses-are;
+    length-is = ok .length-is;
+    addresses-in = ok .addresses-in;
+    length-in = ok .length-in;
+    nodes-ok = filled-set a x h x-ok (ok .nodes-ok);
+    code-ok = ok .code-ok;
+  }
+
+  node-ok : (s : Net) (a : ℕ) → a < n → NetOk n k s → NodeOk n k (nodeAt s a)
+  unfolding nodeAt
+  node-ok s a h ok = ok .nodes-ok .holds a (omega arith) .used h
+
+  -- turns that keep the net sound, one for each address or for each place
+  gives-all :
+      (f : ℕ → Net → Reader Net) (m i : ℕ) → m ≡ i
+      → ((a : ℕ) (s : Net) → a < i → NetOk n k s → Gives (f a s) (NetOk n k)) → (s : Net) → NetOk n k s
+      → Gives (each m f s) (NetOk n k)
+  gives-all f m i e turn s ok =
+      gives-at (λ j. each j f s) e (gives-each (λ j. NetOk n k) i f (λ a h t t-ok. turn a t h t-ok) s ok)
+
+  gives-rowOf : (a : ℕ) (s : Net) → a < n → NetOk n k s → Gives (rowOf a s) (NetOk n k)
+  unfolding rowOf
+  gives-rowOf a s h ok =
+      gives-then (gives-at row (ok .addresses-are) (gives-row n))
+      (λ r r-ok. gives-done _ _ (set-node s a _ h ok (set-row n k _ r (node-ok s a h ok) r-ok)))
+
+  gives-rows : (s : Net) → NetOk n k s → Gives (rows s) (NetOk n k)
+  unfolding rows
+  gives-rows s ok = gives-all rowOf _ n (ok .addresses-are) gives-rowOf s ok
+
+  gives-processesOf : (a : ℕ) (s : Net) → a < n → NetOk n k s → Gives (processesOf a s) (NetOk n k)
+  unfolding processesOf
+  gives-processesOf a s h ok =
+      gives-then
+      (gives-at (λ m. processes m (nodeAt s a)) (ok .length-is) (gives-processes n k _ (node-ok s a h ok)))
+      (λ x x-ok. gives-done _ _ (set-node s a x h ok x-ok))
+
+  gives-allProcesses : (s : Net) → NetOk n k s → Gives (allProcesses s) (NetOk n k)
+  unfolding allProcesses
+  gives-allProcesses s ok = gives-all processesOf _ n (ok .addresses-are) gives-processesOf s ok
+
+  gives-tuplesOf : (a : ℕ) (s : Net) → a < n → NetOk n k s → Gives (tuplesOf a s) (NetOk n k)
+  unfolding tuplesOf
+  gives-tuplesOf a s h ok =
+      gives-then
+      (gives-at (λ m. tuples m (nodeAt s a)) (ok .addresses-are) (gives-tuples n k _ (node-ok s a h ok)))
+      (λ x x-ok. gives-done _ _ (set-node s a x h ok x-ok))
+
+  gives-allTuples : (s : Net) → NetOk n k s → Gives (allTuples s) (NetOk n k)
+  unfolding allTuples
+  gives-allTuples s ok = gives-all tuplesOf _ n (ok .addresses-are) gives-tuplesOf s ok
+
+  -- ---- 5. the code
+  set-instruction :
+      (s : Net) (p : ℕ) (c : Instruction) → p < k → NetOk n k s → instructionSound n k c ≡ true
+      → NetOk n k (withInstruction s p c)
+  unfolding withInstruction
+  set-instruction s p c h ok e = record {
+    addresses-are = ok .addresses-are;
+    length-is = ok .length-is;
+    addresses-in = ok .addresses-in;
+    length-in = ok .length-in;
+    nodes-ok = ok .nodes-ok;
+    code-ok = filled-set p c h e (ok .code-ok);
+  }
+
+  gives-instructionOf : (p : ℕ) (s : Net) → p < k → NetOk n k s → Gives (instructionOf p s) (NetOk n k)
+  unfolding instructionOf
+  gives-instructionOf p s h ok =
+      gives-then
+      (gives-at (λ m. instruction m (s .length)) (ok .addresses-are)
+      (gives-at (instruction n) (ok .length-is) (gives-instruction n k)))
+      (λ c e. gives-done _ _ (set-instruction s p c h ok e))
+
+  gives-code : (s : Net) → NetOk n k s → Gives (code s) (NetOk n k)
+  unfolding code
+  gives-code s ok = gives-all instructionOf _ k (ok .length-is) gives-instructionOf s ok
+
+-- ---- 6. the end
+gives-ending : Gives ending (λ u. Unit {0})
+unfolding ending
+gives-ending =
+    record { run = λ s p. gives-weaken (gives-require (endsAt s p) 29 (omega arith)) (λ _ _. tt) .run s p }
+
+-- ---- the whole
+gives-layout : Gives layout (λ s. soundOf s ≡ true)
+unfolding layout
+gives-layout =
+    gives-then gives-header
+    (λ s₁ ok. let n = ok .n in let k = ok .k in
+    gives-then (gives-rows n k s₁ (ok .net-ok))
+    (λ s₂ ok₂. gives-then (gives-allProcesses n k s₂ ok₂)
+    (λ s₃ ok₃. gives-then (gives-allTuples n k s₃ ok₃)
+    (λ s₄ ok₄. gives-then (gives-code n k s₄ ok₄)
+    (λ s₅ ok₅. gives-and gives-ending (λ _ _. gives-done _ _ (net-sound n k s₅ ok₅)))))))
+
+-- ---- the claims, of what is opened
+record Claimed (r : Opened) : Type 0 where
+  when-accepted : r .answer ≡ Answer.Accepted → soundOf (r .net) ≡ true
+  when-refused : (f : Fault) → r .answer ≡ Answer.Refused f → r .net ≡ emptyNet
+  refused-listed : (f : Fault) → r .answer ≡ Answer.Refused f → Listed (f .number)
+
+never : {P : Type 0} (f : Fault) → Answer.Refused f ≡ Answer.Accepted → P
+never f e = let z : _≡_ {A = ℕ} 0 1 = cc in absurd (omega arith)
+
+same-fault : (f g : Fault) → Answer.Refused f ≡ Answer.Refused g → f ≡ g
+same-fault f g e = cc
+
+claimed-refused : (f : Fault) → Listed (f .number) → Claimed (refused f)
+unfolding refused
+claimed-refused f l = record {
+  when-accepted = never f;
+  when-refused = λ g e. refl;
+  refused-listed = λ g e. subst (λ (x : Fault). Listed (x .number)) (same-fault f g e) l;
+}
+
+claimed-accepted : (s : Net) → soundOf s ≡ true → Claimed (accepted s)
+unfolding accepted
+claimed-accepted s h = record {
+  when-accepted = λ e. h;
+  when-refused = λ f e. never f (sym e);
+  refused-listed = λ f e. never f (sym e);
+}
+
+claimed : (o : Outcome Net) → Fine (λ s. soundOf s ≡ true) o → Claimed (judgedNet o)
+unfolding judgedNet numbered
+claimed _ (value {a = s} h) =
+    chosen Claimed (admits s) _ _ (λ e. claimed-accepted s h) (λ e. claimed-refused (numbered 30) (omega arith))
+claimed _ (stopped {f} l) = claimed-refused f l
+
+opened-claimed : (s : List ℕ) → Claimed (openedOf s)
+unfolding openedOf
+opened-claimed s = claimed (layout s 0) (gives-layout .run s 0)
+
+pub accepted-is-sound : AcceptedIsSound
+unfolding AcceptedIsSound
+accepted-is-sound s e = opened-claimed s .when-accepted e
+
+pub refused-is-empty : RefusedIsEmpty
+unfolding RefusedIsEmpty
+refused-is-empty s f e = opened-claimed s .when-refused f e
+
+pub refused-is-numbered : RefusedIsNumbered
+unfolding RefusedIsNumbered
+refused-is-numbered s f e = let l = opened-claimed s .refused-listed f e in (l .least, l .most)

@@ -1,0 +1,11 @@
+pub mod AcceptedCode
+pub mod AcceptedNode
+pub mod AcceptedSound
+pub mod BitLaws
+pub mod Budget
+pub mod FirstBytes
+pub mod Gives
+pub mod ImageLaws
+pub mod LayoutLaws
+pub mod ReaderLaws
+pub mod SignedLaws

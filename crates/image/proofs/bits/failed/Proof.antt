@@ -1,0 +1,11 @@
+-- `image::bits::failed` meets its contract. Assumes nothing.
+use borrow.Author.Needs.{needs}
+use Rattle.image.proofs.BitLaws.{took-fault}
+use Rattle.image.proofs.bits.failed.Statement.{statement}
+use Rattle.image.proofs.bits.failed.Tie as tie
+
+pub failed-spec : {M : Type 1} → statement M
+failed-spec =
+    tie.close
+    (tie.spec
+    (λ c. search (needs, took-fault)))

@@ -1,0 +1,11 @@
+-- `image::code::own_target` meets its contract. Assumes nothing.
+use borrow.Author.Needs.{needs}
+use Rattle.image.proofs.ReaderLaws.{stop}
+use Rattle.image.proofs.code.own_target.Statement.{statement}
+use Rattle.image.proofs.code.own_target.Tie as tie
+
+pub own-target-spec : {M : Type 1} → statement M
+own-target-spec =
+    tie.close
+    (tie.spec
+    (λ c. search (needs, stop)))

@@ -1,0 +1,14 @@
+-- `image::code::read_held` meets its contract. Assumes nothing.
+use Rattle.image.proofs.ReaderLaws.{on, stop}
+use Rattle.image.specs.Image.{heldTarget}
+use borrow.Author.Needs.{needs}
+use Rattle.image.proofs.code.read_held.Statement.{statement}
+use Rattle.image.proofs.code.read_held.Tie as tie
+
+pub read-held-spec : {M : Type 1} → statement M
+unfolding heldTarget
+read-held-spec =
+    tie.close
+    (tie.spec
+    (λ c κs. search needs)
+    (λ c. search (needs, on, stop)))

@@ -1,0 +1,14 @@
+-- `image::code::read_parts` meets its contract. Assumes nothing.
+use Rattle.image.proofs.ImageLaws.{spoken}
+use borrow.Author.Needs.{needs}
+use Rattle.image.proofs.code.read_parts.Statement.{statement}
+use Rattle.image.proofs.code.read_parts.Tie as tie
+
+pub read-parts-spec : {M : Type 1} → statement M
+read-parts-spec =
+    tie.close
+    (tie.spec
+    (λ c κs. search needs)
+    (λ c κs. search needs)
+    (λ c κs. search needs)
+    (λ c. search (needs, spoken)))

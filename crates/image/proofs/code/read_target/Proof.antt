@@ -1,0 +1,19 @@
+-- `image::code::read_target` meets its contract. Assumes nothing.
+use Rattle.image.proofs.ReaderLaws.{on, chosen, chosen-last, past2}
+use Rattle.image.specs.Image.{target}
+use borrow.Author.Needs.{needs}
+use Rattle.image.proofs.code.read_target.Statement.{statement}
+use Rattle.image.proofs.code.read_target.Tie as tie
+
+pub read-target-spec : {M : Type 1} → statement M
+unfolding target
+read-target-spec =
+    tie.close
+    (tie.spec
+    (λ c κs. search needs)
+    (λ c κs. search needs)
+    (λ c κs. search needs)
+    (λ c κs. search needs)
+    (λ c. search (needs, on, chosen))
+    (λ c. search (needs, on, chosen))
+    (λ c. search (needs, on, chosen-last, past2)))

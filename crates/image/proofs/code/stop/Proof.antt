@@ -1,0 +1,12 @@
+-- `image::code::stop` meets its contract. Assumes nothing.
+use Rattle.image.proofs.ReaderLaws.{stop-as}
+use borrow.Author.Needs.{needs}
+use Rattle.image.proofs.code.stop.Statement.{statement}
+use Rattle.image.proofs.code.stop.Tie as tie
+
+pub stop-spec : {M : Type 1} → statement M
+stop-spec =
+    tie.close
+    (tie.spec
+    (λ c κs. search needs)
+    (λ c. search (needs, stop-as)))

@@ -1,0 +1,15 @@
+-- `image::fields::read_address` meets its contract. Assumes nothing.
+use Rattle.image.proofs.ReaderLaws.{on, stop}
+use Rattle.image.specs.Image.{address}
+use borrow.Author.Needs.{needs}
+use Rattle.image.proofs.fields.read_address.Statement.{statement}
+use Rattle.image.proofs.fields.read_address.Tie as tie
+
+pub read-address-spec : {M : Type 1} → statement M
+unfolding address
+read-address-spec =
+    tie.close
+    (tie.spec
+    (λ c κs. search needs)
+    (λ c. search needs)
+    (λ c. search (needs, on, stop)))

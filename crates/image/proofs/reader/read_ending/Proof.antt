@@ -1,0 +1,17 @@
+-- `image::reader::read_ending` meets its contract. Assumes nothing.
+use Rattle.image.proofs.LayoutLaws.{ending-at}
+use Rattle.image.proofs.ReaderLaws.{passed-failed}
+use borrow.Author.Needs.{needs}
+use Rattle.image.proofs.reader.read_ending.Statement.{statement}
+use Rattle.image.proofs.reader.read_ending.Tie as tie
+
+pub read-ending-spec : {M : Type 1} → statement M
+read-ending-spec =
+    tie.close
+    (tie.spec
+    (λ c. search needs)
+    (λ c κs. search needs)
+    (λ c κs. search needs)
+    (λ c. search needs)
+    (λ c. search (needs, ending-at, c .require-that .ensures))
+    (λ c. search (needs, passed-failed)))

@@ -1,0 +1,11 @@
+-- `image::template::own_pattern` meets its contract. Assumes nothing.
+use borrow.Author.Needs.{needs}
+use Rattle.image.proofs.ReaderLaws.{stop}
+use Rattle.image.proofs.template.own_pattern.Statement.{statement}
+use Rattle.image.proofs.template.own_pattern.Tie as tie
+
+pub own-pattern-spec : {M : Type 1} → statement M
+own-pattern-spec =
+    tie.close
+    (tie.spec
+    (λ c. search (needs, stop)))

@@ -1,0 +1,22 @@
+-- What is claimed of an opened image (document 01, "Numbers for an image", "One pick").
+use Prim.Native.Nat.{ℕ, _≤_}
+use mathlib.Core.Path.{_≡_}
+use mathlib.Core.Bool.{true}
+use mathlib.Core.List.{List}
+use Rattle.net.specs.Records.{emptyNet}
+use Rattle.net.specs.Soundness.{soundOf}
+use Rattle.image.specs.BitReader.{Fault}
+use Rattle.image.specs.Image.{Answer, openedOf}
+
+-- document 01, "One pick": accepted nets are sound
+unfoldable pub AcceptedIsSound : Type 0
+AcceptedIsSound = (s : List ℕ) → openedOf s .answer ≡ Answer.Accepted → soundOf (openedOf s .net) ≡ true
+
+-- document 01, "Numbers for an image": each refusal returns the empty net
+unfoldable pub RefusedIsEmpty : Type 0
+RefusedIsEmpty = (s : List ℕ) (f : Fault) → openedOf s .answer ≡ Answer.Refused f → openedOf s .net ≡ emptyNet
+
+-- document 01, "Numbers for an image": each refusal returns a number of the table, 21 to 30
+unfoldable pub RefusedIsNumbered : Type 0
+RefusedIsNumbered =
+    (s : List ℕ) (f : Fault) → openedOf s .answer ≡ Answer.Refused f → (21 ≤ f .number) × (f .number ≤ 30)

@@ -1,0 +1,132 @@
+// The bit reader (document 01, "The image"): a place handed on by value. A step goes from reader to
+// reader; once it is a fault, every later reader passes it on.
+use crate::reader::Fault;
+use net::network::Net;
+use net::node::Node;
+ghost use Prim.Native.Nat.{ℕ, _+_, _*_, _-_, _<_, _≤_, _^_};
+ghost use mathlib.Core.Path.{_≡_};
+ghost use lib.ListN.{length};
+ghost use Rattle.image.specs.BitReader.{judged, field, numbered, Outcome, fault};
+ghost use Rattle.image.specs.Progress.{seen, Bit, Number, Took, Field};
+
+// Where reading stands: at the place of the next bit, or past the first fault.
+pub enum Step {
+    At(usize),
+    Failed(Fault),
+}
+
+// A field's number, 0 after a fault, and the step after it.
+pub struct Taken {
+    pub value: usize,
+    pub next: Step,
+}
+
+// A node under construction, with the step after what was read.
+pub struct NodeRead {
+    pub node: Node,
+    pub next: Step,
+}
+
+// A net under construction, with the step after what was read.
+pub struct NetRead {
+    pub net: Net,
+    pub next: Step,
+}
+
+// How many bytes of the image are looked at.
+pub fn visible(s: &[u8]) -> usize
+    ensures { λ r. ⌜ (r ≡ length (seen (now (s .entry)))) × (r ≤ 16384) ⌝ }
+{
+    if s.len() < 16384 { s.len() } else { 16384 }
+}
+
+// The bit at place p: 0 past the end.
+fn bit(s: &[u8], p: usize) -> usize
+    requires { ⌜ p < 131072 ⌝ }
+    ensures { λ r. ⌜ Bit (seen (now (s .entry))) p r ⌝ }
+{
+    let i = p / 8;
+    if i < s.len() {
+        let b = s[i] as usize;
+        let k = 7 - p % 8;
+        let high = b >> k;
+        high % 2
+    } else {
+        0
+    }
+}
+
+// The number that the w bits from place p write.
+pub fn number(s: &[u8], p: usize, w: usize) -> usize
+    requires { ⌜ (w ≤ 32) × (p + w ≤ 131072) ⌝ }
+    ensures { λ r. ⌜ Number (seen (now (s .entry))) p w r ⌝ }
+{
+    let mut v = 0;
+    let mut i = 0;
+    while i < w {
+        let at = p + i;
+        let b = bit(s, at);
+        let twice = v * 2;
+        v = twice + b;
+        i += 1;
+    }
+    v
+}
+
+// A fault, with its number.
+fn failed(number: u8, w: usize, end: usize) -> Taken
+    ensures { λ r. ⌜ Took (fault (numbered number)) w end r ⌝ }
+{
+    let fault = Fault { number };
+    let next = Step::Failed(fault);
+    Taken { value: 0, next }
+}
+
+// A number judged against its range.
+fn judge(v: usize, w: usize, low: usize, end: usize, n: u8, next: usize) -> Taken
+    requires { ⌜ v < 2 ^ w ⌝ }
+    ensures { λ r. ⌜ Took (judged low end n next v) w end r ⌝ }
+{
+    if v < low {
+        failed(n, w, end)
+    } else if end <= v {
+        failed(n, w, end)
+    } else {
+        let step = Step::At(next);
+        Taken {
+            value: v,
+            next: step,
+        }
+    }
+}
+
+// A field at a place.
+fn take_at(s: &[u8], p: usize, w: usize, low: usize, end: usize, n: u8) -> Taken
+    requires { ⌜ w ≤ 32 ⌝ }
+    ensures { λ r. ⌜ Took (field w low end n (seen (now (s .entry))) p) w end r ⌝ }
+{
+    let bits = visible(s) * 8;
+    if bits < p {
+        failed(28, w, end)
+    } else if bits - p < w {
+        failed(28, w, end)
+    } else {
+        let v = number(s, p, w);
+        let next = p + w;
+        judge(v, w, low, end, n, next)
+    }
+}
+
+// A field from a step: the number of w bits from low up to below end, or the fault n, or 28.
+pub fn take(s: &[u8], from: Step, w: usize, low: usize, end: usize, n: u8) -> Taken
+    requires { ⌜ w ≤ 32 ⌝ }
+    ensures { λ r. ⌜ Field (seen (now (s .entry))) from (field w low end n) w end r ⌝ }
+{
+    match from {
+        Step::At(p) => take_at(s, p, w, low, end, n),
+        Step::Failed(_) => Taken {
+            value: 0,
+            next: from,
+        },
+    }
+}

@@ -1,0 +1,207 @@
+// The image reader (document 01, "The image", "Numbers for an image").
+use crate::bits::NetRead;
+use crate::bits::Step;
+use crate::bits::number;
+use crate::bits::take;
+use crate::bits::visible;
+use crate::code::read_code;
+use crate::rows::read_rows;
+use crate::starts::read_all_processes;
+use crate::stores::read_all_tuples;
+use crate::template::require_that;
+use net::instruction::Instruction;
+use net::keeping::keeps;
+use net::locality::Locality;
+use net::network::Net;
+use net::node::Node;
+use net::policy::Row;
+use net::process::Process;
+ghost use Prim.Native.Nat.{_≤_, _<_};
+ghost use mathlib.Core.Path.{_≡_};
+ghost use lib.Dec.{ltb};
+ghost use Rattle.image.specs.BitReader.{numbered};
+ghost use Rattle.net.specs.Choice.{choose, implies};
+ghost use Rattle.image.specs.Image.{header, padding, endsAt, ending, layout, admitsProcess, admitsNode, admits};
+ghost use Rattle.image.specs.Image.{refused, accepted, judgedNet, openedOf};
+ghost use Rattle.image.specs.Progress.{seen, Step, Went, Headed};
+ghost use Rattle.net.specs.Records.{nodeAt, processAt};
+
+// What a refusal carries: the number of the first fault.
+pub struct Fault {
+    pub number: u8,
+}
+
+// What reading an image answers.
+pub enum Answer {
+    Accepted,
+    Refused(Fault),
+}
+
+// The answer with the net: the one that the image writes down, or the empty net.
+pub struct Opened {
+    pub answer: Answer,
+    pub net: Net,
+}
+
+// Format, address count and code length.
+fn read_header(s: &[u8]) -> NetRead
+    ensures { λ r. ⌜ Headed (seen (now (s .entry))) header r ⌝ }
+{
+    let start = Step::At(0);
+    let format = take(s, start, 4, 1, 2, 21);
+    let second = format.next;
+    let addresses = take(s, second, 5, 1, 17, 22);
+    let third = addresses.next;
+    let length = take(s, third, 10, 1, 513, 22);
+    let next = length.next;
+    let mut net = Net::empty();
+    net.addresses = addresses.value;
+    net.length = length.value;
+    NetRead { net, next }
+}
+
+// Whether the image ends with the byte of the bit before place p, in zero bits.
+fn ends_at(s: &[u8], p: usize) -> bool
+    ensures { λ r. ⌜ r ≡ endsAt (seen (now (s .entry))) p ⌝ }
+{
+    if 131072 < p {
+        return false;
+    }
+    let bytes = (p + 7) / 8;
+    if visible(s) == bytes {
+        let rest = (8 - p % 8) % 8;
+        let padded = number(s, p, rest);
+        padded == 0
+    } else {
+        false
+    }
+}
+
+// Zero bits to the end of the byte, and no further byte.
+fn read_ending(s: &[u8], from: Step) -> Step
+    ensures { λ r. ⌜ Went (seen (now (s .entry))) from ending r tt ⌝ }
+{
+    match from {
+        Step::At(p) => {
+            let ok = ends_at(s, p);
+            require_that(from, ok, 29)
+        }
+        Step::Failed(_) => from,
+    }
+}
+
+// The layout, part after part.
+fn read_layout(s: &[u8]) -> NetRead
+    ensures { λ r. ⌜ Went (seen (now (s .entry))) (Step.At 0) layout (r .next) (r .net) ⌝ }
+{
+    let headed = read_header(s);
+    let after_header = headed.next;
+    let counted = headed.net;
+    let ruled = read_rows(s, after_header, counted);
+    let after_rows = ruled.next;
+    let with_rows = ruled.net;
+    let peopled = read_all_processes(s, after_rows, with_rows);
+    let after_processes = peopled.next;
+    let with_processes = peopled.net;
+    let stocked = read_all_tuples(s, after_processes, with_processes);
+    let after_tuples = stocked.next;
+    let with_tuples = stocked.net;
+    let coded = read_code(s, after_tuples, with_tuples);
+    let after_code = coded.next;
+    let net = coded.net;
+    let next = read_ending(s, after_code);
+    NetRead { net, next }
+}
+
+// Whether a process of address a keeps within its row.
+fn admits_process(code: [Instruction; 512], row: Row, a: Locality, p: Process) -> bool
+    ensures { λ r. ⌜ r ≡ admitsProcess code row (a .0) p ⌝ }
+{
+    let at = p.at;
+    if p.busy {
+        keeps(code, at, a, row)
+    } else {
+        true
+    }
+}
+
+// Whether each process of a node keeps within its row.
+fn admits_node(code: [Instruction; 512], a: Locality, x: Node) -> bool
+    ensures { λ r. ⌜ r ≡ admitsNode code (a .0) x ⌝ }
+{
+    let row = x.row;
+    let mut ok = true;
+    let mut i = 0;
+    while i < 4 {
+        let p = x.processes[i];
+        let good = admits_process(code, row, a, p);
+        ok = ok & good;
+        i += 1;
+    }
+    ok
+}
+
+// The same at an address, where it is in use.
+fn admits_at(net: Net, i: usize) -> bool
+    requires { ⌜ i < 16 ⌝ }
+    ensures { λ r. ⌜ r ≡ implies (ltb i (net .addresses)) (admitsNode (net .code) i (nodeAt net i)) ⌝ }
+{
+    let code = net.code;
+    let node = net.nodes[i];
+    let at = i as u8;
+    let a = Locality(at);
+    if i < net.addresses {
+        admits_node(code, a, node)
+    } else {
+        true
+    }
+}
+
+// Whether each starting process keeps within the row of its node.
+fn admitted(net: Net) -> bool
+    ensures { λ r. ⌜ r ≡ admits net ⌝ }
+{
+    let mut ok = true;
+    let mut i = 0;
+    while i < 16 {
+        let good = admits_at(net, i);
+        ok = ok & good;
+        i += 1;
+    }
+    ok
+}
+
+// A refusal, which leaves the empty net.
+fn refuse(fault: Fault) -> Opened
+    ensures { λ r. ⌜ r ≡ refused fault ⌝ }
+{
+    let answer = Answer::Refused(fault);
+    let net = Net::empty();
+    Opened { answer, net }
+}
+
+// A net whose layout is right, judged by its starting processes.
+fn judge(net: Net) -> Opened
+    ensures { λ r. ⌜ r ≡ choose (admits net) (accepted net) (refused (numbered 30)) ⌝ }
+{
+    if admitted(net) {
+        let answer = Answer::Accepted;
+        Opened { answer, net }
+    } else {
+        let fault = Fault { number: 30 };
+        refuse(fault)
+    }
+}
+
+// What an image gives: the net that it writes down, or the number of its first fault and the empty net.
+pub fn read_image(image: &[u8]) -> Opened
+    ensures { λ r. ⌜ r ≡ openedOf (now (image .entry)) ⌝ }
+{
+    let laid = read_layout(image);
+    let next = laid.next;
+    let net = laid.net;
+    match next {
+        Step::At(_) => judge(net),
+        Step::Failed(fault) => refuse(fault),
+    }
+}

@@ -1,0 +1,102 @@
+// Rows of an image (document 01, "The image", part 2).
+use crate::bits::NetRead;
+use crate::bits::Step;
+use crate::bits::take;
+use net::network::Net;
+use net::policy::Rights;
+use net::policy::Row;
+ghost use Prim.Native.Nat.{_<_, _≤_};
+ghost use mathlib.Core.Path.{_≡_};
+ghost use Rattle.image.specs.BitReader.{each};
+ghost use Rattle.image.specs.Image.{isSetBit, rightsOf, creating, rights, row, rowOf, rows};
+ghost use Rattle.image.specs.Progress.{seen, Went, Built};
+
+pub struct RowRead {
+    pub row: Row,
+    pub next: Step,
+}
+
+// Whether the bit of that unit is set in a number.
+fn is_set_bit(v: usize, unit: usize) -> bool
+    requires { ⌜ 0 < unit ⌝ }
+    ensures { λ r. ⌜ r ≡ isSetBit v unit ⌝ }
+{
+    let high = v / unit;
+    let bit = high % 2;
+    bit == 1
+}
+
+// The rights that four bits write.
+fn rights_of(v: usize) -> Rights
+    ensures { λ r. ⌜ r ≡ rightsOf v ⌝ }
+{
+    let take = is_set_bit(v, 8);
+    let read = is_set_bit(v, 4);
+    let put = is_set_bit(v, 2);
+    let send = is_set_bit(v, 1);
+    Rights {
+        take,
+        read,
+        put,
+        send,
+    }
+}
+
+// A row with no rights over any address, and n as the bit writes it.
+fn creating_row(v: usize) -> Row
+    ensures { λ r. ⌜ r ≡ creating v ⌝ }
+{
+    let mut row = Row::zero();
+    row.create = v == 1;
+    row
+}
+
+// The rights over each of n addresses.
+fn read_rights(s: &[u8], from: Step, n: usize, start: Row) -> RowRead
+    requires { ⌜ n ≤ 16 ⌝ }
+    ensures { λ r. ⌜ Went (seen (now (s .entry))) from (each n rights start) (r .next) (r .row) ⌝ }
+{
+    let mut row = start;
+    let mut step = from;
+    let mut i = 0;
+    while i < n {
+        let got = take(s, step, 4, 0, 16, 28);
+        let held = rights_of(got.value);
+        row.rights[i] = held;
+        step = got.next;
+        i += 1;
+    }
+    RowRead { row, next: step }
+}
+
+// A row over n addresses.
+fn read_row(s: &[u8], from: Step, n: usize) -> RowRead
+    requires { ⌜ n ≤ 16 ⌝ }
+    ensures { λ r. ⌜ Went (seen (now (s .entry))) from (row n) (r .next) (r .row) ⌝ }
+{
+    let got = take(s, from, 1, 0, 2, 28);
+    let start = creating_row(got.value);
+    let next = got.next;
+    read_rights(s, next, n, start)
+}
+
+// A row for each address.
+pub fn read_rows(s: &[u8], from: Step, start: Net) -> NetRead
+    requires { ⌜ start .addresses ≤ 16 ⌝ }
+    ensures { λ r. ⌜ Built (seen (now (s .entry))) from (rows start) start r ⌝ }
+{
+    let n = start.addresses;
+    let mut net = start;
+    let mut step = from;
+    let mut i = 0;
+    while i < n {
+        let got = read_row(s, step, n);
+        let row = got.row;
+        let mut node = net.nodes[i];
+        node.row = row;
+        net.nodes[i] = node;
+        step = got.next;
+        i += 1;
+    }
+    NetRead { net, next: step }
+}

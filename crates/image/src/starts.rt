@@ -1,0 +1,62 @@
+// Starting processes of an image (document 01, "The image", part 3).
+use crate::bits::NetRead;
+use crate::bits::NodeRead;
+use crate::bits::Step;
+use crate::bits::take;
+use crate::fields::read_place;
+use net::network::Net;
+use net::node::Node;
+use net::process::Process;
+ghost use Prim.Native.Nat.{_≤_};
+ghost use Rattle.image.specs.BitReader.{each};
+ghost use Rattle.image.specs.Image.{process, processes, allProcesses};
+ghost use Rattle.image.specs.Progress.{seen, Went, Built};
+
+// The starting places of a node, which fill slots 0 upward.
+fn read_slots(s: &[u8], from: Step, k: usize, count: usize, start: Node) -> NodeRead
+    requires { ⌜ count ≤ 4 ⌝ }
+    ensures { λ r. ⌜ Went (seen (now (s .entry))) from (each count (process k) start) (r .next) (r .node) ⌝ }
+{
+    let mut node = start;
+    let mut step = from;
+    let mut i = 0;
+    while i < count {
+        let got = read_place(s, step, k);
+        let at = got.place;
+        let started = Process::starting(at);
+        node.processes[i] = started;
+        step = got.next;
+        i += 1;
+    }
+    NodeRead { node, next: step }
+}
+
+// The processes of a node.
+fn read_processes(s: &[u8], from: Step, k: usize, start: Node) -> NodeRead
+    ensures { λ r. ⌜ Went (seen (now (s .entry))) from (processes k start) (r .next) (r .node) ⌝ }
+{
+    let got = take(s, from, 3, 0, 5, 22);
+    let next = got.next;
+    read_slots(s, next, k, got.value, start)
+}
+
+// The processes of each address.
+pub fn read_all_processes(s: &[u8], from: Step, start: Net) -> NetRead
+    requires { ⌜ start .addresses ≤ 16 ⌝ }
+    ensures { λ r. ⌜ Built (seen (now (s .entry))) from (allProcesses start) start r ⌝ }
+{
+    let n = start.addresses;
+    let k = start.length;
+    let mut net = start;
+    let mut step = from;
+    let mut i = 0;
+    while i < n {
+        let node = net.nodes[i];
+        let got = read_processes(s, step, k, node);
+        let filled = got.node;
+        net.nodes[i] = filled;
+        step = got.next;
+        i += 1;
+    }
+    NetRead { net, next: step }
+}

@@ -1,0 +1,132 @@
+// Tuples of an image (document 01, "The image", part 4).
+use crate::bits::NetRead;
+use crate::bits::NodeRead;
+use crate::bits::Step;
+use crate::bits::take;
+use crate::fields::read_address;
+use crate::fields::read_reading;
+use net::network::Net;
+use net::node::Node;
+use net::tuple::Field;
+use net::tuple::Item;
+use net::tuple::Tuple;
+ghost use Prim.Native.Nat.{_≤_};
+ghost use Rattle.image.specs.BitReader.{each};
+ghost use Rattle.image.specs.Image.{readingItem, addressItem, item, tupleField, tuple, stored, tuples, allTuples};
+ghost use Rattle.image.specs.Progress.{seen, Went, Built};
+ghost use Rattle.net.specs.Records.{zeroTuple};
+
+pub struct ItemRead {
+    pub item: Item,
+    pub next: Step,
+}
+
+pub struct TupleRead {
+    pub tuple: Tuple,
+    pub next: Step,
+}
+
+fn read_reading_item(s: &[u8], from: Step) -> ItemRead
+    ensures { λ r. ⌜ Went (seen (now (s .entry))) from readingItem (r .next) (r .item) ⌝ }
+{
+    let got = read_reading(s, from);
+    let item = Item::Reading(got.reading);
+    let next = got.next;
+    ItemRead { item, next }
+}
+
+fn read_address_item(s: &[u8], from: Step, n: usize) -> ItemRead
+    ensures { λ r. ⌜ Went (seen (now (s .entry))) from (addressItem n) (r .next) (r .item) ⌝ }
+{
+    let got = read_address(s, from, n);
+    let locality = got.locality;
+    let item = Item::Address(locality);
+    let next = got.next;
+    ItemRead { item, next }
+}
+
+// A field of a tuple: its sort, then a reading or an address.
+fn read_item(s: &[u8], from: Step, n: usize) -> ItemRead
+    ensures { λ r. ⌜ Went (seen (now (s .entry))) from (item n) (r .next) (r .item) ⌝ }
+{
+    let got = take(s, from, 1, 0, 2, 28);
+    let next = got.next;
+    if got.value == 0 {
+        read_reading_item(s, next)
+    } else {
+        read_address_item(s, next, n)
+    }
+}
+
+// The fields of a tuple.
+fn read_fields(s: &[u8], from: Step, n: usize, count: usize) -> TupleRead
+    ensures { λ r. ⌜ Went (seen (now (s .entry))) from (each count (tupleField n) zeroTuple) (r .next) (r .tuple) ⌝ }
+{
+    let mut tuple = Tuple::zero();
+    let mut step = from;
+    let mut i = 0;
+    while i < count {
+        let got = read_item(s, step, n);
+        let item = got.item;
+        let field = Field { item };
+        tuple = tuple.with_field(field);
+        step = got.next;
+        i += 1;
+    }
+    TupleRead { tuple, next: step }
+}
+
+fn read_tuple(s: &[u8], from: Step, n: usize) -> TupleRead
+    ensures { λ r. ⌜ Went (seen (now (s .entry))) from (tuple n) (r .next) (r .tuple) ⌝ }
+{
+    let got = take(s, from, 2, 0, 4, 28);
+    let next = got.next;
+    let count = got.value + 1;
+    read_fields(s, next, n, count)
+}
+
+// As many tuples of a node, oldest first.
+fn read_store(s: &[u8], from: Step, n: usize, count: usize, start: Node) -> NodeRead
+    ensures { λ r. ⌜ Went (seen (now (s .entry))) from (each count (stored n) start) (r .next) (r .node) ⌝ }
+{
+    let mut node = start;
+    let mut step = from;
+    let mut i = 0;
+    while i < count {
+        let got = read_tuple(s, step, n);
+        let tuple = got.tuple;
+        node = node.with_tuple(tuple);
+        step = got.next;
+        i += 1;
+    }
+    NodeRead { node, next: step }
+}
+
+// The tuples of a node.
+fn read_tuples(s: &[u8], from: Step, n: usize, start: Node) -> NodeRead
+    ensures { λ r. ⌜ Went (seen (now (s .entry))) from (tuples n start) (r .next) (r .node) ⌝ }
+{
+    let got = take(s, from, 5, 0, 17, 22);
+    let next = got.next;
+    read_store(s, next, n, got.value, start)
+}
+
+// The tuples of each address.
+pub fn read_all_tuples(s: &[u8], from: Step, start: Net) -> NetRead
+    requires { ⌜ start .addresses ≤ 16 ⌝ }
+    ensures { λ r. ⌜ Built (seen (now (s .entry))) from (allTuples start) start r ⌝ }
+{
+    let n = start.addresses;
+    let mut net = start;
+    let mut step = from;
+    let mut i = 0;
+    while i < n {
+        let node = net.nodes[i];
+        let got = read_tuples(s, step, n, node);
+        let filled = got.node;
+        net.nodes[i] = filled;
+        step = got.next;
+        i += 1;
+    }
+    NetRead { net, next: step }
+}
