@@ -1,3 +1,10 @@
+pub mod Buffer
+pub mod Calls
+pub mod Drawn
+pub mod Making
+pub mod Register
 pub mod Run
 pub mod TenantRule
+pub mod Turn
 pub mod Types
+pub mod Writing

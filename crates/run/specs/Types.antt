@@ -2,6 +2,8 @@
 pub use Rattle.net.specs.declared.locality.Locality.{Locality}
 pub use Rattle.net.specs.declared.locality.Place.{Place}
 pub use Rattle.net.specs.declared.tuple.Value.{Value}
+pub use Rattle.net.specs.declared.tuple.Item.{Item}
+pub use Rattle.net.specs.declared.tuple.Field.{Field}
 pub use Rattle.net.specs.declared.tuple.Tuple.{Tuple}
 pub use Rattle.net.specs.declared.policy.Rights.{Rights}
 pub use Rattle.net.specs.declared.policy.Row.{Row}
@@ -21,3 +23,5 @@ pub use Rattle.image.specs.declared.reader.Answer.{Answer as Reading}
 pub use Rattle.step.specs.declared.request.Request.{Request}
 pub use Rattle.step.specs.declared.answer.Answer.{Answer}
 pub use Rattle.step.specs.declared.answer.Picked.{Picked}
+pub use Rattle.step.specs.declared.plan.Effect.{Effect}
+pub use Rattle.step.specs.declared.plan.Plan.{Plan}

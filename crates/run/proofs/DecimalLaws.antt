@@ -1,0 +1,59 @@
+-- Laws of decimal numbers (`specs/Register.antt`). Assumes nothing.
+use Prim.Native.Nat.{ℕ, zero, suc, _+_, _-_, _/_, _%_, _<_, _≤_}
+use mathlib.Core.Path.{_≡_, refl, sym, ap, subst, _∙_}
+use mathlib.Core.Bool.{Bool, true, false}
+use mathlib.Core.List.{List, [], _∷_, _++_}
+use native.Mathlib.Omega.{arith}
+use lib.Dec.{ltb}
+use borrow.Author.Tests.{lt-ltb, le-ltb, ltb-true, ltb-false}
+use Rattle.net.specs.Choice.{choose}
+use Rattle.net.proofs.Laws.{choose-true, choose-false}
+use Rattle.run.specs.Register.{digit, digits, decimal}
+use Rattle.run.specs.Writing.{Wrote}
+use Rattle.run.proofs.WritingLaws.{wrote-then}
+
+-- two sides of a choice that agree where they are taken
+alike :
+    {A : Type 0} (n : ℕ) (x y z : A) → (10 ≤ n → y ≡ z) → choose (ltb n 10) x y ≡ choose (ltb n 10) x z
+alike n x y z f = go (ltb n 10) refl
+  where
+    go : (b : Bool) → b ≡ ltb n 10 → choose (ltb n 10) x y ≡ choose (ltb n 10) x z
+    go true e = choose-true _ _ _ (sym e) ∙ sym (choose-true _ _ _ (sym e))
+    go false e = ap (choose (ltb n 10) x) (f (ltb-false n 10 (sym e)))
+
+-- one more digit allowed than a number can have makes no difference
+digits-more : (k n : ℕ) → n < k → digits k n ≡ digits (suc k) n
+unfolding digits
+digits-more zero n h = absurd (omega arith)
+digits-more (suc k) n h =
+    alike n _ _ _ (λ l. ap (λ (ds : List ℕ). ds ++ digit (n % 10) ∷ []) (digits-more k (n / 10) (omega arith)))
+
+digits-plus : (j k n : ℕ) → n < k → digits k n ≡ digits (j + k) n
+digits-plus zero k n h = ap (λ (i : ℕ). digits i n) (omega arith)
+digits-plus (suc j) k n h =
+    digits-plus j k n h ∙ digits-more (j + k) n (omega arith) ∙ ap (λ (i : ℕ). digits i n) (omega arith)
+
+-- a number below 10 is its digit
+pub decimal-digit : (n : ℕ) → n < 10 → digit n ∷ [] ≡ decimal n
+unfolding decimal digits
+decimal-digit n h = sym (choose-true _ _ _ (lt-ltb n 10 h))
+
+-- any other ends with a digit
+pub decimal-more : (n : ℕ) → 10 ≤ n → decimal (n / 10) ++ digit (n % 10) ∷ [] ≡ decimal n
+unfolding decimal digits
+decimal-more n h =
+    ap (λ (ds : List ℕ). ds ++ digit (n % 10) ∷ [])
+    (let whole : n - suc (n / 10) + suc (n / 10) ≡ n = omega arith in
+    digits-plus (n - suc (n / 10)) (suc (n / 10)) (n / 10) (omega arith) ∙ ap (λ (i : ℕ). digits i (n / 10)) whole)
+    ∙ sym (choose-false _ _ _ (le-ltb n 10 h))
+
+-- ---- as they are written
+module _ (xs : List ℕ) (at n : ℕ) where
+  pub wrote-digit : (ys : List ℕ) (r : ℕ) → n < 10 → Wrote xs at (digit n ∷ []) ys r → Wrote xs at (decimal n) ys r
+  wrote-digit ys r h w = subst (λ (t : List ℕ). Wrote xs at t ys r) (decimal-digit n h) w
+
+  pub wrote-digits :
+      (ys zs : List ℕ) (r q : ℕ) → 10 ≤ n → Wrote xs at (decimal (n / 10)) ys r → Wrote ys r (digit (n % 10) ∷ []) zs q
+      → Wrote xs at (decimal n) zs q
+  wrote-digits ys zs r q h w v =
+      subst (λ (t : List ℕ). Wrote xs at t zs q) (decimal-more n h) (wrote-then xs at _ _ _ _ _ _ w v)

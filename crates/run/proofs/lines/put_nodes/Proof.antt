@@ -1,0 +1,35 @@
+-- `run::lines::put_nodes` meets its contract. Assumes nothing.
+use Prim.Native.Nat.{_+_, _-_, _≤_}
+use mathlib.Core.Path.{_≡_}
+use lib.ListN.{length, getD}
+use Rattle.run.specs.Register.{pieces, nodeLines, netLines}
+use Rattle.run.specs.Writing.{Wrote}
+use Rattle.run.proofs.WritingLaws.{pieces-none, pieces-more, pieces-upto, wrote-length}
+use Rattle.net.specs.Records.{nodeAt}
+use borrow.Author.Needs.{needs}
+use Rattle.run.proofs.lines.put_nodes.Statement.{statement}
+use Rattle.run.proofs.lines.put_nodes.Tie as tie
+
+abbrev Inv-loop : tie.InvT-loop
+Inv-loop out₀ at net n next₀ i₀ out next i = Wrote out₀ at (pieces i (λ j. nodeLines j (nodeAt net j))) out next × (i ≤ n)
+
+abbrev μ-loop : tie.MeasureT-loop
+μ-loop out₀ at net n next₀ i₀ out next i = n - i
+
+pub put-nodes-spec : {M : Type 1} → statement M
+unfolding netLines nodeAt
+put-nodes-spec =
+    tie.close
+    (tie.spec
+    Inv-loop
+    μ-loop
+    (λ c κs. search needs)
+    (λ c. search (needs, pieces-none))
+    (λ c. search needs)
+    (λ c. search needs)
+    (λ c κs. search needs)
+    (λ c. search needs)
+    (λ c. search needs)
+    (λ c. search (needs, pieces-more))
+    (λ c. search (needs, wrote-length))
+    (λ c. search (needs, pieces-upto)))

@@ -1,0 +1,34 @@
+-- `run::lines::put_picks` meets its contract. Assumes nothing.
+use Prim.Native.Nat.{_+_, _-_, _≤_}
+use mathlib.Core.Path.{_≡_}
+use lib.ListN.{length, getD}
+use Rattle.run.specs.Register.{pieces, pickLine, pickLines}
+use Rattle.run.specs.Writing.{Wrote}
+use Rattle.run.proofs.WritingLaws.{pieces-none, pieces-more, pieces-end, wrote-length}
+use borrow.Author.Needs.{needs}
+use Rattle.run.proofs.lines.put_picks.Statement.{statement}
+use Rattle.run.proofs.lines.put_picks.Tie as tie
+
+abbrev Inv-loop : tie.InvT-loop
+Inv-loop out₀ at picks answers next₀ i₀ out next i = Wrote out₀ at (pieces i (λ j. pickLine (j + 1) (getD picks j 0) (getD answers j 0))) out next × (i ≤ length picks)
+
+abbrev μ-loop : tie.MeasureT-loop
+μ-loop out₀ at picks answers next₀ i₀ out next i = length picks - i
+
+pub put-picks-spec : {M : Type 1} → statement M
+unfolding pickLines
+put-picks-spec =
+    tie.close
+    (tie.spec
+    Inv-loop
+    μ-loop
+    (λ c. search (needs, pieces-none))
+    (λ c. search needs)
+    (λ c. search needs)
+    (λ c. search needs)
+    (λ c κs. search needs)
+    (λ c. search needs)
+    (λ c. search needs)
+    (λ c. search (needs, pieces-more))
+    (λ c. search (needs, wrote-length))
+    (λ c. search (needs, pieces-end)))

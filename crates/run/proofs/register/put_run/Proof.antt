@@ -1,0 +1,18 @@
+-- `run::register::put_run` meets its contract. Assumes nothing.
+use Rattle.run.proofs.CallLaws.{register-run}
+use borrow.Author.Needs.{needs}
+use Rattle.run.proofs.register.put_run.Statement.{statement}
+use Rattle.run.proofs.register.put_run.Tie as tie
+
+pub put-run-spec : {M : Type 1} → statement M
+put-run-spec =
+    tie.close
+    (tie.spec
+    (λ c. search needs)
+    (λ c κs. search needs)
+    (λ c κs. search needs)
+    (λ c. search needs)
+    (λ c κs. search needs)
+    (λ c κs. search needs)
+    (λ c. search needs)
+    (λ c. search (needs, register-run)))

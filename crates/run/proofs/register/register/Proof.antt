@@ -1,0 +1,15 @@
+-- `run::register::register` meets its contract. Assumes nothing.
+use Rattle.run.proofs.CallLaws.{written-whole, written-cut}
+use borrow.Author.Needs.{needs}
+use Rattle.run.proofs.register.register.Statement.{statement}
+use Rattle.run.proofs.register.register.Tie as tie
+
+pub register-spec : {M : Type 1} → statement M
+register-spec =
+    tie.close
+    (tie.spec
+    (λ c κs. search needs)
+    (λ c. search needs)
+    (λ c. (search (needs, written-whole, written-cut), search needs))
+    (λ c. search needs)
+    (λ c. (search (needs, written-whole, written-cut), search needs)))

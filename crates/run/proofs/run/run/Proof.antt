@@ -1,0 +1,18 @@
+-- `run::run::run` meets its contract. Assumes nothing.
+use Rattle.run.proofs.CallLaws.{startable, accepted-finish, refused-finish, accepted-left, refused-left}
+use borrow.Author.Needs.{needs}
+use Rattle.run.proofs.run.run.Statement.{statement}
+use Rattle.run.proofs.run.run.Tie as tie
+
+pub run-spec : {M : Type 1} → statement M
+run-spec =
+    tie.close
+    (tie.spec
+    (λ c κs. search needs)
+    (λ c. search needs)
+    (λ c κs. search (needs, startable))
+    (λ c. search needs)
+    (λ c κs. search needs)
+    (λ c. search needs)
+    (λ c. (search (needs, accepted-finish, refused-finish), search (needs, accepted-left, refused-left)))
+    (λ c. (search (needs, accepted-finish, refused-finish), search (needs, accepted-left, refused-left))))

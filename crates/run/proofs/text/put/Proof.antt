@@ -1,0 +1,16 @@
+-- `run::text::put` meets its contract. Assumes nothing.
+use Rattle.run.proofs.WritingLaws.{wrote-byte, wrote-past}
+use borrow.Author.Needs.{needs}
+use Rattle.run.proofs.text.put.Statement.{statement}
+use Rattle.run.proofs.text.put.Tie as tie
+
+pub put-spec : {M : Type 1} → statement M
+put-spec =
+    tie.close
+    (tie.spec
+    (λ c. search needs)
+    (λ c. search needs)
+    (λ c. search needs)
+    (λ c. search needs)
+    (λ c. search (needs, wrote-byte, wrote-past))
+    (λ c. search (needs, wrote-byte, wrote-past)))

@@ -1,0 +1,16 @@
+-- `run::turn::is_ready` meets its contract. Assumes nothing.
+use Rattle.net.proofs.Laws.{branches}
+use Rattle.net.specs.Choice.{both}
+use Rattle.step.specs.Pick.{spareOf, hostOf}
+use Rattle.run.specs.Turn.{ready}
+use borrow.Author.Needs.{needs}
+use Rattle.run.proofs.turn.is_ready.Statement.{statement}
+use Rattle.run.proofs.turn.is_ready.Tie as tie
+
+pub is-ready-spec : {M : Type 1} → statement M
+unfolding ready spareOf hostOf both
+is-ready-spec =
+    tie.close
+    (tie.spec
+    (λ c. search needs)
+    (λ c. search (needs, branches)))

@@ -1,0 +1,34 @@
+-- How far the loop over picks has come: what is left gives what the whole gives.
+use Prim.Native.Nat.{ℕ, _≤_}
+use mathlib.Core.Path.{_≡_}
+use mathlib.Core.Bool.{true}
+use mathlib.Core.List.{List, map}
+use lib.ListN.{length, drop}
+use Rattle.net.specs.Soundness.{soundOf}
+use Rattle.step.specs.Answer.{numberOf}
+use Rattle.step.specs.Shape.{Shaped}
+use Rattle.run.specs.Types.{Net}
+use Rattle.run.specs.Run.{Ran, ranFrom}
+use Rattle.run.specs.Buffer.{over}
+
+-- the answers of a run as bytes
+unfoldable pub numbers : Ran → List ℕ
+numbers r = map numberOf (r .answers)
+
+-- a net that the loop may start from
+pub record Startable (s : Net) : Type 0 where
+  pub shaped : Shaped s
+  pub sound : soundOf s ≡ true
+
+-- after i picks of those from net s₀ and buffer xs₀ the net is s and the buffer xs
+pub record Making (s₀ : Net) (picks xs₀ : List ℕ) (s : Net) (i : ℕ) (xs : List ℕ) : Type 0 where
+  pub startable : Startable s
+  pub some : i ≤ length picks
+  pub net-is : ranFrom s (drop i picks) .net ≡ ranFrom s₀ picks .net
+  pub left-is : over xs i (numbers (ranFrom s (drop i picks))) ≡ over xs₀ 0 (numbers (ranFrom s₀ picks))
+  pub long : length xs ≡ length xs₀
+
+-- what the loop leaves
+pub record Made (s₀ : Net) (picks xs₀ xs : List ℕ) (s : Net) : Type 0 where
+  pub net-is : s ≡ ranFrom s₀ picks .net
+  pub left-is : xs ≡ over xs₀ 0 (numbers (ranFrom s₀ picks))
