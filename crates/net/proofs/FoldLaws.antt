@@ -1,6 +1,6 @@
 -- Laws of the loops that change one value at each number below a bound (`fold` of `specs/Choice.antt`), stated over what
 -- a turn does. Assumes nothing.
-use Prim.Native.Nat.{ℕ, suc, _+_, _≤_}
+use Prim.Native.Nat.{ℕ, zero, suc, _+_, _<_, _≤_}
 use mathlib.Core.Path.{_≡_, ap, _∙_}
 use native.Mathlib.Omega.{arith}
 use native.Mathlib.Numerals.{add-one}
@@ -23,3 +23,12 @@ module _ {A : Type 0} (f : ℕ → A → A) (a : A) where
   -- every turn is made
   pub fold-end : (i n : ℕ) (x : A) → x ≡ fold i f a → i ≤ n → n ≤ i → x ≡ fold n f a
   fold-end i n x p l g = let e : i ≡ n = omega arith in rw e at p
+
+-- turns, each of which keeps a fact
+module _ {A : Type 0} (P : ℕ → A → Type 0) (f : ℕ → A → A) (a : A) where
+  pub fold-keeps :
+      (size : ℕ) → P 0 a → ((i : ℕ) (x : A) → i < size → P i x → P (suc i) (f i x)) → P size (fold size f a)
+  unfolding fold
+  fold-keeps zero p turn = p
+  fold-keeps (suc size) p turn =
+      turn size _ (omega arith) (fold-keeps size p (λ i x h q. turn i x (omega arith) q))

@@ -3,8 +3,11 @@ pub mod Every
 pub mod FirstLaws
 pub mod FoldLaws
 pub mod KeepingLaws
+pub mod KeepingPromise
 pub mod Laws
+pub mod Lowest
 pub mod MatchingLaws
+pub mod MatchingPromise
 pub mod NodeLaws
 pub mod Past
 pub mod Reached

@@ -1,7 +1,9 @@
 pub mod Choice
 pub mod Judged
 pub mod Keeping
+pub mod KeepingPromise
 pub mod Matching
+pub mod MatchingPromise
 pub mod Reaching
 pub mod ReachingClaims
 pub mod Records

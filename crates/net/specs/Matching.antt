@@ -114,8 +114,8 @@ boundField p x (Want.AnyAddress v) = withVariable p v (valueOf x)
 unfoldable pub boundOf : Process → Tuple → Evaluated → Process
 boundOf p t e = fold 4 (λ i q. choose (ltb i (e .count)) (boundField q (fieldAt t i) (wantAt e i)) q) p
 
--- ---- the promise that the crate above rests on: which tuple an evaluated template meets at a node, and the process
--- afterwards, which is unchanged where none fits
+-- ---- what the crate above calls: which tuple an evaluated template meets at a node, and the process afterwards, which
+-- is unchanged where none fits. What it may rest on is in `MatchingPromise.antt`
 unfoldable pub boundAt : Found → Process → Node → Evaluated → Process
 boundAt (Found.At i) p n e = boundOf p (tupleAt n i) e
 boundAt Found.Nothing p n e = p

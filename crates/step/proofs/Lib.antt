@@ -1,5 +1,5 @@
 pub mod DemandOne
-pub mod Lowest
+pub mod Lengths
 pub mod Outcomes
 pub mod PickLaws
 pub mod PutBack

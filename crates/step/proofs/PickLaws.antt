@@ -2,19 +2,18 @@
 use Prim.Native.Nat.{ℕ, _<_, _≤_}
 use mathlib.Core.Path.{_≡_, refl, sym, ap, _∙_}
 use mathlib.Core.Bool.{Bool, true, false}
-use mathlib.Core.List.{List, []}
+use mathlib.Core.List.{[]}
 use native.Mathlib.Omega.{arith}
-use lib.Dec.{ltb}
 use lib.ListN.{length, set, List·getD-eq-default}
 use borrow.Author.Tests.{ltb-true}
-use Rattle.net.specs.Choice.{choose, all, both, implies, fold}
-use Rattle.net.specs.Records.{nodeAt, instructionAt, patternAt, zeroInstruction, zeroTemplateField, withNode}
-use Rattle.net.specs.Matching.{evaluatedOf, wantsOf}
+use Rattle.net.specs.Choice.{choose}
+use Rattle.net.specs.Records.{nodeAt, instructionAt, zeroInstruction, withNode}
+use Rattle.net.specs.Matching.{evaluatedOf}
 use Rattle.net.proofs.Laws.{choose-true, choose-false}
 use Rattle.step.specs.Types.{Action, Process, Row, Node, Net, Evaluated, Instruction, Slot, Found}
 use Rattle.step.specs.Answer.{Answer, Picked}
 use Rattle.step.specs.Request.{Request, requestOf, asked, granted}
-use Rattle.step.specs.Pick.{processStep, acting, isLack}
+use Rattle.step.specs.Pick.{processStep, acting, isLack, done}
 use Rattle.step.specs.Plan.{Effect, Plan, still, going, stopPlan, outPlan, inPlan, readPlan, startPlan, evalPlan, newPlan}
 use Rattle.step.specs.Plan.{donePlan, planOf, targetIndex, changes, effectOn, grownCount, grown, hostAfter, hosted, putBack}
 use Rattle.step.specs.Plan.{sentWithin, planIn, Planned}
@@ -129,7 +128,7 @@ process-step-is s a k p c e req l within plan after he hr hl hw hp ha =
 -- past the code stands a stop
 pub past-code : (s : Net) (a k n : ℕ) (p : Process) (c : Instruction) (r : Picked) → length (s .code) ≡ 512 → 512 ≤ n → c ≡ zeroInstruction
     → r ≡ processStep s a k p c → r ≡ processStep s a k p (instructionAt (s .code) n)
-unfolding instructionAt processStep evaluatedOf wantsOf requestOf asked zeroInstruction zeroTemplateField all both implies fold choose patternAt
+unfolding instructionAt processStep requestOf asked acting isLack granted done choose zeroInstruction
 past-code s a k n p c r l h e q =
     q ∙ ap (processStep s a k p) e ∙
     ap (processStep s a k p) (sym (List·getD-eq-default (s .code) (record { action = Action.Stop; count = 0; template = [] }) {n = n} (omega arith)))

@@ -5,20 +5,20 @@ use mathlib.Core.Bool.{Bool, true, false}
 use native.Mathlib.Omega.{arith}
 use native.Mathlib.Decide.{decLt}
 use lib.Dec.{ltb}
-use lib.ListN.{length, getD, List·getD-eq-default}
+use lib.ListN.{length, List·getD-eq-default}
 use lib.Seq.{set-getD}
 use borrow.Author.Tests.{lt-ltb, ltb-true}
 use Rattle.net.specs.Choice.{choose}
 use Rattle.net.specs.Records.{nodeAt, rightsAt, withNode, withRow, withProcess, freeSlot, noRights}
-use Rattle.net.specs.Keeping.{mayTake, mayRead, mayPut, maySend, keepsOf}
-use Rattle.net.specs.Matching.{matchedOf}
+use Rattle.net.specs.Keeping.{keepsOf}
 use Rattle.net.proofs.Laws.{choose-true}
-use Rattle.step.specs.Types.{Locality, Place, Rights, Row, Process, Node, Slot, Net, Evaluated, Found, Matched}
+use Rattle.net.proofs.KeepingPromise.{keepingPromise as promise}
+use Rattle.step.specs.Types.{Locality, Place, Rights, Row, Process, Slot, Net, Evaluated, Found}
 use Rattle.step.specs.Answer.{Answer, Picked}
 use Rattle.step.specs.Request.{Request, granted}
 use Rattle.step.specs.Pick.{withHost, stopped, out, input, inFound, read, readFound, startedIn, eval, fork, create, created, done, isLack}
 use Rattle.step.specs.Pick.{acting, unchanged, performed, added, taken, tupleOf, opened}
-use Rattle.step.specs.Plan.{Effect, Plan, still, going, stopPlan, outPlan, inPlan, readPlan, startPlan, evalPlan, newPlan}
+use Rattle.step.specs.Plan.{Plan, still, going, stopPlan, outPlan, inPlan, readPlan, startPlan, evalPlan, newPlan}
 use Rattle.step.specs.Plan.{donePlan, planOf, near, targetIndex, changes, effectOn, grownCount, grown, hostAfter, hosted, putBack}
 use Rattle.step.specs.Plan.{sentWithin, planIn}
 
@@ -113,17 +113,21 @@ module _ (s : Net) (a k : ℕ) (p : Process) (e : Evaluated) (len : length (node
       (donePlan (nodeAt s a .row) p (nodeAt s (targetIndex a (s .addresses) req)) e (s .addresses)
       (sentWithin (s .code) (nodeAt s (targetIndex a (s .addresses) req) .row) req) req)
       ≡ done s a k p e req
-  unfolding isLack granted targetIndex donePlan sentWithin done input read fork mayTake mayRead mayPut maySend noRights
+  unfolding isLack granted targetIndex donePlan sentWithin done input read fork noRights
   done-back Request.Lack n g = let y : _≡_ {A = ℕ} 0 1 = cc in absurd (omega arith)
   done-back Request.Stop n g = stop-back s a k
   done-back (Request.Out l q) n g =
-      rw (near-is (l .0) a (over (nodeAt s a .row) (l .0) (λ r. r .put) len refl g)) (out-back s a k p (l .0) q e)
+      rw (near-is (l .0) a (over (nodeAt s a .row) (l .0) (λ r. r .put) len refl (sym (promise .puts _ l) ∙ g)))
+      (out-back s a k p (l .0) q e)
   done-back (Request.In l q) n g =
-      rw (near-is (l .0) a (over (nodeAt s a .row) (l .0) (λ r. r .take) len refl g)) (in-back s a k (l .0) q _ _)
+      rw (near-is (l .0) a (over (nodeAt s a .row) (l .0) (λ r. r .take) len refl (sym (promise .takes _ l) ∙ g)))
+      (in-back s a k (l .0) q _ _)
   done-back (Request.Read l q) n g =
-      rw (near-is (l .0) a (over (nodeAt s a .row) (l .0) (λ r. r .read) len refl g)) (read-back s a k (l .0) q _ _)
+      rw (near-is (l .0) a (over (nodeAt s a .row) (l .0) (λ r. r .read) len refl (sym (promise .reads _ l) ∙ g)))
+      (read-back s a k (l .0) q _ _)
   done-back (Request.Eval l sent q) n g =
-      rw (near-is (l .0) a (over (nodeAt s a .row) (l .0) (λ r. r .send) len refl g)) (eval-back s a k p l sent q _ refl)
+      rw (near-is (l .0) a (over (nodeAt s a .row) (l .0) (λ r. r .send) len refl (sym (promise .sends _ l) ∙ g)))
+      (eval-back s a k p l sent q _ refl)
   done-back (Request.New v q) n g = new-back s a k p v q
   done-back (Request.Fork q q′) n g = start-back s a k p a q′ q (freeSlot (nodeAt s a))
 

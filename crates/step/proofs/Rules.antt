@@ -2,33 +2,33 @@
 -- rule's premises let each test pass.
 -- Assumes nothing.
 use Prim.Native.Nat.{ℕ, _<_, _≤_}
-use mathlib.Core.Path.{_≡_, refl, sym, ap, subst, _∙_}
+use mathlib.Core.Path.{_≡_, refl, ap, subst, _∙_}
 use mathlib.Core.Logic.{_↔_}
 use mathlib.Core.Bool.{Bool, true, false, not}
 use native.Mathlib.Omega.{arith}
-use lib.Dec.{ltb}
 use borrow.Author.Tests.{ltb-true, lt-ltb, eq-eqb, not-true, not-false}
-use Rattle.net.specs.Choice.{both}
 use Rattle.net.specs.Records.{processAt, tupleAt, nodeAt, movedTo, copiedTo, freeSlot}
-use Rattle.net.specs.Matching.{fitsOf, boundOf, boundAt, matchedOf, oldestOf}
+use Rattle.net.specs.Matching.{boundOf, matchedOf}
 use Rattle.net.specs.Soundness.{soundOf, targetSound, actionSound}
-use Rattle.net.proofs.Laws.{both-i, both-l, both-r, both-false-r, choose-true, choose-false}
-use Rattle.step.specs.Types.{Locality, Place, Process, Node, Slot, Target, Action, Evaluated, Net, Found}
+use Rattle.net.specs.MatchingPromise.{OldestThatFits}
+use Rattle.net.proofs.Laws.{both-l, both-r, choose-true, choose-false}
+use Rattle.net.proofs.MatchingPromise.{matchingPromise as promise}
+use Rattle.net.proofs.Lowest.{Lowest, first-is, first-cases}
+use Rattle.step.specs.Types.{Locality, Place, Process, Node, Slot, Target, Action, Evaluated, Net, Found, Matched}
 use Rattle.step.specs.Answer.{Answer, Picked, numberOf}
 use Rattle.step.specs.Request.{Aim, Request, targetOf, at, spoken, asked, requestOf, granted}
 use Rattle.step.specs.Pick.{hostOf, slotOf, spareOf, performed, unchanged, withHost, stopped, out, inFound, input}
 use Rattle.step.specs.Pick.{readFound, read, startedIn, eval, fork, create, done, isLack, acting, processStep}
 use Rattle.step.specs.Pick.{stepOf, slotStep, pickOf}
-use Rattle.step.specs.Rules.{processIn, instructionIn, templateIn, rowIn, Stands, Points, OldestThatFits}
+use Rattle.step.specs.Rules.{processIn, instructionIn, templateIn, rowIn, Stands, Points}
 use Rattle.step.specs.Rules.{LowestFree, Step, OUT, IN, READ, EVAL, NEW, FORK, Stop, NIL}
 use Rattle.step.specs.Rules.{StepIsPick, StopIsPick}
-use Rattle.step.proofs.Lowest.{Lowest, first-is, first-cases}
 use Rattle.step.proofs.StepFacts.{Facts, facts, stored-few, Running, running, target-exists}
 use Rattle.step.proofs.Within.{keeps-within, within-keeps}
 use Rattle.step.proofs.Outcomes.{Outcome, performs, refuses, ends, outcome}
 use Rattle.step.proofs.ReadBack.{Gave, same-number, refused, through, Aimed, acted, aimed, spoke, seated}
 
--- ---- the lowest free slot and the oldest tuple that fits, as the definitions look for them
+-- ---- the lowest free slot, as the definition looks for it
 free-test : Node → ℕ → Bool
 free-test x j = not (processAt x j .busy)
 
@@ -47,43 +47,6 @@ slot-cases :
     (P : Slot → Type 0) (x : Node) → ((j : ℕ) → LowestFree x j → P (Slot.Number j)) → P Slot.Full → P (freeSlot x)
 unfolding freeSlot free-test
 slot-cases P x f = first-cases P 4 (free-test x) Slot.Number Slot.Full (λ j h. f j (slot-lowest x j .0 h))
-
-fit-test : Node → Evaluated → ℕ → Bool
-fit-test x e i = both (ltb i (x .stored)) (fitsOf (tupleAt x i) e)
-
-both-false : (x y : Bool) → x ≡ true → both x y ≡ false → y ≡ false
-unfolding both
-both-false x y e h = rw e at h
-
-oldest-lowest : (x : Node) (e : Evaluated) (i : ℕ) → x .stored ≤ 16 → Lowest 16 (fit-test x e) i ↔ OldestThatFits x e i
-unfolding fit-test
-oldest-lowest x e i few = (
-  λ h.
-      let l : i < x .stored = ltb-true _ _ (both-l _ _ (h .holds)) in
-      record {
-        present = l;
-        fits = both-r _ _ (h .holds);
-        oldest = λ j m. both-false _ _ (lt-ltb j (x .stored) (omega arith)) (h .before j m);
-      },
-  λ h.
-      let l : i < x .stored = h .present in
-      record {
-        below = omega arith;
-        holds = both-i _ _ (lt-ltb _ _ l) (h .fits);
-        before = λ j m. sym (both-false-r _ _ (lt-ltb j (x .stored) (omega arith)) (h .oldest j m));
-      },
-)
-
-oldest-is : (x : Node) (e : Evaluated) (i : ℕ) → x .stored ≤ 16 → OldestThatFits x e i → oldestOf x e ≡ Found.At i
-unfolding oldestOf fit-test
-oldest-is x e i few h = first-is 16 (fit-test x e) Found.At Found.Nothing i (oldest-lowest x e i few .1 h)
-
-oldest-cases :
-    (P : Found → Type 0) (x : Node) (e : Evaluated) → x .stored ≤ 16 → ((i : ℕ) → OldestThatFits x e i → P (Found.At i))
-    → P Found.Nothing → P (oldestOf x e)
-unfolding oldestOf fit-test
-oldest-cases P x e few f =
-    first-cases P 16 (fit-test x e) Found.At Found.Nothing (λ i h. f i (oldest-lowest x e i few .0 h))
 
 -- ---- a busy slot of an address in use, in a sound net
 record Seat (s : Net) (a : Locality) (k : ℕ) : Type 0 where
@@ -106,6 +69,10 @@ module _ (s : Net) (a : Locality) (k : ℕ) (seat : Seat s a k) where
 
   few-stored : (l : Locality) → l .0 < s .addresses → nodeAt s (l .0) .stored ≤ 16
   few-stored l h = stored-few (s .addresses) (s .length) (nodeAt s (l .0)) (seat .ok .nodes (l .0) h)
+
+-- what the template of the process in slot k of address a meets at l
+abbrev met : Net → Locality → ℕ → Locality → Matched
+met s a k l = matchedOf (processIn s a k) (nodeAt s (l .0)) (templateIn s a k)
 
 -- ---- from the pick to the rule
 final-0 : numberOf Answer.Performed ≤ 1
@@ -149,26 +116,24 @@ module _ (s : Net) (a : Locality) (k : ℕ) (after : Net) (seat : Seat s a k) wh
       }
 
   -- a template met the oldest tuple that fits
-  matched :
-      (l : Locality) (go : Found → Process → Picked)
-      → l .0 < s .addresses
-      → ((i : ℕ)
-      → OldestThatFits (nodeAt s (l .0)) (templateIn s a k) i
+  module _
+      (l : Locality) (go : Found → Process → Picked) (low : l .0 < s .addresses)
+      (at :
+      (i : ℕ) → OldestThatFits (nodeAt s (l .0)) (templateIn s a k) i
       → Gave Answer.Performed after
       (go (Found.At i) (boundOf (processIn s a k) (tupleAt (nodeAt s (l .0)) i) (templateIn s a k)))
       → Step s a k after)
-      → (Gave Answer.Performed after (go Found.Nothing (processIn s a k)) → ⊥)
-      → Gave Answer.Performed after
-      (go (oldestOf (nodeAt s (l .0)) (templateIn s a k))
-      (boundAt (oldestOf (nodeAt s (l .0)) (templateIn s a k)) (processIn s a k) (nodeAt s (l .0)) (templateIn s a k)))
-      → Step s a k after
-  unfolding boundAt
-  matched l go low f none =
-      oldest-cases
-      (λ m.
-      Gave Answer.Performed after (go m (boundAt m (processIn s a k) (nodeAt s (l .0)) (templateIn s a k)))
-      → Step s a k after)
-      (nodeAt s (l .0)) (templateIn s a k) (few-stored s a k seat l low) f (λ h. absurd (none h))
+      (none : (p : Process) → Gave Answer.Performed after (go Found.Nothing p) → ⊥)
+    where
+      met-by :
+          (f : Found) → met s a k l .found ≡ f → Gave Answer.Performed after (go f (met s a k l .process))
+          → Step s a k after
+      met-by (Found.At i) d g =
+          at i (promise .finds _ _ _ i (few-stored s a k seat l low) .0 d) (rw (promise .binds _ _ _ i d) at g)
+      met-by Found.Nothing d g = absurd (none _ g)
+
+      matched : Gave Answer.Performed after (go (met s a k l .found) (met s a k l .process)) → Step s a k after
+      matched = met-by (met s a k l .found) refl
 
   -- a started process found the lowest free slot
   started :
@@ -190,7 +155,7 @@ module _ (s : Net) (a : Locality) (k : ℕ) (after : Net) (seat : Seat s a k) wh
       → Gave Answer.Performed after
       (acting s (a .0) k (processIn s a k) (templateIn s a k) (asked a (processIn s a k) (templateIn s a k) x))
       → Step s a k after
-  unfolding asked granted done actionSound numberOf rowIn stopped out input inFound read readFound matchedOf eval fork
+  unfolding asked granted done actionSound numberOf rowIn stopped out input inFound read readFound eval fork
       create
   step-by Action.Stop h sound g =
       let no = same-number (acted final-0 s (a .0) k _ _ _ g .rest) in
@@ -205,14 +170,14 @@ module _ (s : Net) (a : Locality) (k : ℕ) (after : Net) (seat : Seat s a k) wh
       let r = reached _ t _ h (both-l _ _ sound) (sp .aims) in
       matched (r .l) (inFound s (a .0) k (r .l .0) q) (r .to .exists)
       (λ i o m. as-performed _ m (IN h (r .to) (sp .defined) (r .right) o))
-      (refused final-0 Answer.NoTuple s (omega arith))
+      (λ p. refused final-0 Answer.NoTuple s (omega arith))
       (r .rest)
   step-by (Action.Read t q) h sound g =
       let sp = spoke final-0 s (a .0) k _ _ _ _ g in
       let r = reached _ t _ h (both-l _ _ sound) (sp .aims) in
       matched (r .l) (readFound s (a .0) k q) (r .to .exists)
       (λ i o m. as-performed _ m (READ h (r .to) (sp .defined) (r .right) o))
-      (refused final-0 Answer.NoTuple s (omega arith))
+      (λ p. refused final-0 Answer.NoTuple s (omega arith))
       (r .rest)
   step-by (Action.Eval t sent q) h sound g =
       let r = reached _ t _ h (both-l _ _ sound) (aimed final-0 s (a .0) k _ _ _ _ g) in
@@ -263,13 +228,15 @@ module _ (s : Net) (a : Locality) (k : ℕ) where
       ∙ choose-true _ _ _ g
 
   step-does : (after : Net) → Seat s a k → Step s a k after → Does (performed after)
-  unfolding Does asked isLack granted done out input inFound read readFound matchedOf boundAt eval fork create startedIn
+  unfolding Does asked isLack granted done out input inFound read readFound eval fork create startedIn
   step-does _ seat (OUT h p d g room) =
       does _ _ h (spoken-is _ _ _ _ d (p .points)) refl g ∙ choose-true _ _ _ (lt-ltb _ _ room)
-  step-does _ seat (IN h p d g o) =
-      does _ _ h (spoken-is _ _ _ _ d (p .points)) refl g ∙ rw (oldest-is _ _ _ (few-stored s a k seat _ (p .exists)) o)
-  step-does _ seat (READ h p d g o) =
-      does _ _ h (spoken-is _ _ _ _ d (p .points)) refl g ∙ rw (oldest-is _ _ _ (few-stored s a k seat _ (p .exists)) o)
+  step-does _ seat (IN {l = l} {i = i} h p d g o) =
+      let found : met s a k l .found ≡ Found.At i = promise .finds _ _ _ i (few-stored s a k seat l (p .exists)) .1 o in
+      does _ _ h (spoken-is _ _ _ _ d (p .points)) refl g ∙ rw (found, promise .binds _ _ _ i found)
+  step-does _ seat (READ {l = l} {i = i} h p d g o) =
+      let found : met s a k l .found ≡ Found.At i = promise .finds _ _ _ i (few-stored s a k seat l (p .exists)) .1 o in
+      does _ _ h (spoken-is _ _ _ _ d (p .points)) refl g ∙ rw (found, promise .binds _ _ _ i found)
   step-does _ seat (EVAL h p g within f) =
       does _ _ h (at-is _ _ _ (p .points)) refl g
       ∙ choose-true _ _ _ (within-keeps s (seat .ok) _ (sent-low s a k seat _ _ _ h) _ _ within)

@@ -1,39 +1,32 @@
 -- What the changes that a step makes (`specs/Pick.antt`, and `Records.antt` of the crate `net`) keep: of a process that
 -- runs, of a node and of a net, in the facts of `SoundFacts.antt`.
 -- Assumes nothing.
-use Prim.Native.Nat.{ℕ, zero, suc, _+_, _-_, _<_, _≤_}
+use Prim.Native.Nat.{ℕ, _+_, _-_, _<_, _≤_}
 use mathlib.Core.Path.{_≡_, refl, _∙_}
 use mathlib.Core.Bool.{Bool, true}
 use mathlib.Core.List.{List}
 use native.Mathlib.Omega.{arith}
 use lib.ListN.{length, set}
 use lib.Dec.{ltb}
+use lib.IntN.{ℤ}
 use borrow.Author.Tests.{ltb-true, lt-ltb}
 use Rattle.net.specs.Choice.{choose, both, all, fold}
 use Rattle.net.specs.Records.{variableAt, tupleAt, nodeAt, instructionAt, fieldAt}
 use Rattle.net.specs.Records.{zeroField, zeroTuple, unsetVariable, freeProcess, noRights, zeroRow, zeroNode, allRights}
 use Rattle.net.specs.Records.{withVariable, withRights, withRow, withProcess, withTuple, withNode}
 use Rattle.net.specs.Records.{movedTo, copiedTo, afterTaking, withoutTuple}
-use Rattle.net.specs.Matching.{sameReading}
 use Rattle.net.specs.Soundness.{tupleSound, isZeroItem, isZeroTuple, isNone, valueSound, isUnset, isFree, processSound}
 use Rattle.net.specs.Soundness.{nodeSound, instructionSound}
 use Rattle.net.proofs.Laws.{both-i, both-l, both-r, choose-true, all-i, all-e}
 use Rattle.net.proofs.Every.{chosen-lt, Every, every-replicate, every-set, every-weaken, Filled, filled-set, filled-add}
 use Rattle.net.proofs.Past.{pastProcess, pastTuple}
+use Rattle.net.proofs.MatchingPromise.{matchingPromise as promise}
+use Rattle.net.proofs.FoldLaws.{fold-keeps}
 use Rattle.step.specs.Types.{Value, Variable, Tuple, Row, Process, Node, Place, Net}
 use Rattle.step.specs.Shape.{ShapedTuple, ShapedProcess}
 use Rattle.step.specs.Pick.{withHost, added, taken, gaining, opened, created}
 use Rattle.step.proofs.SoundFacts.{Good, NodeOk, NetOk, node-apart, node-together, node-more, instruction-more}
 use Rattle.step.proofs.SoundFacts.{choose-e, pastRights, value-more}
-
--- ---- turns, each of which keeps a fact
-module _ {A : Type 0} (P : ℕ → A → Type 0) (f : ℕ → A → A) (a : A) where
-  pub fold-keeps :
-      (size : ℕ) → P 0 a → ((i : ℕ) (x : A) → i < size → P i x → P (suc i) (f i x)) → P size (fold size f a)
-  unfolding fold
-  fold-keeps zero p turn = p
-  fold-keeps (suc size) p turn =
-      turn size _ (omega arith) (fold-keeps size p (λ i x h q. turn i x (omega arith) q))
 
 -- an array set anew at each place
 set-each :
@@ -93,8 +86,8 @@ module _ (n k : ℕ) where
 
 -- ---- a node
 zero-tuple : Good isZeroTuple ShapedTuple zeroTuple
-unfolding isZeroTuple zeroTuple both all fieldAt isZeroItem zeroField sameReading
-zero-tuple = record { passes = refl; shaped = record { fields-are = refl } }
+unfolding isZeroTuple zeroTuple both all fieldAt isZeroItem zeroField
+zero-tuple = record { passes = rw (promise .same (ℤ.pos 0)) refl; shaped = record { fields-are = refl } }
 
 module _ (n k : ℕ) (x : Node) (ok : NodeOk n k x) where
   pub with-process :

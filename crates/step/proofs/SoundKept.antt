@@ -1,21 +1,21 @@
 -- The claim of `specs/SoundKept.antt`: every pick keeps a net sound. Each request that is within a sound net keeps the
 -- facts of `SoundFacts.antt` (`done-kept`), and an instruction of a sound net asks for no other (`SoundRequests.antt`).
 -- Assumes nothing.
-use Prim.Native.Nat.{ℕ, zero, suc, _<_}
+use Prim.Native.Nat.{ℕ, _<_}
 use mathlib.Core.Path.{_≡_, refl, sym, ap, _∙_}
-use mathlib.Core.Bool.{Bool, true}
+use mathlib.Core.Bool.{true}
 use mathlib.Core.List.{List}
 use native.Mathlib.Omega.{arith}
 use lib.ListN.{getD, set, List·getD-map}
 use lib.Seq.{map-set-same}
-use borrow.Author.Tests.{ltb-true}
-use Rattle.net.specs.Choice.{firstFrom, firstBelow}
 use Rattle.net.specs.Records.{processAt, nodeAt, tupleAt, withProcess, withNode, movedTo, freeProcess}
-use Rattle.net.specs.Matching.{oldestOf, boundAt, matchedOf}
+use Rattle.net.specs.Matching.{matchedOf}
 use Rattle.net.specs.Soundness.{tupleSound, instructionSound, soundOf}
-use Rattle.net.proofs.Laws.{both-l, choose-true}
+use Rattle.net.specs.MatchingPromise.{OldestThatFits}
+use Rattle.net.proofs.Laws.{choose-true}
 use Rattle.net.proofs.Every.{chosen, chosen-lt}
-use Rattle.step.specs.Types.{Place, Tuple, Process, Node, Slot, Instruction, Net, Evaluated, Found}
+use Rattle.net.proofs.MatchingPromise.{matchingPromise as promise}
+use Rattle.step.specs.Types.{Place, Tuple, Process, Slot, Instruction, Net, Evaluated, Found}
 use Rattle.step.specs.Answer.{Answer, Picked}
 use Rattle.step.specs.Request.{Request}
 use Rattle.step.specs.Pick.{hostOf, slotOf, unchanged, performed, withHost, stopped, out, inFound, input}
@@ -27,22 +27,6 @@ use Rattle.step.proofs.SoundFacts.{Good, NetOk, sound-apart, ok-sound, 
 use Rattle.step.proofs.SoundChanges.{Running, running-apart, running-together, moved, copied, free}
 use Rattle.step.proofs.SoundChanges.{node-at, instruction-at, with-host, added-kept, taken-kept, created-kept}
 use Rattle.step.proofs.SoundRequests.{bound, RequestOk, request-ok}
-
--- ---- the lowest number at which a test holds, or nothing
-module _ {A : Type 0} (Q : A → Type 0) (test : ℕ → Bool) (at : ℕ → A) (nothing : A) where
-  first-is : Q nothing → ((i : ℕ) → test i ≡ true → Q (at i)) → (k i : ℕ) → Q (firstFrom k i test at nothing)
-  unfolding firstFrom
-  first-is none found zero i = none
-  first-is none found (suc k) i = chosen Q (test i) _ _ (found i) (λ _. first-is none found k (suc i))
-
-FoundOk : Node → Found → Type 0
-FoundOk x (Found.At i) = i < x .stored
-FoundOk x Found.Nothing = Unit {0}
-
-oldest-ok : (x : Node) (e : Evaluated) → FoundOk x (oldestOf x e)
-unfolding FoundOk oldestOf firstBelow
-oldest-ok x e =
-    first-is (FoundOk x) _ Found.At Found.Nothing tt (λ i h. ltb-true i (x .stored) (both-l _ _ h)) 16 0
 
 -- ---- a change of a process leaves the tuple counts
 same-at :
@@ -90,26 +74,35 @@ module _
     out-kept l q t h g u =
         chosen Kept _ _ _ (λ _. performed-kept _ (added-kept _ (move-kept p q runs g) l t h u)) (λ _. same-kept s _ ok)
 
-    bound-at :
-        (l j : ℕ) (e : Evaluated) → l < s .addresses → j < nodeAt s l .stored
-        → Running (s .addresses) (s .length) (boundAt (Found.At j) p (nodeAt s l) e)
-    unfolding boundAt tupleAt
-    bound-at l j e h g =
-        let x = node-at s ok l h in
-        bound _ _ p _ e runs (x .tuples-ok .holds j (omega (arith, x .room)) .used g .passes)
-
     module _ (l : ℕ) (q : Place) (e : Evaluated) (reached : l < s .addresses) (next : q .0 < s .length) where
+      oldest : (j : ℕ) → matchedOf p (nodeAt s l) e .found ≡ Found.At j → OldestThatFits (nodeAt s l) e j
+      oldest j = promise .finds p (nodeAt s l) e j (node-at s ok l reached .room) .0
+
+      bound-at :
+          (j : ℕ) → matchedOf p (nodeAt s l) e .found ≡ Found.At j
+          → Running (s .addresses) (s .length) (matchedOf p (nodeAt s l) e .process)
+      unfolding tupleAt
+      bound-at j h =
+          let x = node-at s ok l reached in
+          let here = oldest j h in
+          rw (promise .binds p (nodeAt s l) e j h)
+          (bound _ _ p _ e runs (x .tuples-ok .holds j (omega (arith, x .room, here .present)) .used (here .present) .passes)
+          (here .fits))
+
       in-kept :
-          (f : Found) → FoundOk (nodeAt s l) f → Kept (inFound s a i l q f (boundAt f p (nodeAt s l) e))
-      unfolding inFound FoundOk withHost withNode
+          (f : Found) → matchedOf p (nodeAt s l) e .found ≡ f
+          → Kept (inFound s a i l q f (matchedOf p (nodeAt s l) e .process))
+      unfolding inFound withHost withNode
       in-kept (Found.At j) h =
           performed-kept _
-          (taken-kept _ (move-kept _ q (bound-at l j e reached h) next) l j reached (rw (stored-same s a i l) h))
+          (taken-kept _ (move-kept _ q (bound-at j h) next) l j reached (rw (stored-same s a i l) (oldest j h .present)))
       in-kept Found.Nothing h = same-kept s _ ok
 
-      read-kept : (f : Found) → FoundOk (nodeAt s l) f → Kept (readFound s a i q f (boundAt f p (nodeAt s l) e))
-      unfolding readFound FoundOk
-      read-kept (Found.At j) h = performed-kept _ (move-kept _ q (bound-at l j e reached h) next)
+      read-kept :
+          (f : Found) → matchedOf p (nodeAt s l) e .found ≡ f
+          → Kept (readFound s a i q f (matchedOf p (nodeAt s l) e .process))
+      unfolding readFound
+      read-kept (Found.At j) h = performed-kept _ (move-kept _ q (bound-at j h) next)
       read-kept Found.Nothing h = same-kept s _ ok
 
       started-kept : (sent : Place) → sent .0 < s .length → (j : Slot) → Kept (startedIn s a i l p sent q j)
@@ -126,12 +119,12 @@ module _
         (λ room. performed-kept _ (created-kept s ok a i p v q hosted room runs h)) (λ _. same-kept s _ ok)
 
     done-kept : (e : Evaluated) (r : Request) → RequestOk (s .addresses) (s .length) e r → Kept (done s a i p e r)
-    unfolding done RequestOk input read matchedOf eval fork
+    unfolding done RequestOk input read eval fork
     done-kept e Request.Lack h = same-kept s _ ok
     done-kept e Request.Stop h = stopped-kept
     done-kept e (Request.Out l q) h = out-kept (l .0) q _ (h .0) (h .1) (h .2)
-    done-kept e (Request.In l q) h = in-kept (l .0) q e (h .0) (h .1) _ (oldest-ok _ e)
-    done-kept e (Request.Read l q) h = read-kept (l .0) q e (h .0) (h .1) _ (oldest-ok _ e)
+    done-kept e (Request.In l q) h = in-kept (l .0) q e (h .0) (h .1) _ refl
+    done-kept e (Request.Read l q) h = read-kept (l .0) q e (h .0) (h .1) _ refl
     done-kept e (Request.Eval l sent q) h =
         chosen Kept _ _ _ (λ _. started-kept (l .0) q e (h .0) (h .2) sent (h .1) _) (λ _. same-kept s _ ok)
     done-kept e (Request.New v q) h = create-kept v q h
@@ -172,4 +165,11 @@ step-sound-kept s b shaped sound =
 
 pub sound-kept : SoundKept
 unfolding SoundKept pickOf
-sound-kept s b h shaped sound = rw choose-true (step-sound-kept s b shaped sound)
+sound-kept s b shaped sound = rw choose-true (step-sound-kept s b shaped sound)
+
+-- what a pick promises of a net that a program holds
+pub pick-keeps :
+    (s : Net) (b : ℕ) (r : Picked) → Shaped s → r ≡ pickOf s b
+    → (r ≡ pickOf s b) × (soundOf s ≡ true → soundOf (r .net) ≡ true)
+unfolding SoundKept
+pick-keeps s b r shaped e = (e, λ sound. rw e (sound-kept s b shaped sound .0))

@@ -3,45 +3,35 @@
 -- sound tuple still holds sound values (`bound`). In the facts of `SoundFacts.antt`.
 -- Assumes nothing.
 use Prim.Native.Nat.{ℕ, suc, _<_, _≤_, min}
-use mathlib.Core.Path.{_≡_, refl}
+use mathlib.Core.Path.{_≡_, refl, _∙_}
 use mathlib.Core.Bool.{true}
-use mathlib.Core.List.{List}
 use native.Mathlib.Omega.{arith}
 use lib.IntN.{ℤ}
 use lib.Dec.{ltb}
-use borrow.Author.Tests.{ltb-true, lt-ltb}
-use Rattle.net.specs.Records.{zeroField, zeroTuple, fieldAt, variableAt, patternAt, withField}
-use Rattle.net.specs.Matching.{itemOf as heldItem, wantOf, zeroWanted, wantsOf, evaluatedOf, wantAt, sameReading}
-use Rattle.net.specs.Matching.{valueOf, boundField, boundOf}
+use borrow.Author.Tests.{ltb-true}
+use Rattle.net.specs.Records.{zeroField, zeroTuple, fieldAt, variableAt, withField}
+use Rattle.net.specs.Matching.{evaluatedOf, wantAt, fitsOf, boundOf}
 use Rattle.net.specs.Soundness.{inRange, itemSound, isZeroItem, tupleSound, valueSound}
-use Rattle.net.specs.Soundness.{targetSound, patternSound, templateSound, actionSound, templateFor, instructionSound}
+use Rattle.net.specs.Soundness.{targetSound, templateSound, actionSound, templateFor, instructionSound}
+use Rattle.net.specs.MatchingPromise.{Holds, reading-met, address-met, as-before}
 use Rattle.net.proofs.Laws.{both-i, both-l, both-r, all-e}
-use Rattle.net.proofs.Every.{chosen, chosen-lt, Every, every-replicate, every-set, Filled, filled-add, filled-all}
+use Rattle.net.proofs.Every.{chosen, chosen-lt, Every, every-replicate, Filled, filled-add, filled-all}
 use Rattle.net.proofs.Past.{in-range}
-use Rattle.step.specs.Types.{Locality, Value, Item, Field, Tuple, Process, Target, Pattern}
-use Rattle.step.specs.Types.{Action, Instruction, Want, Wanted, Evaluated}
+use Rattle.net.proofs.MatchingPromise.{matchingPromise as promise}
+use Rattle.net.proofs.FoldLaws.{fold-keeps}
+use Rattle.step.specs.Types.{Locality, Value, Item, Field, Tuple, Process, Target}
+use Rattle.step.specs.Types.{Action, Instruction, Want, Evaluated}
 use Rattle.step.specs.Request.{Aim, Request, aimOf, targetOf, at, spoken, asked, requestOf}
 use Rattle.step.specs.Pick.{itemOf, tupleOf}
 use Rattle.step.specs.Shape.{ShapedTuple}
-use Rattle.step.proofs.SoundFacts.{choose-e, choose-or, Good, in-range-low, in-range-high}
-use Rattle.step.proofs.SoundChanges.{fold-keeps, Running, with-variable}
+use Rattle.step.proofs.SoundFacts.{choose-or, Good, in-range-low, in-range-high}
+use Rattle.step.proofs.SoundChanges.{Running}
 
 -- ---- items and values
 item-of-zero : (n : ℕ) (x : Item) → isZeroItem x ≡ true → itemSound n x ≡ true
 unfolding isZeroItem itemSound
 item-of-zero n (Item.Reading x) e = refl
 item-of-zero n (Item.Address l) e = let z : _≡_ {A = ℕ} 0 1 = cc in absurd (omega arith)
-
-held-sound : (n : ℕ) (x : Value) → valueSound n x ≡ true → itemSound n (heldItem x) ≡ true
-unfolding valueSound heldItem itemSound
-held-sound n Value.Unset h = refl
-held-sound n (Value.Reading x) h = refl
-held-sound n (Value.Address l) h = h
-
-value-sound : (n : ℕ) (x : Item) → itemSound n x ≡ true → valueSound n (valueOf x) ≡ true
-unfolding itemSound valueOf valueSound
-value-sound n (Item.Reading x) h = refl
-value-sound n (Item.Address l) h = h
 
 field-sound : (n : ℕ) (t : Tuple) → tupleSound n t ≡ true → (i : ℕ) → i < 4 → itemSound n (fieldAt t i) ≡ true
 unfolding tupleSound
@@ -53,51 +43,36 @@ unfolding variableAt
 value-at n k p v r h = r .values .holds v h
 
 -- ---- the formals bound to the fields of a sound tuple
-module _ (n k : ℕ) where
-  bound-field :
-      (p : Process) (x : Item) (w : Want) → Running n k p → itemSound n x ≡ true → Running n k (boundField p x w)
-  unfolding boundField
-  bound-field p x (Want.Exactly y) r h = r
-  bound-field p x (Want.AnyReading v) r h = with-variable n k p v _ r (value-sound n x h)
-  bound-field p x (Want.AnyAddress v) r h = with-variable n k p v _ r (value-sound n x h)
+module _ (n k : ℕ) (p : Process) (t : Tuple) (e : Evaluated) (r : Running n k p) (h : tupleSound n t ≡ true) where
+  few : t .count ≤ 4
+  unfolding tupleSound
+  few = in-range-high 1 (t .count) 4 (both-l _ _ h)
 
-  pub bound :
-      (p : Process) (t : Tuple) (e : Evaluated) → Running n k p → tupleSound n t ≡ true → Running n k (boundOf p t e)
-  unfolding boundOf
-  bound p t e r h =
-      fold-keeps (λ i. Running n k) _ p 4 r
-      (λ i q l g. chosen (Running n k) (ltb i (e .count)) _ _
-      (λ _. bound-field q _ _ g (field-sound n t h i l)) (λ _. g))
+  held-sound : (v : ℕ) (x : Value) → v < 8 → Holds p t e (t .count) v x → valueSound n x ≡ true
+  unfolding valueSound itemSound
+  held-sound v _ l (reading-met m w f) = refl
+  held-sound v _ l (address-met {i = i} m w f) = rw f at (field-sound n t h i (omega (arith, few)))
+  held-sound v _ l (as-before none) = value-at n k p v r l
 
--- ---- the template of an out, evaluated
-abbrev pastWanted : Wanted
-pastWanted = record { want = Want.Exactly (Item.Reading (ℤ.pos 0)) }
+  pub bound : fitsOf t e ≡ true → Running n k (boundOf p t e)
+  unfolding variableAt
+  bound fits =
+      let b = promise .sets p t e few fits in
+      record {
+        is-busy = b .same-busy ∙ r .is-busy;
+        place = rw (b .same-place) (r .place);
+        values = record {
+          size-is = b .same-size ∙ r .values .size-is;
+          holds = λ v l. held-sound v _ l (b .holds v (omega (arith, r .values .size-is)));
+        };
+      }
 
-want-sound :
-    (n k : ℕ) (host : Locality) (p : Process) (x : Pattern) → host .0 < n → Running n k p → patternSound n x ≡ true
-    → itemSound n (itemOf (wantOf host p x)) ≡ true
-unfolding patternSound wantOf itemOf itemSound
-want-sound n k host p (Pattern.Reading x) h r e = refl
-want-sound n k host p (Pattern.Address l) h r e = e
-want-sound n k host p Pattern.Own h r e = lt-ltb (host .0) n h
-want-sound n k host p (Pattern.Held v) h r e = held-sound n _ (value-at n k p v r (ltb-true v 8 e))
-want-sound n k host p (Pattern.FormalReading v) h r e = refl
-want-sound n k host p (Pattern.FormalAddress v) h r e = refl
-
-WantsOk : ℕ → List Wanted → Type 0
-WantsOk n = Every (λ j w. itemSound n (itemOf (w .want)) ≡ true) pastWanted 4
-
-wants-ok :
-    (n k : ℕ) (host : Locality) (p : Process) (c : Instruction) → host .0 < n → Running n k p → templateSound n c ≡ true
-    → WantsOk n (wantsOf host p c)
-unfolding WantsOk wantsOf templateSound zeroWanted itemOf itemSound
-wants-ok n k host p c h r e =
-    fold-keeps (λ i. WantsOk n) _ _ 4 (every-replicate _ pastWanted 4 zeroWanted (λ j l. refl))
-    (λ i ws l g. chosen-lt (WantsOk n) i (c .count) _ _
-    (λ u. every-set i _ g (λ j w d f. f)
-    (want-sound n k host p (patternAt c i) h r
-    (choose-e _ _ _ (all-e 4 _ (both-r (inRange 1 (c .count) 4) _ e) i l) (lt-ltb i (c .count) u))))
-    (λ u. g))
+-- ---- a field of an out
+want-item : (n : ℕ) (w : Want) → ((x : Item) → w ≡ Want.Exactly x → itemSound n x ≡ true) → itemSound n (itemOf w) ≡ true
+unfolding itemOf itemSound
+want-item n (Want.Exactly x) h = h x refl
+want-item n (Want.AnyReading v) h = refl
+want-item n (Want.AnyAddress v) h = refl
 
 -- ---- the tuple of an out, after i of its fields
 abbrev pastField : Field
@@ -111,11 +86,11 @@ record Building (n count i : ℕ) (t : Tuple) : Type 0 where
 
 module _ (n count : ℕ) where
   built-none : Building n count 0 zeroTuple
-  unfolding zeroTuple zeroField isZeroItem sameReading
+  unfolding zeroTuple zeroField isZeroItem
   built-none = record {
     count-is = omega arith;
     fields-ok = every-replicate _ pastField 4 zeroField
-        (λ j h. record { used = λ l. absurd (omega arith); unused = λ _. refl });
+        (λ j h. record { used = λ l. absurd (omega arith); unused = λ _. promise .same (ℤ.pos 0) });
   }
 
   built-field :
@@ -140,24 +115,27 @@ module _ (n count : ℕ) where
   }
 
 tuple-ok :
-    (n : ℕ) (e : Evaluated) → 1 ≤ e .count → e .count ≤ 4 → WantsOk n (e .wants)
+    (n : ℕ) (e : Evaluated) → 1 ≤ e .count → e .count ≤ 4
+    → ((i : ℕ) → i < 4 → itemSound n (itemOf (wantAt e i)) ≡ true)
     → Good (tupleSound n) ShapedTuple (tupleOf e)
-unfolding WantsOk tupleOf wantAt
+unfolding tupleOf
 tuple-ok n e h g w =
     built n (e .count) _ h g
     (fold-keeps (Building n (e .count)) _ zeroTuple 4 (built-none n (e .count))
     (λ i t l b. chosen-lt (Building n (e .count) (suc i)) i (e .count) _ _
-    (λ u. built-field n (e .count) i t _ l u b (w .holds i l))
+    (λ u. built-field n (e .count) i t _ l u b (w i l))
     (λ u. built-past n (e .count) i t u b)))
 
 said-ok :
     (n k : ℕ) (host : Locality) (p : Process) (c : Instruction) → host .0 < n → Running n k p → templateSound n c ≡ true
     → Good (tupleSound n) ShapedTuple (tupleOf (evaluatedOf host p c))
-unfolding evaluatedOf templateSound
+unfolding templateSound
 said-ok n k host p c h r e =
     let counts = both-l _ _ e in
-    tuple-ok n (evaluatedOf host p c) (in-range-low 1 (c .count) 4 counts) (in-range-high 1 (c .count) 4 counts)
-    (wants-ok n k host p c h r e)
+    let same = promise .counts host p c in
+    tuple-ok n (evaluatedOf host p c)
+    (omega (arith, same, in-range-low 1 (c .count) 4 counts)) (omega (arith, same, in-range-high 1 (c .count) 4 counts))
+    (λ i l. want-item n _ (λ x. promise .ranges n host p c h (λ v. value-at n k p v r) e i x l))
 
 -- ---- requests that are within a net of n addresses and k places
 AimOk : ℕ → Aim → Type 0

@@ -1,14 +1,20 @@
 -- Laws by which the code of a step meets its definitions. Assumes nothing.
-use Prim.Native.Nat.{ℕ, _<_, _≤_}
+use Prim.Native.Nat.{ℕ}
 use mathlib.Core.Path.{_≡_, refl, sym, ap, _∙_}
 use mathlib.Core.Bool.{Bool, true, false}
+use lib.ListN.{getD}
+use lib.IntN.{ℤ}
 use Rattle.net.specs.Choice.{choose}
-use Rattle.net.proofs.Laws.{choose-true, choose-false}
 use Rattle.net.specs.Records.{rightsAt, withField}
-use Rattle.net.specs.Keeping.{mayTake, mayRead, mayPut, maySend}
-use Rattle.step.specs.Types.{Locality, Place, Item, Tuple, Rights, Row, Process, Slot, Evaluated, Found, Matched}
+use Rattle.net.specs.Keeping.{mayTake, mayRead, mayPut, maySend, mayCreate}
+use Rattle.net.specs.Matching.{wantAt}
+use Rattle.net.proofs.Laws.{choose-true, choose-false}
+use Rattle.net.proofs.KeepingPromise.{keepingPromise as keeping}
+use Rattle.net.proofs.MatchingPromise.{matchingPromise as matching}
+use Rattle.step.specs.Types.{Locality, Place, Item, Tuple, Rights, Row, Process, Slot, Want, Evaluated, Found, Matched}
 use Rattle.step.specs.Plan.{Effect, Plan, going, startPlan}
-use Rattle.step.specs.Request.{Aim, Request, targetOf, at, spoken}
+use Rattle.step.specs.Pick.{itemOf}
+use Rattle.step.specs.Request.{Aim, Request, at, spoken}
 
 -- ---- matches: the pattern y of an arm stands for the value x
 module _ {A R : Type 0} (f : A → R) where
@@ -55,24 +61,29 @@ at-as x y f r p q = q ∙ ap (λ (z : Aim). at z f) p
 
 module _ (row : Row) (l : Locality) (h : Rights) (e : h ≡ rightsAt row (l .0)) where
   pub takes : h .take ≡ mayTake row l
-  unfolding mayTake
-  takes = ap (λ (x : Rights). x .take) e
+  takes = ap (λ (x : Rights). x .take) e ∙ sym (keeping .takes row l)
 
   pub reads : h .read ≡ mayRead row l
-  unfolding mayRead
-  reads = ap (λ (x : Rights). x .read) e
+  reads = ap (λ (x : Rights). x .read) e ∙ sym (keeping .reads row l)
 
   pub puts : h .put ≡ mayPut row l
-  unfolding mayPut
-  puts = ap (λ (x : Rights). x .put) e
+  puts = ap (λ (x : Rights). x .put) e ∙ sym (keeping .puts row l)
 
   pub sends : h .send ≡ maySend row l
-  unfolding maySend
-  sends = ap (λ (x : Rights). x .send) e
+  sends = ap (λ (x : Rights). x .send) e ∙ sym (keeping .sends row l)
+
+pub creates : (row : Row) → row .create ≡ mayCreate row
+creates row = sym (keeping .creates row)
 
 -- ---- plans
-pub field-as : (t u : Tuple) (x y : Item) → x ≡ y → u ≡ withField t (record { item = x }) → u ≡ withField t (record { item = y })
-field-as t u x y p q = q ∙ ap (λ (z : Item). withField t (record { item = z })) p
+-- a field of an out, read from its place in the template
+pub value-as :
+    (t u : Tuple) (e : Evaluated) (i : ℕ) (x : Item)
+    → x ≡ itemOf (getD (e .wants) i (record { want = Want.Exactly (Item.Reading (ℤ.pos 0)) }) .want)
+    → u ≡ withField t (record { item = x })
+    → u ≡ withField t (record { item = itemOf (wantAt e i) })
+value-as t u e i x p q =
+    q ∙ ap (λ (z : Item). withField t (record { item = z })) (p ∙ ap itemOf (sym (matching .reads e i)))
 
 pub going-as : (r r′ : Row) (p p′ : Process) (effect : Effect) (t t′ : Tuple) (started : Process) (x : Plan)
     → r ≡ r′ → p ≡ p′ → t ≡ t′ → x ≡ going r p effect t started → x ≡ going r′ p′ effect t′ started

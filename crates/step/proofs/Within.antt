@@ -1,134 +1,23 @@
--- In a sound net the computed keeping of sent code is a right for each instruction reached, however long the list of
--- instructions is: no place past the code length is reached.
+-- In a sound net the computed keeping of sent code is a right for each instruction reached: no place past the code length
+-- is reached.
 -- Assumes nothing.
-use Prim.Native.Nat.{ℕ, zero, suc, _<_, _≤_}
-use mathlib.Core.Path.{_≡_, refl, sym, ap, _∙_}
-use mathlib.Core.Bool.{Bool, true}
-use mathlib.Core.List.{List, [], _∷_, List·Memᴰ, List·Memᴰ·head, List·Memᴰ·tail, List·Memᴰ·not-nil}
-use native.Mathlib.Omega.{arith}
-use lib.ListN.{length, take, length-take}
-use lib.Seq.{getD-take}
+use Prim.Native.Nat.{ℕ, _<_}
+use mathlib.Core.Path.{_≡_}
+use mathlib.Core.Bool.{true}
 use Rattle.net.specs.Records.{instructionAt}
-use Rattle.net.specs.Reaching.{Follows, Reaches, itself, onward, Search, meet, meetAll}
-use Rattle.net.specs.Reaching.{visitFirst, visit, visits, startedAt, reachedOf}
-use Rattle.net.specs.Keeping.{permitsMarked, keepsOf}
-use Rattle.net.specs.ReachingClaims.{KeepsIsEvery}
-use Rattle.net.proofs.Laws.{all-i, all-e}
-use Rattle.net.proofs.Unmarked.{meet-cases, meetAll-keeps}
-use Rattle.net.proofs.Reached.{keepsIsEvery}
-use Rattle.step.specs.Types.{Locality, Place, Row, Instruction, Net}
+use Rattle.net.specs.Reaching.{Follows}
+use Rattle.net.specs.Keeping.{keepsOf}
+use Rattle.step.specs.Types.{Locality, Place, Row, Net}
 use Rattle.step.specs.Rules.{KeepsWithin}
+use Rattle.net.proofs.KeepingPromise.{keepingPromise as promise}
 use Rattle.step.proofs.StepFacts.{Facts, follow-low}
 
--- ---- a place waits only below 512
-Low : Search → Type 0
-Low s = (q : Place) → List·Memᴰ q (s .waiting) → q .0 < 512
-
-waiting-low :
-    (p q : Place) (ps : List Place) → p .0 < 512 → ((r : Place) → List·Memᴰ r ps → r .0 < 512) → List·Memᴰ q (p ∷ ps)
-    → q .0 < 512
-waiting-low p q ps h f (List·Memᴰ·head e) = rw e h
-waiting-low p q ps h f (List·Memᴰ·tail m) = f q m
-
-low-meet : (s : Search) (p : Place) → Low s → Low (meet s p)
-unfolding Low
-low-meet s p f = meet-cases Low s p (λ _. f) (λ h _ q m. waiting-low p q (s .waiting) h f m)
-
-low-meetAll : (s : Search) (ps : List Place) → Low s → Low (meetAll s ps)
-low-meetAll s ps f = meetAll-keeps Low ps (λ t p _. low-meet t p) s f
-
-low-start : (p : Place) → Low (startedAt p)
-unfolding startedAt Low
-low-start p = low-meet _ p (λ q m. absurd (List·Memᴰ·not-nil m))
-
--- ---- two lists of instructions that agree below 512
-record Agree (c d : List Instruction) : Type 0 where
-  same : (i : ℕ) → i < 512 → instructionAt c i ≡ instructionAt d i
-
-module _ (c d : List Instruction) (agree : Agree c d) where
-  visit-same :
-      (marks : List Bool) (ps : List Place) → Low (record { marks = marks; waiting = ps })
-      → visitFirst c marks ps ≡ visitFirst d marks ps
-  unfolding visitFirst Low
-  visit-same marks [] f = refl
-  visit-same marks (p ∷ ps) f = rw (agree .same (p .0) (f p (List·Memᴰ·head refl)))
-
-  low-visit :
-      (marks : List Bool) (ps : List Place) → Low (record { marks = marks; waiting = ps }) → Low (visitFirst c marks ps)
-  unfolding visitFirst Low
-  low-visit marks [] f = f
-  low-visit marks (p ∷ ps) f = low-meetAll _ _ (λ q m. f q (List·Memᴰ·tail m))
-
-  visits-same : (k : ℕ) (s : Search) → Low s → visits k c s ≡ visits k d s
-  unfolding visits visit
-  visits-same zero s f = refl
-  visits-same (suc k) s f =
-      visits-same k (visit c s) (low-visit (s .marks) (s .waiting) f)
-      ∙ ap (visits k d) (visit-same (s .marks) (s .waiting) f)
-
-  reached-same : (p : Place) → reachedOf c p ≡ reachedOf d p
-  unfolding reachedOf
-  reached-same p = ap (λ (s : Search). s .marks) (visits-same 512 (startedAt p) (low-start p))
-
-  -- what keeps in the one keeps in the other
-  keeps-carry : (p : Place) (a : Locality) (r : Row) → keepsOf c p a r ≡ true → keepsOf d p a r ≡ true
-  unfolding keepsOf permitsMarked
-  keeps-carry p a r h =
-      all-i 512 _ (λ i l. rw (← reached-same p, ← agree .same i l) (all-e 512 _ h i l))
-
-  -- what is reached in the one is reached in the other, where the instructions below n lead to places below n
-  reaches-carry :
-      (n : ℕ) (from q : Place) → n ≤ 512 → from .0 < n
-      → ((i : ℕ) (r : Place) → i < n → Follows r (instructionAt c i .action) → r .0 < n)
-      → Reaches c from q → (q .0 < n) × Reaches d from q
-  reaches-carry n from _ fits l closed itself = (l, itself)
-  reaches-carry n from q fits l closed (onward {p} m f) =
-      let before = reaches-carry n from p fits l closed m in
-      (closed (p .0) q (before .0) f, onward (before .1) (rw (agree .same (p .0) (omega arith)) at f))
-
-agree-sym : (c d : List Instruction) → Agree c d → Agree d c
-agree-sym c d a = record { same = λ i l. sym (a .same i l) }
-
-cut : (c : List Instruction) → Agree (take 512 c) c
-unfolding instructionAt
-cut c = record { same = λ i l. getD-take 512 c i _ l }
-
--- ---- in a sound net
 module _ (s : Net) (ok : Facts s) (sent : Place) (low : sent .0 < s .length) (l : Locality) (row : Row) where
-  short : List Instruction
-  short = take 512 (s .code)
-
-  few : length short ≤ 512
-  unfolding short
-  few = omega (arith, length-take 512 (s .code))
-
-  closed : (i : ℕ) (r : Place) → i < s .length → Follows r (instructionAt (s .code) i .action) → r .0 < s .length
-  closed i r h f = follow-low (s .addresses) (s .length) r _ f (ok .actions i h)
-
-  there : Agree short (s .code)
-  unfolding short
-  there = cut (s .code)
-
-  back : Agree (s .code) short
-  back = agree-sym _ _ there
-
-  closed-short : (i : ℕ) (r : Place) → i < s .length → Follows r (instructionAt short i .action) → r .0 < s .length
-  closed-short i r h f = let b = ok .short in closed i r h (rw (there .same i (omega arith)) at f)
+  closed : (i : ℕ) (q : Place) → i < s .length → Follows q (instructionAt (s .code) i .action) → q .0 < s .length
+  closed i q h f = follow-low (s .addresses) (s .length) q _ f (ok .actions i h)
 
   pub keeps-within : keepsOf (s .code) sent l row ≡ true → KeepsWithin (s .code) sent l row
-  unfolding KeepsIsEvery
-  keeps-within h = record {
-    permitted = λ q m.
-        let r = reaches-carry (s .code) short back (s .length) sent q (ok .short) low closed m in
-        let k = keeps-carry (s .code) short back sent l row h in
-        rw (back .same (q .0) (omega (arith, ok .short, r .0))) (keepsIsEvery short few sent l row .0 k q (r .1));
-  }
+  keeps-within h = record { permitted = promise .keeps (s .code) (s .length) (ok .short) closed sent l row low .0 h }
 
   pub within-keeps : KeepsWithin (s .code) sent l row → keepsOf (s .code) sent l row ≡ true
-  unfolding KeepsIsEvery
-  within-keeps h =
-      keeps-carry short (s .code) there sent l row
-      (keepsIsEvery short few sent l row .1
-      (λ q m.
-      let r = reaches-carry short (s .code) there (s .length) sent q (ok .short) low closed-short m in
-      rw (there .same (q .0) (omega (arith, ok .short, r .0))) (h .permitted q (r .1))))
+  within-keeps h = promise .keeps (s .code) (s .length) (ok .short) closed sent l row low .1 (h .permitted)

@@ -9,11 +9,12 @@ use mathlib.Core.Logic.{_↔_}
 use mathlib.Core.Bool.{true, false}
 use mathlib.Core.List.{List}
 use Rattle.net.specs.Records.{processAt, tupleAt, nodeAt, instructionAt, movedTo, copiedTo, freeProcess}
-use Rattle.net.specs.Matching.{evaluatedOf, fitsOf, boundOf}
+use Rattle.net.specs.Matching.{evaluatedOf, boundOf}
 use Rattle.net.specs.Reaching.{Reaches}
 use Rattle.net.specs.Keeping.{mayTake, mayRead, mayPut, maySend, mayCreate, permits}
 use Rattle.net.specs.Soundness.{soundOf}
 use Rattle.step.specs.Answer.{Answer}
+use Rattle.net.specs.MatchingPromise.{OldestThatFits}
 use Rattle.step.specs.Request.{Aim, targetOf}
 use Rattle.step.specs.Pick.{hostOf, slotOf, spareOf, pickOf, withHost, added, taken, created, tupleOf}
 use Rattle.step.specs.Types.{Locality, Place, Row, Process, Node, Target, Action, Instruction, Evaluated, Net}
@@ -45,12 +46,6 @@ pub record Stands (s : Net) (a : Locality) (k : ℕ) (action : Action) : Type 0 
 pub record Points (s : Net) (a : Locality) (k : ℕ) (t : Target) (l : Locality) : Type 0 where
   pub points : targetOf a (processIn s a k) t ≡ Aim.At l
   pub exists : l .0 < s .addresses
-
--- the tuple at place i of the node fits, and no older one does
-pub record OldestThatFits (x : Node) (e : Evaluated) (i : ℕ) : Type 0 where
-  pub present : i < x .stored
-  pub fits : fitsOf (tupleAt x i) e ≡ true
-  pub oldest : (j : ℕ) → j < i → fitsOf (tupleAt x j) e ≡ false
 
 -- slot j of the node is free, and every lower one is busy
 pub record LowestFree (x : Node) (j : ℕ) : Type 0 where

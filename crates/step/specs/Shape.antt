@@ -1,5 +1,5 @@
--- The lengths that every net of a running program has. Array types fix these lengths in the code, lists do not: a
--- claim about nets that a program holds takes them from here.
+-- The lengths that every net of a running program has (`proofs/Lengths.antt`). Array types fix these lengths in the
+-- code, lists do not: a claim about nets that a program holds takes them from here.
 use Prim.Native.Nat.{ℕ, _<_}
 use mathlib.Core.Path.{_≡_}
 use lib.ListN.{length}

@@ -16,9 +16,11 @@ use net::process::Process;
 use net::sound::sound;
 ghost use Prim.Native.Nat.{_+_, _/_, _%_, _<_};
 ghost use mathlib.Core.Path.{_≡_};
+ghost use mathlib.Core.Bool.{true};
 ghost use lib.Dec.{eqb};
 ghost use Rattle.net.specs.Choice.{choose};
 ghost use Rattle.net.specs.Records.{instructionAt, withRow, zeroNode};
+ghost use Rattle.net.specs.Soundness.{soundOf};
 ghost use Rattle.step.specs.Answer.{Answer};
 ghost use Rattle.step.specs.Pick.{processStep, slotStep, unchanged, stepOf, pickOf};
 ghost use Rattle.step.specs.Plan.{Effect, near, targetIndex, changes, effectOn, grownCount, hostAfter, putBack, sentWithin};
@@ -239,9 +241,9 @@ impl Host {
         }
     }
 
-    // A pick on any net.
+    // A pick on any net. A sound net stays sound.
     pub fn pick(self, b: u8) -> Picked
-        ensures { λ r. ⌜ r ≡ pickOf (self .net) b ⌝ }
+        ensures { λ r. ⌜ (r ≡ pickOf (self .net) b) × (soundOf (self .net) ≡ true → soundOf (r .net) ≡ true) ⌝ }
     {
         let net = self.net;
         if sound(net) {

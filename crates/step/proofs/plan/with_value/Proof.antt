@@ -1,13 +1,11 @@
 -- `step::plan::with_value` meets its contract. Assumes nothing.
 use Rattle.net.proofs.Laws.{if-lt, if-not-lt}
-use Rattle.step.proofs.StepLaws.{field-as}
-use Rattle.net.specs.Matching.{wantAt}
+use Rattle.step.proofs.StepLaws.{value-as}
 use borrow.Author.Needs.{needs}
 use Rattle.step.proofs.plan.with_value.Statement.{statement}
 use Rattle.step.proofs.plan.with_value.Tie as tie
 
 pub with-value-spec : {M : Type 1} → statement M
-unfolding wantAt
 with-value-spec =
     tie.close
     (tie.spec
@@ -15,5 +13,5 @@ with-value-spec =
     (λ c. search needs)
     (λ c κs. search needs)
     (λ c κs. search needs)
-    (λ c. search (needs, if-lt, if-not-lt, field-as))
-    (λ c. search (needs, if-lt, if-not-lt, field-as)))
+    (λ c. search (needs, if-lt, value-as))
+    (λ c. search (needs, if-not-lt)))

@@ -1,13 +1,12 @@
 -- `step::request::has_right` meets its contract. Assumes nothing.
-use Rattle.net.specs.Keeping.{mayCreate}
-use Rattle.step.proofs.StepLaws.{by2, takes, reads, puts, sends}
+use Rattle.step.proofs.StepLaws.{by2, takes, reads, puts, sends, creates}
 use Rattle.step.specs.Request.{granted}
 use borrow.Author.Needs.{needs}
 use Rattle.step.proofs.request.has_right.Statement.{statement}
 use Rattle.step.proofs.request.has_right.Tie as tie
 
 pub has-right-spec : {M : Type 1} → statement M
-unfolding granted mayCreate
+unfolding granted
 has-right-spec =
     tie.close
     (tie.spec
@@ -23,11 +22,11 @@ has-right-spec =
     (λ c κs. search needs)
     (λ c. search needs)
     (λ c. search needs)
-    (λ c. search (needs, by2 granted, takes, reads, puts, sends))
-    (λ c. search (needs, by2 granted, takes, reads, puts, sends))
-    (λ c. search (needs, by2 granted, takes, reads, puts, sends))
-    (λ c. search (needs, by2 granted, takes, reads, puts, sends))
-    (λ c. search (needs, by2 granted, takes, reads, puts, sends))
-    (λ c. search (needs, by2 granted, takes, reads, puts, sends))
-    (λ c. search (needs, by2 granted, takes, reads, puts, sends))
-    (λ c. search (needs, by2 granted, takes, reads, puts, sends)))
+    (λ c. search (needs, by2 granted))
+    (λ c. search (needs, by2 granted))
+    (λ c. search (needs, by2 granted, puts))
+    (λ c. search (needs, by2 granted, takes))
+    (λ c. search (needs, by2 granted, reads))
+    (λ c. search (needs, by2 granted, sends))
+    (λ c. search (needs, by2 granted, creates))
+    (λ c. search (needs, by2 granted)))
