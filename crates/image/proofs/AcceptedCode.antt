@@ -8,7 +8,6 @@ use mathlib.Core.Logic.{_⊎_, inl, inr}
 use native.Mathlib.Omega.{arith}
 use lib.ListN.{length, set}
 use lib.Seq.{getD-set-same, getD-set-other}
-use lib.IntN.{ℤ}
 use lib.Dec.{ltb}
 use borrow.Author.Tests.{ltb-true, lt-ltb}
 use Rattle.net.specs.Choice.{both, implies, all}
@@ -26,6 +25,7 @@ use Rattle.net.proofs.Every.{chosen-lt, Every, every-replicate, every-weaken, F
 use Rattle.image.proofs.Gives.{Gives, gives-done, gives-weaken, gives-then, gives-and, gives-each, gives-last}
 use Rattle.image.proofs.Gives.{gives-first, gives-require, gives-field, gives-bits}
 use Rattle.net.proofs.Past.{in-range}
+use Rattle.image.proofs.PastRecords.{pastTemplate}
 use Rattle.image.proofs.AcceptedNode.{gives-address, gives-place, gives-variable, gives-reading}
 
 gives-target : (n : ℕ) → Gives (target n) (λ t. targetSound n t ≡ true)
@@ -101,10 +101,6 @@ module _ (formals : Bool) (n : ℕ) (c : Instruction) where
       (λ j₅ e₅. gives-last _ _ j₅ (gives-formalAddress (λ e. omega (arith, h e)))))))))
 
 -- ---- a template
-
--- what stands past the end of the array
-abbrev pastTemplate : TemplateField
-pastTemplate = record { pattern = Pattern.Reading (ℤ.pos 0) }
 
 -- the template after i of its fields
 record TemplateOk (formals : Bool) (n i : ℕ) (c : Instruction) : Type 0 where

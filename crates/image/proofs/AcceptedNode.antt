@@ -3,20 +3,18 @@
 -- Assumes nothing.
 use Prim.Native.Nat.{ℕ, suc, _+_, _<_, _≤_}
 use mathlib.Core.Path.{_≡_, refl}
-use mathlib.Core.Bool.{true, false}
-use mathlib.Core.List.{[]}
+use mathlib.Core.Bool.{true}
 use native.Mathlib.Omega.{arith}
 use lib.ListN.{getD-replicate}
-use lib.IntN.{ℤ}
 use lib.Dec.{eqb, leb}
 use borrow.Author.Tests.{leb-true, lt-ltb, le-leb}
 use Rattle.net.specs.Choice.{choose, both, all}
-use Rattle.image.specs.Types.{Place, Item, Field, Tuple, Rights, Row, Process, Node}
+use Rattle.image.specs.Types.{Place, Field, Tuple, Row, Process, Node}
 use Rattle.net.specs.Records.{startingAt, zeroField, zeroTuple, unsetVariable, freeProcess, noRights, zeroRow, zeroNode}
 use Rattle.net.specs.Records.{fieldAt, variableAt, rightsAt, processAt, tupleAt}
 use Rattle.net.specs.Records.{withField, withRights, withRow, withProcess, withTuple}
 use Rattle.net.specs.Matching.{sameReading}
-use Rattle.net.specs.Soundness.{inRange, itemSound, isZeroItem, tupleSound, isZeroTuple, tuplesSound}
+use Rattle.net.specs.Soundness.{itemSound, isZeroItem, tupleSound, isZeroTuple, tuplesSound}
 use Rattle.net.specs.Soundness.{isNone, rowSound, isZeroRow, valueSound, isUnset, isFree, processSound}
 use Rattle.net.specs.Soundness.{nodeSound, isZeroNode}
 use Rattle.image.specs.Image.{address, place, variable, reading, creating, rightsOf, rights, row}
@@ -26,6 +24,7 @@ use Rattle.net.proofs.Laws.{both-i, implies-i, all-i}
 use Rattle.net.proofs.Every.{chosen-lt, Every, every-replicate, every-set}
 use Rattle.net.proofs.Every.{Filled, filled-set, filled-add, filled-all}
 use Rattle.net.proofs.Past.{in-range, pastProcess, pastTuple}
+use Rattle.image.proofs.PastRecords.{pastField, pastRights}
 use Rattle.image.proofs.Gives.{Gives, gives-done, gives-weaken, gives-then, gives-each, gives-choice}
 use Rattle.image.proofs.Gives.{gives-field, gives-bits}
 
@@ -45,13 +44,6 @@ gives-variable = gives-bits 3
 pub gives-reading : Gives reading (λ x. Unit {0})
 unfolding reading
 gives-reading = gives-then (gives-bits 32) (λ v h. gives-done _ _ tt)
-
--- ---- what stands past the end of an array
-abbrev pastField : Field
-pastField = record { item = Item.Reading (ℤ.pos 0) }
-
-abbrev pastRights : Rights
-pastRights = record { take = false; read = false; put = false; send = false }
 
 -- ---- the node under construction
 pub record NodeOk (n k : ℕ) (x : Node) : Type 0 where

@@ -3,10 +3,10 @@
 -- Assumes nothing.
 use Prim.Native.Nat.{ℕ, _<_}
 use mathlib.Core.Path.{_≡_, refl, sym, subst, subst₂}
-use mathlib.Core.Bool.{true, false}
-use mathlib.Core.List.{List, []}
+use mathlib.Core.Bool.{true}
+use mathlib.Core.List.{List}
 use native.Mathlib.Omega.{arith}
-use Rattle.image.specs.Types.{Node, Action, Instruction, Net}
+use Rattle.image.specs.Types.{Node, Instruction, Net}
 use Rattle.net.specs.Records.{zeroNode, zeroInstruction, emptyNet, nodeAt, instructionAt}
 use Rattle.net.specs.Records.{withNode, withInstruction, withCounts}
 use Rattle.net.specs.Soundness.{nodeSound, isZeroNode, instructionSound, isZeroInstruction}
@@ -21,19 +21,12 @@ use Rattle.net.proofs.Every.{chosen, Every, every-replicate, every-weaken, Fill
 use Rattle.image.proofs.Gives.{Listed, Fine, value, stopped, Gives, gives-done, gives-weaken, gives-then, gives-and}
 use Rattle.image.proofs.Gives.{gives-each, gives-require, Between, gives-field}
 use Rattle.net.proofs.Past.{in-range}
+use Rattle.image.proofs.PastRecords.{pastNode, pastInstruction}
 use Rattle.image.proofs.AcceptedNode.{NodeOk, node-sound, zero-node, zero-node-ok}
 use Rattle.image.proofs.AcceptedNode.{gives-row, set-row, gives-processes, gives-tuples}
 use Rattle.image.proofs.AcceptedCode.{zero-instruction, stop-sound, gives-instruction}
 
 -- ---- the net under construction
-
--- what stands past the end of an array
-abbrev pastNode : Node
-pastNode = record { row = record { create = false; rights = [] }; processes = []; stored = 0; tuples = [] }
-
-abbrev pastInstruction : Instruction
-pastInstruction = record { action = Action.Stop; count = 0; template = [] }
-
 record NetOk (n k : ℕ) (s : Net) : Type 0 where
   addresses-are : s .addresses ≡ n
   length-is : s .length ≡ k

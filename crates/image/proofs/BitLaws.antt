@@ -96,11 +96,14 @@ took-as o o′ w end r t e = record { took = t .took ∙ sym e; narrow = t .narr
 
 -- ---- a field at a place: n bytes are looked at
 module _ (s : List ℕ) (p w low end n m : ℕ) (e : m ≡ length s) where
-  pub field-in : (v : ℕ) (r : Taken) → p ≤ m * 8 → w ≤ m * 8 - p → Number s p w v → Took (judged low end n (p + w) v) w end r → Took (field w low end n s p) w end r
+  pub field-in :
+      (v q : ℕ) (r : Taken) → p ≤ m * 8 → w ≤ m * 8 - p → Number s p w v → q ≡ p + w →
+      Took (judged low end n q v) w end r → Took (field w low end n s p) w end r
   unfolding field
-  field-in v r h l i t =
+  field-in v q r h l i k t =
       took-as _ _ w end r t
-      (choose-true _ _ _ (le-leb (p + w) (8 * length s) (omega arith)) ∙ ap (judged low end n (p + w)) (sym (i .is)))
+      (choose-true _ _ _ (le-leb (p + w) (8 * length s) (omega arith)) ∙ ap (judged low end n (p + w)) (sym (i .is)) ∙
+      ap (λ (x : ℕ). judged low end n x v) (sym k))
 
   pub field-out : (r : Taken) → m * 8 < p → Took (fault (numbered 28)) w end r → Took (field w low end n s p) w end r
   unfolding field

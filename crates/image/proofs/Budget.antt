@@ -30,7 +30,8 @@ pub record Closes {A : Type 0} (m : Reader A) (b : ℕ) : Type 0 where
 pub data Anything {A : Type 0} (a : A) : Type 0 where
   any : Anything a
 
-no-fault : {A C : Type 0} {n : Fault} {a : A} {q : ℕ} → fault n ≡ got a q → C
+-- no fault is a value
+pub no-fault : {A C : Type 0} {n : Fault} {a : A} {q : ℕ} → fault n ≡ got a q → C
 no-fault e = let z : _≡_ {A = ℕ} 0 1 = cc in absurd (omega arith)
 
 -- a test that came out well

@@ -7,5 +7,8 @@ pub mod FirstBytes
 pub mod Gives
 pub mod ImageLaws
 pub mod LayoutLaws
+pub mod PastRecords
 pub mod ReaderLaws
+pub mod ReaderRecord
 pub mod SignedLaws
+pub mod WalkLaws

@@ -1,5 +1,5 @@
-// The bit reader (document 01, "The image"): a place handed on by value. A step goes from reader to
-// reader; once it is a fault, every later reader passes it on.
+// The bit reader (document 01, "The image"): the record of the image bytes and the next bit's place, with few thin functions,
+// and the step that the readers of the parts hand on by value. Once a step is a fault, every later reader passes it on.
 use crate::reader::Fault;
 use net::network::Net;
 use net::node::Node;
@@ -57,7 +57,7 @@ fn bit(s: &[u8], p: usize) -> usize
 }
 
 // The number that the w bits from place p write.
-pub fn number(s: &[u8], p: usize, w: usize) -> usize
+fn number(s: &[u8], p: usize, w: usize) -> usize
     requires { ⌜ (w ≤ 32) × (p + w ≤ 131072) ⌝ }
     ensures { λ r. ⌜ Number (seen (now (s .entry))) p w r ⌝ }
 {
@@ -71,6 +71,66 @@ pub fn number(s: &[u8], p: usize, w: usize) -> usize
         i += 1;
     }
     v
+}
+
+// The bit reader as a record: the bytes of an image and the place of the next bit.
+pub struct BitReader<'a> {
+    pub image: &'a [u8],
+    pub at: usize,
+}
+
+// A number that was read, and the place after its bits.
+pub struct NumberRead {
+    pub value: usize,
+    pub next: usize,
+}
+
+// Thin functions, proved by hand: a record that holds a slice is outside what the checker covers. `read_number` serves every
+// other caller.
+impl<'a> BitReader<'a> {
+    // The reader of an image, at its first bit.
+    fn new(image: &'a [u8]) -> BitReader<'a>
+        ensures { λ r. ⌜ (r .image ≡ image .entry) × (r .at ≡ 0) ⌝ }
+    {
+        BitReader { image, at: 0 }
+    }
+
+    // The place of the next bit.
+    fn place(self) -> usize
+        ensures { λ r. ⌜ r ≡ self .entry .at ⌝ }
+    {
+        self.at
+    }
+
+    // The number that the next w bits write.
+    fn field(self, w: usize) -> usize
+        requires { ⌜ (w ≤ 32) × (self .at + w ≤ 131072) ⌝ }
+        ensures { λ r. ⌜ Number (seen (now (self .entry .image))) (self .entry .at) w r ⌝ }
+    {
+        number(self.image, self.at, w)
+    }
+
+    // The reader moved on by w bits.
+    fn advanced(self, w: usize) -> BitReader<'a>
+        requires { ⌜ self .at + w < 2 ^ 64 ⌝ }
+        ensures { λ r. ⌜ (r .image ≡ self .entry .image) × (r .at ≡ self .entry .at + w) ⌝ }
+    {
+        BitReader {
+            image: self.image,
+            at: self.at + w,
+        }
+    }
+}
+
+// The number that the w bits from place p write, and the place after them.
+pub fn read_number(image: &[u8], p: usize, w: usize) -> NumberRead
+    requires { ⌜ (w ≤ 32) × (p + w ≤ 131072) ⌝ }
+    ensures { λ r. ⌜ Number (seen (now (image .entry))) p w (r .value) × (r .next ≡ p + w) ⌝ }
+{
+    let reader = BitReader::new(image).advanced(p);
+    let value = reader.field(w);
+    let next = reader.advanced(w).place();
+    NumberRead { value, next }
 }
 
 // A fault, with its number.
@@ -111,9 +171,8 @@ fn take_at(s: &[u8], p: usize, w: usize, low: usize, end: usize, n: u8) -> Taken
     } else if bits - p < w {
         failed(28, w, end)
     } else {
-        let v = number(s, p, w);
-        let next = p + w;
-        judge(v, w, low, end, n, next)
+        let read = read_number(s, p, w);
+        judge(read.value, w, low, end, n, read.next)
     }
 }
 

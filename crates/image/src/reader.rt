@@ -1,7 +1,7 @@
 // The image reader (document 01, "The image", "Numbers for an image").
 use crate::bits::NetRead;
 use crate::bits::Step;
-use crate::bits::number;
+use crate::bits::read_number;
 use crate::bits::take;
 use crate::bits::visible;
 use crate::code::read_code;
@@ -70,8 +70,8 @@ fn ends_at(s: &[u8], p: usize) -> bool
     let bytes = (p + 7) / 8;
     if visible(s) == bytes {
         let rest = (8 - p % 8) % 8;
-        let padded = number(s, p, rest);
-        padded == 0
+        let padding = read_number(s, p, rest);
+        padding.value == 0
     } else {
         false
     }

@@ -13,7 +13,6 @@ take-at-spec =
     (λ c κs. search needs)
     (λ c κs. search needs)
     (λ c κs. search needs)
-    (λ c. search needs)
     (λ c κs. search needs)
     (λ c. search (needs, field-out))
     (λ c. search (needs, field-short))
