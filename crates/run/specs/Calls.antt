@@ -39,5 +39,10 @@ unfoldable pub registeredOf : List ℕ → ℕ → Registered
 registeredOf text room = choose (leb (length text) room) (Registered.Written (length text)) Registered.NoRoom
 
 unfoldable pub registeredNumber : Registered → ℕ
-registeredNumber (Registered.Written n) = n
+registeredNumber (Registered.Written n) = 0
 registeredNumber Registered.NoRoom = 35
+
+-- its length, 0 where it was not written whole: every register has a line
+unfoldable pub registeredLength : Registered → ℕ
+registeredLength (Registered.Written n) = n
+registeredLength Registered.NoRoom = 0

@@ -1,0 +1,236 @@
+-- A net whose image has 14,749 bytes: 16 addresses, each with 4 processes and 16 tuples of 4 readings, and 512 outs of 4
+-- readings at a written address. Assumes nothing.
+use Prim.Native.Nat.{ℕ, zero, suc, _+_, _*_, _<_}
+use mathlib.Core.Path.{_≡_, refl, ap, _∙_}
+use mathlib.Core.Bool.{Bool, true, false}
+use mathlib.Core.List.{List, _++_}
+use native.Mathlib.Omega.{arith}
+use lib.ListN.{length, replicate, length-append, length-replicate, getD-replicate}
+use borrow.Author.Tests.{eq-eqb, lt-ltb}
+use Rattle.net.specs.Choice.{choose, both, implies, all, fold}
+use Rattle.net.specs.Records.{startingAt, zeroField, unsetVariable, allRights, zeroTemplateField}
+use Rattle.net.specs.Records.{fieldAt, variableAt, rightsAt, processAt, tupleAt, patternAt, nodeAt, instructionAt}
+use Rattle.writer.specs.Types.{Locality, Place, Tuple, Node, Target, Action, Instruction, Net}
+use Rattle.net.specs.Soundness.{inRange, itemSound, tupleSound, tuplesSound, rowSound, isUnset, valueSound, processSound}
+use Rattle.net.specs.Soundness.{nodeSound, targetSound, patternSound, templateSound, isActual, actualsOnly, actionSound}
+use Rattle.net.specs.Soundness.{templateFor, instructionSound, nodesSound, codeSound, soundOf}
+use Rattle.net.specs.Keeping.{mayPut, atTarget, permits, permitsMarked, keepsOf}
+use Rattle.image.specs.Image.{admitsProcess, admitsNode, admits, accepted, openedOf}
+use Rattle.writer.specs.Types.{Answer, Opened}
+use Rattle.writer.specs.ImageOf.{bitsOf, joined, addressBits, placeBits, readingBits, headerBits, rightsBits, rowBits}
+use Rattle.writer.specs.ImageOf.{processCount, processesBits, itemBits, tupleBits, tuplesBits, targetBits, patternBits}
+use Rattle.writer.specs.ImageOf.{templateBits, actionBits, instructionBits, rowsBits, allProcessesBits, allTuplesBits}
+use Rattle.writer.specs.ImageOf.{codeBits, netBits, imageOf}
+use Rattle.writer.specs.Fresh.{readingFits, itemFits, patternFits, tupleFits, processFits, nodeFits, instructionFits}
+use Rattle.writer.specs.Fresh.{netFits, slotStarts, nodeStarts, freshOf}
+use Rattle.writer.specs.WrittenClaims.{Bytes, LongestIsReached}
+use Rattle.net.proofs.Laws.{both-i, implies-i, choose-true, all-i}
+use Rattle.net.proofs.Past.{in-range}
+use Rattle.image.proofs.PastRecords.{pastNode, pastInstruction}
+use Rattle.writer.proofs.WrittenBytes.{bytes-length, bytes-small}
+use Rattle.writer.proofs.AcceptedWritten.{fresh-accepted}
+
+fullTuple : Tuple
+fullTuple = record { count = 4; fields = replicate 4 zeroField }
+
+fullNode : Node
+fullNode = record {
+  row = record { create = false; rights = replicate 16 allRights };
+  processes = replicate 4 (startingAt (record { 0 = 0 }));
+  stored = 16;
+  tuples = replicate 16 fullTuple;
+}
+
+fullInstruction : Instruction
+fullInstruction = record {
+  action = Action.Out (Target.Written (record { 0 = 0 })) (record { 0 = 0 });
+  count = 4;
+  template = replicate 4 zeroTemplateField;
+}
+
+fullNet : Net
+fullNet = record { addresses = 16; length = 512; nodes = replicate 16 fullNode; code = replicate 512 fullInstruction }
+
+node-is-full : (a : ℕ) → a < 16 → nodeAt fullNet a ≡ fullNode
+unfolding nodeAt fullNet
+node-is-full a h = getD-replicate 16 a fullNode pastNode h
+
+code-is-full : (p : ℕ) → p < 512 → instructionAt (fullNet .code) p ≡ fullInstruction
+unfolding instructionAt fullNet
+code-is-full p h = getD-replicate 512 p fullInstruction pastInstruction h
+
+-- ---- it is fresh
+node-fits : nodeFits fullNode ≡ true
+unfolding nodeFits fullNode processFits processAt startingAt tupleFits tupleAt fullTuple fieldAt zeroField itemFits readingFits all both
+node-fits = refl
+
+node-sound : nodeSound 16 512 fullNode ≡ true
+unfolding nodeSound fullNode rowSound rightsAt processSound processAt startingAt variableAt unsetVariable valueSound tuplesSound tupleSound tupleAt fullTuple fieldAt zeroField itemSound inRange all both choose implies
+node-sound = refl
+
+node-starts : nodeStarts fullNode ≡ true
+unfolding nodeStarts slotStarts fullNode processCount processAt startingAt variableAt unsetVariable isUnset fold all both choose
+node-starts = refl
+
+instruction-fits : instructionFits fullInstruction ≡ true
+unfolding instructionFits fullInstruction patternAt zeroTemplateField patternFits readingFits all both
+instruction-fits = refl
+
+instruction-sound : instructionSound 16 512 fullInstruction ≡ true
+unfolding instructionSound fullInstruction actionSound targetSound templateFor templateSound actualsOnly isActual patternSound patternAt zeroTemplateField inRange all both choose implies
+instruction-sound = refl
+
+nodes-length : length (fullNet .nodes) ≡ 16
+unfolding fullNet
+nodes-length = length-replicate 16 fullNode
+
+code-length : length (fullNet .code) ≡ 512
+unfolding fullNet
+code-length = length-replicate 512 fullInstruction
+
+net-fits : netFits fullNet ≡ true
+unfolding netFits
+net-fits =
+    both-i _ _
+    (both-i _ _ (eq-eqb _ _ nodes-length) (all-i 16 _ (λ a h. ap nodeFits (node-is-full a h) ∙ node-fits)))
+    (both-i _ _ (eq-eqb _ _ code-length)
+    (all-i 512 _ (λ p h. ap instructionFits (code-is-full p h) ∙ instruction-fits)))
+
+abbrev n : ℕ
+n = fullNet .addresses
+
+abbrev k : ℕ
+k = fullNet .length
+
+addresses-are : n ≡ 16
+unfolding fullNet
+addresses-are = refl
+
+length-is : k ≡ 512
+unfolding fullNet
+length-is = refl
+
+net-sound : soundOf fullNet ≡ true
+unfolding soundOf nodesSound codeSound
+net-sound =
+    both-i _ _
+    (both-i _ _ (in-range 1 n 16 (omega (arith, addresses-are)) (omega (arith, addresses-are)))
+    (in-range 1 k 512 (omega (arith, length-is)) (omega (arith, length-is))))
+    (both-i _ _
+    (all-i 16 _ (λ a h.
+    choose-true _ _ _ (lt-ltb a n (omega (arith, addresses-are)))
+    ∙ ap (nodeSound n k) (node-is-full a h)
+    ∙ ap (λ (i : ℕ). nodeSound i k fullNode) addresses-are ∙ ap (λ (i : ℕ). nodeSound 16 i fullNode) length-is
+    ∙ node-sound))
+    (all-i 512 _ (λ p h.
+    choose-true _ _ _ (lt-ltb p k (omega (arith, length-is)))
+    ∙ ap (instructionSound n k) (code-is-full p h)
+    ∙ ap (λ (i : ℕ). instructionSound i k fullInstruction) addresses-are
+    ∙ ap (λ (i : ℕ). instructionSound 16 i fullInstruction) length-is
+    ∙ instruction-sound)))
+
+permitted : (a : Locality) → permits (fullNode .row) a (fullInstruction .action) ≡ true
+unfolding permits fullNode fullInstruction atTarget mayPut rightsAt allRights
+permitted a = refl
+
+kept : (p : Place) (a : Locality) → keepsOf (fullNet .code) p a (fullNode .row) ≡ true
+unfolding keepsOf permitsMarked
+kept p a =
+    all-i 512 _ (λ q h. implies-i _ _ (λ _.
+    ap (λ (c : Instruction). permits (fullNode .row) a (c .action)) (code-is-full q h) ∙ permitted a))
+
+net-admitted : admits fullNet ≡ true
+unfolding admits admitsNode admitsProcess
+net-admitted =
+    all-i 16 _ (λ a h. implies-i _ _ (λ _.
+    ap (admitsNode (fullNet .code) a) (node-is-full a h)
+    ∙ all-i 4 _ (λ i l. implies-i _ _ (λ _. kept _ _))))
+
+net-fresh : freshOf fullNet ≡ true
+unfolding freshOf
+net-fresh =
+    both-i _ _ net-fits
+    (both-i _ _ net-sound
+    (both-i _ _ (all-i 16 _ (λ a h. ap nodeStarts (node-is-full a h) ∙ node-starts)) net-admitted))
+
+-- ---- its bits
+joined-length : (m w : ℕ) (f : ℕ → List Bool) → ((i : ℕ) → i < m → length (f i) ≡ w) → length (joined m f) ≡ m * w
+unfolding joined
+joined-length zero w f e = omega arith
+joined-length (suc m) w f e =
+    let h = length-append (joined m f) (f m) in
+    let g = joined-length m w f (λ i l. e i (omega arith)) in
+    let d = e m (omega arith) in
+    omega arith
+
+-- ---- each part, and the whole
+row-length : length (rowBits 16 (fullNode .row)) ≡ 65
+unfolding rowBits fullNode joined rightsBits
+row-length = refl
+
+processes-length : length (processesBits fullNode) ≡ 39
+unfolding processesBits processCount fullNode processAt startingAt fold choose joined placeBits bitsOf
+processes-length = refl
+
+tuples-length : length (tuplesBits fullNode) ≡ 2149
+unfolding tuplesBits fullNode tupleAt tupleBits fullTuple fieldAt zeroField itemBits readingBits joined bitsOf
+tuples-length = refl
+
+instruction-length : length (instructionBits fullInstruction) ≡ 160
+unfolding instructionBits fullInstruction actionBits targetBits addressBits templateBits patternAt zeroTemplateField patternBits readingBits placeBits joined bitsOf
+instruction-length = refl
+
+header-length : length (headerBits fullNet) ≡ 19
+unfolding headerBits fullNet bitsOf
+header-length = refl
+
+rows-length : length (rowsBits fullNet) ≡ 1040
+unfolding rowsBits
+rows-length =
+    ap (λ (i : ℕ). length (joined i (λ a. rowBits i (nodeAt fullNet a .row)))) addresses-are
+    ∙ joined-length 16 65 _ (λ a h. ap (λ (x : Node). length (rowBits 16 (x .row))) (node-is-full a h) ∙ row-length)
+
+all-processes-length : length (allProcessesBits fullNet) ≡ 624
+unfolding allProcessesBits
+all-processes-length =
+    ap (λ (i : ℕ). length (joined i (λ a. processesBits (nodeAt fullNet a)))) addresses-are
+    ∙ joined-length 16 39 _ (λ a h. ap (λ (x : Node). length (processesBits x)) (node-is-full a h) ∙ processes-length)
+
+all-tuples-length : length (allTuplesBits fullNet) ≡ 34384
+unfolding allTuplesBits
+all-tuples-length =
+    ap (λ (i : ℕ). length (joined i (λ a. tuplesBits (nodeAt fullNet a)))) addresses-are
+    ∙ joined-length 16 2149 _ (λ a h. ap (λ (x : Node). length (tuplesBits x)) (node-is-full a h) ∙ tuples-length)
+
+code-bits-length : length (codeBits fullNet) ≡ 81920
+unfolding codeBits
+code-bits-length =
+    ap (λ (i : ℕ). length (joined i (λ p. instructionBits (instructionAt (fullNet .code) p)))) length-is
+    ∙ joined-length 512 160 _
+    (λ p h. ap (λ (c : Instruction). length (instructionBits c)) (code-is-full p h) ∙ instruction-length)
+
+net-length : length (netBits fullNet) ≡ 117987
+unfolding netBits
+net-length =
+    let a = length-append (allTuplesBits fullNet) (codeBits fullNet) in
+    let b = length-append (allProcessesBits fullNet) (allTuplesBits fullNet ++ codeBits fullNet) in
+    let c = length-append (rowsBits fullNet) (allProcessesBits fullNet ++ (allTuplesBits fullNet ++ codeBits fullNet)) in
+    length-append (headerBits fullNet)
+    (rowsBits fullNet ++ (allProcessesBits fullNet ++ (allTuplesBits fullNet ++ codeBits fullNet)))
+    ∙ omega (arith, header-length, rows-length, all-processes-length, all-tuples-length, code-bits-length)
+
+full-accepted : openedOf (imageOf fullNet) .answer ≡ Answer.Accepted
+unfolding accepted
+full-accepted = ap (λ (r : Opened). r .answer) (fresh-accepted fullNet net-fresh)
+
+full-length : length (imageOf fullNet) ≡ 14749
+unfolding imageOf
+full-length = bytes-length (netBits fullNet) ∙ omega (arith, net-length)
+
+full-bytes : Bytes (imageOf fullNet)
+unfolding imageOf
+full-bytes = bytes-small (netBits fullNet)
+
+pub longestIsReached : LongestIsReached
+unfolding LongestIsReached
+longestIsReached = (imageOf fullNet, full-bytes, full-accepted, full-length)

@@ -1,0 +1,260 @@
+-- The passes over the nodes of a net and over its code (`specs/Image.antt`, 2 to 5): each gives exactly the nets whose
+-- records it can write, and leaves all else as it was. Assumes nothing.
+use Prim.Native.Nat.{ℕ, _-_, _<_, _≤_}
+use mathlib.Core.Path.{_≡_, refl, sym, ap, subst, _∙_}
+use mathlib.Core.Bool.{Bool}
+use mathlib.Core.List.{List}
+use native.Mathlib.Omega.{arith}
+use lib.ListN.{length, getD, replicate}
+use lib.Seq.{set-getD, set-set}
+use Rattle.writer.specs.Types.{Row, Process, Node, Instruction, Net}
+use Rattle.net.specs.Records.{freeProcess, zeroTuple, zeroRow, zeroNode, zeroInstruction, nodeAt}
+use Rattle.net.specs.Records.{withRow, withNode, withInstruction}
+use Rattle.image.specs.BitReader.{Reader}
+use Rattle.image.specs.Image.{row, rowOf, rows, processes, processesOf, allProcesses, tuples, tuplesOf, allTuples}
+use Rattle.image.specs.Image.{instruction, instructionOf, code}
+use Rattle.writer.specs.ImageOf.{joined, rowBits, processesBits, tuplesBits, instructionBits}
+use Rattle.writer.proofs.ReadsWrites.{Reads}
+use Rattle.writer.proofs.ReadsCells.{Arrayed, Through, Turned, Filling, reads-turn, reads-cells}
+use Rattle.writer.proofs.WrittenCode.{InstructionOk, reads-instruction}
+use Rattle.image.proofs.PastRecords.{pastNode, pastInstruction}
+use Rattle.writer.proofs.WrittenProcesses.{ProcessesOk, Peopled, reads-processes, bareNode, node-is}
+use Rattle.writer.proofs.WrittenRow.{RowOk, reads-row}
+use Rattle.writer.proofs.WrittenStore.{TuplesOk, Stocked, reads-tuples}
+
+-- a net is what its parts are
+pub net-is : (s : Net) (n k : ℕ) (xs : List Node) (cs : List Instruction) → n ≡ s .addresses → k ≡ s .length
+    → xs ≡ s .nodes → cs ≡ s .code → record { addresses = n; length = k; nodes = xs; code = cs } ≡ s
+net-is s n k xs cs a b c d =
+    ap (λ (y : ℕ). record { addresses = y; length = k; nodes = xs; code = cs }) a
+    ∙ ap (λ (y : ℕ). record { addresses = s .addresses; length = y; nodes = xs; code = cs }) b
+    ∙ ap (λ y. record { addresses = s .addresses; length = s .length; nodes = y; code = cs }) c
+    ∙ ap (λ y. record { addresses = s .addresses; length = s .length; nodes = s .nodes; code = y }) d
+
+-- ---- a pass over the nodes
+pub record Beside (s₀ s : Net) : Type 0 where
+  pub addresses-are : s₀ .addresses ≡ s .addresses
+  pub length-is : s₀ .length ≡ s .length
+  pub code-is : s₀ .code ≡ s .code
+
+abbrev pub passOver : Net → (Node → Type 0) → (Node → Node) → Arrayed Net Node
+passOver s₀ Good undo = record {
+  cells = λ s. s .nodes;
+  put = λ a s x. withNode s a x;
+  cut = λ a s x. withNode s a x;
+  past = pastNode;
+  Good = Good;
+  undo = undo;
+  Frame = λ i s. Beside s₀ s;
+  Extra = λ i s x. Unit {0};
+  size = 16;
+}
+
+kept : (s₀ s : Net) (a : ℕ) (x : Node) → Beside s₀ s → Beside s₀ (withNode s a x)
+unfolding withNode
+kept s₀ s a x e = record { addresses-are = e .addresses-are; length-is = e .length-is; code-is = e .code-is }
+
+module _ (s₀ : Net) (Good : Node → Type 0) (undo : Node → Node) (f : ℕ → Net → Reader Net) (w : Node → List Bool) where
+  filling-pass :
+      s₀ .addresses ≤ 16 → length (s₀ .nodes) ≡ 16
+      → ((a : ℕ) → a < s₀ .addresses → (s : Net) → Beside s₀ s
+      → getD (s₀ .nodes) a pastNode ≡ getD (s .nodes) a pastNode → length (s .nodes) ≡ 16
+      → Reads (f a s) (λ b. w (getD (b .nodes) a pastNode)) (Turned (passOver s₀ Good undo) s₀ a s))
+      → Filling (passOver s₀ Good undo) s₀ f (s₀ .addresses) w
+  unfolding withNode
+  filling-pass h l turn = record {
+    room = h;
+    size-is = l;
+    begins = record { addresses-are = refl; length-is = refl; code-is = refl };
+    starts = λ s e d. net-is s _ _ _ _ (e .addresses-are) (e .length-is) d (e .code-is);
+    turn = turn;
+    put-cells = λ a m s x e. refl;
+    put-frame = λ a m s x e g _. kept s₀ s a x e;
+    cut-cells = λ a m s x. refl;
+    cut-frame = λ a m s x e. kept s₀ s a x e;
+    cut-extra = λ a m s x e. tt;
+    put-cut = λ a m s x e.
+        ap (λ y. record { addresses = s .addresses; length = s .length; nodes = y; code = s .code })
+        (set-set (s .nodes) a x (getD (s .nodes) a pastNode) ∙ set-getD (s .nodes) a pastNode);
+  }
+
+-- ---- 2. rows
+abbrev pub rowless : Node → Node
+rowless x = withRow x zeroRow
+
+unfoldable pub RowsPass : Net → Net → Type 0
+RowsPass s₀ = Through (passOver s₀ (λ x. RowOk (s₀ .addresses) (x .row)) rowless) s₀ (s₀ .addresses)
+
+module _ (s₀ : Net) (h : s₀ .addresses ≤ 16) (l : length (s₀ .nodes) ≡ 16)
+    (bare : (a : ℕ) → a < s₀ .addresses → getD (s₀ .nodes) a pastNode ≡ zeroNode) where
+  pub reads-rows :
+      Reads (rows s₀) (λ b. joined (s₀ .addresses) (λ a. rowBits (s₀ .addresses) (nodeAt b a .row))) (RowsPass s₀)
+  unfolding rows rowOf nodeAt RowsPass withNode withRow zeroNode
+  reads-rows =
+      let n : ℕ = s₀ .addresses in
+      reads-cells (passOver s₀ (λ x. RowOk n (x .row)) rowless) s₀ rowOf n (λ x. rowBits n (x .row))
+      (filling-pass s₀ _ _ _ _ h l (λ a m s e b g.
+      reads-turn (passOver s₀ (λ x. RowOk n (x .row)) rowless) s₀ a s (λ x. rowBits n (x .row)) (withRow (nodeAt s a))
+      (omega arith) (λ x. refl) (subst (λ (j : ℕ). Reads (row j) (rowBits n) (RowOk n)) (e .addresses-are) (reads-row n h))
+      (λ r ok. (ok, ap (λ (x : Node). withRow x zeroRow) (sym b ∙ bare a m) ∙ sym (bare a m), tt)) (λ r ok. refl)
+      (λ x ok u _. (x .row, ok, ap (λ (y : Node). withRow y (x .row)) (sym b ∙ sym u)))))
+
+-- ---- 3. processes
+abbrev pub free : List Process
+free = replicate 4 freeProcess
+
+abbrev pub vacated : Node → Node
+vacated x = record { row = x .row; processes = free; stored = x .stored; tuples = x .tuples }
+
+pub record Slots (k : ℕ) (x : Node) : Type 0 where
+  pub count : ℕ
+  pub slots : ProcessesOk k count x
+
+unfoldable pub ProcessesPass : Net → Net → Type 0
+ProcessesPass s₀ = Through (passOver s₀ (Slots (s₀ .length)) vacated) s₀ (s₀ .addresses)
+
+-- a node that is bare once its processes are gone
+bare-again : (x y : Node) → vacated x ≡ y → y ≡ bareNode (y .row) free → bareNode (y .row) (x .processes) ≡ x
+unfolding bareNode
+bare-again x y u b =
+    let e : vacated x ≡ bareNode (y .row) free = u ∙ b in
+    node-is x (y .row) (x .processes) 0 (replicate 16 zeroTuple)
+    (ap (λ (z : Node). z .row) (sym u)) refl (ap (λ (z : Node). z .stored) (sym e)) (ap (λ (z : Node). z .tuples) (sym e))
+
+vacated-bare : (x : Node) (r : Row) → bareNode r (x .processes) ≡ x → vacated x ≡ bareNode r free
+unfolding bareNode
+vacated-bare x r e = ap (λ (z : Node). vacated z) (sym e)
+
+module _ (s₀ : Net) (h : s₀ .addresses ≤ 16) (k : s₀ .length ≤ 512) (l : length (s₀ .nodes) ≡ 16)
+    (bare : (a : ℕ) → a < s₀ .addresses
+    → getD (s₀ .nodes) a pastNode ≡ bareNode (getD (s₀ .nodes) a pastNode .row) free) where
+  reads-slots : (a : ℕ) → a < s₀ .addresses → (s : Net) → Beside s₀ s
+      → getD (s₀ .nodes) a pastNode ≡ getD (s .nodes) a pastNode
+      → Reads (processes (s .length) (getD (s .nodes) a pastNode)) processesBits
+      (Peopled (s₀ .length) (getD (s₀ .nodes) a pastNode .row))
+  reads-slots a m s e b =
+      let r : Row = getD (s₀ .nodes) a pastNode .row in
+      subst (λ (j : ℕ). Reads (processes j (getD (s .nodes) a pastNode)) processesBits (Peopled (s₀ .length) r))
+      (e .length-is)
+      (subst (λ (x : Node). Reads (processes (s₀ .length) x) processesBits (Peopled (s₀ .length) r))
+      (sym (bare a m) ∙ b) (reads-processes (s₀ .length) r k))
+
+  pub reads-allProcesses :
+      Reads (allProcesses s₀) (λ b. joined (s₀ .addresses) (λ a. processesBits (nodeAt b a))) (ProcessesPass s₀)
+  unfolding allProcesses processesOf nodeAt ProcessesPass withNode
+  reads-allProcesses =
+      reads-cells (passOver s₀ (Slots (s₀ .length)) vacated) s₀ processesOf (s₀ .addresses) processesBits
+      (filling-pass s₀ _ _ _ _ h l (λ a m s e b g.
+      reads-turn (passOver s₀ (Slots (s₀ .length)) vacated) s₀ a s processesBits (λ x. x)
+      (omega arith) (λ x. refl) (reads-slots a m s e b)
+      (λ x ok. (record { count = ok .count; slots = ok .slots }, vacated-bare x _ (ok .bare) ∙ sym (bare a m), tt))
+      (λ x ok. refl)
+      (λ x ok u _. (x, record { count = ok .count; slots = ok .slots; bare = bare-again x _ u (bare a m) }, refl))))
+
+-- ---- 4. tuples
+abbrev pub emptied : Node → Node
+emptied x = bareNode (x .row) (x .processes)
+
+unfoldable pub TuplesPass : Net → Net → Type 0
+TuplesPass s₀ = Through (passOver s₀ (TuplesOk (s₀ .addresses)) emptied) s₀ (s₀ .addresses)
+
+module _ (s₀ : Net) (h : s₀ .addresses ≤ 16) (l : length (s₀ .nodes) ≡ 16)
+    (bare : (a : ℕ) → a < s₀ .addresses → getD (s₀ .nodes) a pastNode ≡ emptied (getD (s₀ .nodes) a pastNode)) where
+  reads-store : (a : ℕ) → a < s₀ .addresses → (s : Net) → Beside s₀ s
+      → getD (s₀ .nodes) a pastNode ≡ getD (s .nodes) a pastNode
+      → Reads (tuples (s .addresses) (getD (s .nodes) a pastNode)) tuplesBits
+      (Stocked (s₀ .addresses) (getD (s₀ .nodes) a pastNode .row) (getD (s₀ .nodes) a pastNode .processes))
+  reads-store a m s e b =
+      let y : Node = getD (s₀ .nodes) a pastNode in
+      let n : ℕ = s₀ .addresses in
+      subst (λ (j : ℕ). Reads (tuples j (getD (s .nodes) a pastNode)) tuplesBits (Stocked n (y .row) (y .processes)))
+      (e .addresses-are)
+      (subst (λ (x : Node). Reads (tuples n x) tuplesBits (Stocked n (y .row) (y .processes)))
+      (sym (bare a m) ∙ b) (reads-tuples n (y .row) (y .processes) h))
+
+  pub reads-allTuples :
+      Reads (allTuples s₀) (λ b. joined (s₀ .addresses) (λ a. tuplesBits (nodeAt b a))) (TuplesPass s₀)
+  unfolding allTuples tuplesOf nodeAt TuplesPass withNode bareNode
+  reads-allTuples =
+      reads-cells (passOver s₀ (TuplesOk (s₀ .addresses)) emptied) s₀ tuplesOf (s₀ .addresses) tuplesBits
+      (filling-pass s₀ _ _ _ _ h l (λ a m s e b g.
+      reads-turn (passOver s₀ (TuplesOk (s₀ .addresses)) emptied) s₀ a s tuplesBits (λ x. x)
+      (omega arith) (λ x. refl) (reads-store a m s e b)
+      (λ x ok. (
+        ok .store,
+        ap (λ (r : Row). bareNode r (x .processes)) (sym (ok .same-row))
+            ∙ ap (bareNode _) (sym (ok .same-processes)) ∙ sym (bare a m),
+        tt,
+      ))
+      (λ x ok. refl)
+      (λ x ok u _. (
+        x,
+        record {
+          store = ok;
+          same-row = ap (λ (z : Node). z .row) (sym u);
+          same-processes = ap (λ (z : Node). z .processes) (sym u);
+        },
+        refl,
+      ))))
+
+-- ---- 5. the code
+pub record Above (s₀ s : Net) : Type 0 where
+  pub addresses-are : s₀ .addresses ≡ s .addresses
+  pub length-is : s₀ .length ≡ s .length
+  pub nodes-are : s₀ .nodes ≡ s .nodes
+
+abbrev pub codeOf : Net → Arrayed Net Instruction
+codeOf s₀ = record {
+  cells = λ s. s .code;
+  put = λ p s c. withInstruction s p c;
+  cut = λ p s c. withInstruction s p c;
+  past = pastInstruction;
+  Good = InstructionOk (s₀ .addresses) (s₀ .length);
+  undo = λ c. zeroInstruction;
+  Frame = λ i s. Above s₀ s;
+  Extra = λ i s c. Unit {0};
+  size = 512;
+}
+
+unfoldable pub CodePass : Net → Net → Type 0
+CodePass s₀ = Through (codeOf s₀) s₀ (s₀ .length)
+
+code-kept : (s₀ s : Net) (p : ℕ) (c : Instruction) → Above s₀ s → Above s₀ (withInstruction s p c)
+unfolding withInstruction
+code-kept s₀ s p c e = record { addresses-are = e .addresses-are; length-is = e .length-is; nodes-are = e .nodes-are }
+
+module _ (s₀ : Net) (h : s₀ .addresses ≤ 16) (k : s₀ .length ≤ 512) (l : length (s₀ .code) ≡ 512)
+    (bare : (p : ℕ) → p < s₀ .length → getD (s₀ .code) p pastInstruction ≡ zeroInstruction) where
+  reads-placed : (s : Net) → Above s₀ s
+      → Reads (instruction (s .addresses) (s .length)) instructionBits (InstructionOk (s₀ .addresses) (s₀ .length))
+  reads-placed s e =
+      let n : ℕ = s₀ .addresses in
+      let m : ℕ = s₀ .length in
+      subst (λ (j : ℕ). Reads (instruction (s .addresses) j) instructionBits (InstructionOk n m)) (e .length-is)
+      (subst (λ (j : ℕ). Reads (instruction j m) instructionBits (InstructionOk n m)) (e .addresses-are)
+      (reads-instruction n m h k))
+
+  filling-code : Filling (codeOf s₀) s₀ instructionOf (s₀ .length) instructionBits
+  unfolding instructionOf withInstruction
+  filling-code = record {
+    room = k;
+    size-is = l;
+    begins = record { addresses-are = refl; length-is = refl; nodes-are = refl };
+    starts = λ s e d. net-is s _ _ _ _ (e .addresses-are) (e .length-is) (e .nodes-are) d;
+    turn = λ p m s e b g.
+        reads-turn (codeOf s₀) s₀ p s instructionBits (λ c. c) (omega arith) (λ c. refl) (reads-placed s e)
+        (λ c ok. (ok, sym (bare p m), tt)) (λ c ok. refl) (λ c ok u _. (c, ok, refl));
+    put-cells = λ p m s c e. refl;
+    put-frame = λ p m s c e g _. code-kept s₀ s p c e;
+    cut-cells = λ p m s c. refl;
+    cut-frame = λ p m s c e. code-kept s₀ s p c e;
+    cut-extra = λ p m s c e. tt;
+    put-cut = λ p m s c e.
+        ap (λ y. record { addresses = s .addresses; length = s .length; nodes = s .nodes; code = y })
+        (set-set (s .code) p c (getD (s .code) p pastInstruction) ∙ set-getD (s .code) p pastInstruction);
+  }
+
+  pub reads-code :
+      Reads (code s₀) (λ b. joined (s₀ .length) (λ p. instructionBits (getD (b .code) p pastInstruction))) (CodePass s₀)
+  unfolding code CodePass
+  reads-code = reads-cells (codeOf s₀) s₀ instructionOf (s₀ .length) instructionBits filling-code

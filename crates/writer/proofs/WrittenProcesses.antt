@@ -1,0 +1,159 @@
+-- The processes of a node (`specs/Image.antt`, `specs/ImageOf.antt`, 3): what is read is what is written.
+-- Assumes nothing.
+use Prim.Native.Nat.{ℕ, zero, suc, _+_, _-_, _<_, _≤_}
+use mathlib.Core.Path.{_≡_, refl, sym, ap, subst, _∙_}
+use mathlib.Core.Bool.{true, false}
+use mathlib.Core.List.{List, _++_}
+use native.Mathlib.Omega.{arith}
+use lib.ListN.{getD, set, replicate, length-replicate, getD-replicate}
+use lib.Seq.{set-getD, set-set}
+use Rattle.net.specs.Choice.{choose, fold}
+use Rattle.writer.specs.Types.{Place, Tuple, Row, Process, Node}
+use Rattle.net.specs.Records.{startingAt, freeProcess, zeroTuple, processAt}
+use Rattle.net.specs.Records.{withProcess}
+use Rattle.image.specs.Image.{row, process, processes, stored, tuples}
+use Rattle.writer.specs.ImageOf.{bitsOf, joined, placeBits, processCount, processesBits}
+use Rattle.net.proofs.Laws.{choose-true, choose-false}
+use Rattle.net.proofs.Every.{Every, Filled}
+use Rattle.net.proofs.Past.{pastProcess}
+use Rattle.writer.proofs.ReadsWrites.{Reads, reads-then, reads-field}
+use Rattle.writer.proofs.ReadsCells.{Arrayed, Through, Filling, reads-turn, reads-cells}
+use Rattle.writer.proofs.ReadsCells.{changed-filled, filled-changed}
+use Rattle.writer.proofs.WrittenFields.{reads-place}
+
+pub record Starts (k : ℕ) (p : Process) : Type 0 where
+  pub first : Place
+  pub within : first .0 < k
+  pub is : startingAt first ≡ p
+
+-- c processes fill slots 0 upward
+pub record ProcessesOk (k c : ℕ) (x : Node) : Type 0 where
+  pub few : c ≤ 4
+  pub slots-ok : Every (Filled (Starts k) (λ p. freeProcess ≡ p) c) pastProcess 4 (x .processes)
+
+-- a node is what its parts are
+pub node-is : (x : Node) (r : Row) (ps : List Process) (m : ℕ) (ts : List Tuple) → r ≡ x .row → ps ≡ x .processes
+    → m ≡ x .stored → ts ≡ x .tuples → record { row = r; processes = ps; stored = m; tuples = ts } ≡ x
+node-is x r ps m ts a b c d =
+    ap (λ (y : Row). record { row = y; processes = ps; stored = m; tuples = ts }) a
+    ∙ ap (λ y. record { row = x .row; processes = y; stored = m; tuples = ts }) b
+    ∙ ap (λ (y : ℕ). record { row = x .row; processes = x .processes; stored = y; tuples = ts }) c
+    ∙ ap (λ y. record { row = x .row; processes = x .processes; stored = x .stored; tuples = y }) d
+
+-- a node with its row and its processes, and no tuple
+unfoldable pub bareNode : Row → List Process → Node
+bareNode r ps = record { row = r; processes = ps; stored = 0; tuples = replicate 16 zeroTuple }
+
+abbrev processesIn : ℕ → Row → Arrayed Node Process
+processesIn k r = record {
+  cells = λ x. x .processes;
+  put = λ i x p. withProcess x i p;
+  cut = λ i x p. withProcess x i p;
+  past = pastProcess;
+  Good = Starts k;
+  undo = λ p. freeProcess;
+  Frame = λ i x. bareNode r (x .processes) ≡ x;
+  Extra = λ i x p. Unit {0};
+  size = 4;
+}
+
+-- a node whose processes are replaced
+replaced : (r : Row) (x : Node) (i : ℕ) (p : Process) → bareNode r (x .processes) ≡ x
+    → bareNode r (set (x .processes) i p) ≡ withProcess x i p
+unfolding withProcess bareNode
+replaced r x i p e = ap (λ (y : Node). withProcess y i p) e
+
+start : Row → Node
+start r = bareNode r (replicate 4 freeProcess)
+
+module _ (k : ℕ) (r : Row) (h : k ≤ 512) where
+  filling-processes : (c : ℕ) → c ≤ 4 → Filling (processesIn k r) (start r) (process k) c (λ p. placeBits (p .at))
+  unfolding process start withProcess bareNode startingAt
+  filling-processes c l = record {
+    room = l;
+    size-is = length-replicate 4 freeProcess;
+    begins = refl;
+    starts = λ x e d. ap (bareNode r) d ∙ e;
+    turn = λ i m x e b s.
+        reads-turn (processesIn k r) (start r) i x (λ p. placeBits (p .at)) startingAt (omega arith) (λ p. refl)
+        (reads-place k h)
+        (λ p g. (
+          record { first = p; within = g; is = refl },
+          sym (getD-replicate 4 i freeProcess pastProcess (omega arith)),
+          tt,
+        ))
+        (λ p g. refl) (λ p g _ _. (g .first, g .within, g .is));
+    put-cells = λ i m x p e. refl;
+    put-frame = λ i m x p e s _. replaced r x i p e;
+    cut-cells = λ i m x p. refl;
+    cut-frame = λ i m x p e. replaced r x i p e;
+    cut-extra = λ i m x p e. tt;
+    put-cut = λ i m x p e.
+        ap (λ y. record { row = x .row; processes = y; stored = x .stored; tuples = x .tuples })
+        (set-set (x .processes) i p (getD (x .processes) i pastProcess) ∙ set-getD (x .processes) i pastProcess);
+  }
+
+-- the busy slots are counted
+module _ (k c : ℕ) (x : Node) (ok : ProcessesOk k c x) where
+  busy-below : (i : ℕ) → i < c → processAt x i .busy ≡ true
+  unfolding processAt startingAt
+  busy-below i l =
+      let few = ok .few in
+      ap (λ (p : Process). p .busy) (sym (ok .slots-ok .holds i (omega arith) .used l .is))
+
+  free-above : (i : ℕ) → i < 4 → c ≤ i → processAt x i .busy ≡ false
+  unfolding processAt freeProcess
+  free-above i h l = ap (λ (p : Process). p .busy) (sym (ok .slots-ok .holds i h .unused l))
+
+  abbrev busyBelow : ℕ → ℕ
+  busyBelow i = fold i (λ j count. choose (processAt x j .busy) (count + 1) count) 0
+
+  counted : (i : ℕ) → i ≤ c → busyBelow i ≡ i
+  unfolding fold
+  counted zero l = refl
+  counted (suc i) l =
+      let e = counted i (omega arith) in
+      choose-true _ _ _ (busy-below i l) ∙ omega arith
+
+  one-more : (i : ℕ) → i < 4 → c ≤ i → busyBelow i ≡ c → busyBelow (suc i) ≡ c
+  unfolding fold
+  one-more i h l e = choose-false _ _ _ (free-above i h l) ∙ e
+
+  counted-all : (i j : ℕ) → j ≤ 4 → j ≡ c + i → busyBelow j ≡ c
+  counted-all zero j h e = let d : c ≡ j = omega arith in subst (λ (m : ℕ). busyBelow m ≡ c) d (counted c (omega arith))
+  counted-all (suc i) zero h e = absurd (omega arith)
+  counted-all (suc i) (suc j) h e = one-more j h (omega arith) (counted-all i j (omega arith) (omega arith))
+
+  pub count-is : processCount x ≡ c
+  unfolding processCount
+  count-is = let few = ok .few in counted-all (4 - c) 4 (omega arith) (omega arith)
+
+-- a node whose row r alone was read becomes one with processes
+pub record Peopled (k : ℕ) (r : Row) (x : Node) : Type 0 where
+  pub count : ℕ
+  pub slots : ProcessesOk k count x
+  pub bare : bareNode r (x .processes) ≡ x
+
+module _ (k : ℕ) (r : Row) (h : k ≤ 512) where
+  through-processes : (c : ℕ) (x : Node) → c < 5 → Through (processesIn k r) (start r) c x → ProcessesOk k c x
+  unfolding start bareNode
+  through-processes c x l g = record { few = omega arith; slots-ok = changed-filled refl (g .cells-ok) }
+
+  processes-through : (x : Node) (g : Peopled k r x) → Through (processesIn k r) (start r) (g .count) x
+  unfolding start bareNode
+  processes-through x g = record { frame = g .bare; cells-ok = filled-changed refl (g .slots .slots-ok) }
+
+  pub reads-processes : Reads (processes k (bareNode r (replicate 4 freeProcess))) processesBits (Peopled k r)
+  unfolding processes processesBits processAt start
+  reads-processes =
+      reads-then (reads-field 3 0 5 22 (omega arith))
+      (λ c l. reads-cells (processesIn k r) (start r) (process k) c (λ p. placeBits (p .at))
+      (filling-processes k r h c (omega (arith, l .below))))
+      (record {
+        keeps = λ c x l g. record { count = c; slots = through-processes c x (l .below) g; bare = g .frame };
+        writes = λ c x l g.
+            ap (λ (m : ℕ). bitsOf 3 m ++ joined m (λ i. placeBits (getD (x .processes) i pastProcess .at)))
+            (count-is k c x (through-processes c x (l .below) g));
+        parts = λ x g.
+            (g .count, record { above = omega arith; below = omega (arith, g .slots .few) }, processes-through x g);
+      })

@@ -1,0 +1,171 @@
+-- A net between the passes of an image (`WrittenPasses.antt`): what stands at each address by then, and which parts of
+-- it later passes leave alone. Assumes nothing.
+use Prim.Native.Nat.{ℕ, _+_, _-_, _<_, _≤_}
+use mathlib.Core.Path.{_≡_, refl, sym, ap, subst, _∙_}
+use mathlib.Core.List.{[], _++_}
+use native.Mathlib.Omega.{arith}
+use lib.ListN.{length, getD, replicate}
+use Rattle.writer.specs.Types.{Node, Net}
+use Rattle.net.specs.Records.{zeroTuple, zeroRow, zeroNode, emptyNet, nodeAt, processAt, withRow}
+use Rattle.writer.specs.ImageOf.{bitsOf, joined, rowBits, processCount, processesBits, tuplesBits}
+use Rattle.writer.specs.ImageOf.{headerBits, rowsBits, allProcessesBits, allTuplesBits}
+use Rattle.net.proofs.Every.{Every, Filled}
+use Rattle.writer.proofs.ReadsWrites.{Ranged, joined-same}
+use Rattle.writer.proofs.ReadsCells.{Through}
+use Rattle.writer.proofs.WrittenPasses.{passOver, rowless, free, vacated, Slots}
+use Rattle.writer.proofs.WrittenPasses.{emptied, RowsPass, ProcessesPass, TuplesPass, CodePass}
+use Rattle.image.proofs.PastRecords.{pastNode}
+use Rattle.writer.proofs.WrittenProcesses.{bareNode, node-is}
+use Rattle.writer.proofs.WrittenRow.{RowOk}
+use Rattle.writer.proofs.WrittenStore.{TuplesOk}
+
+-- ---- what stands at each address: L with the address count and the code length, and zero records past the count
+pub record Staged (L : ℕ → ℕ → Node → Type 0) (s : Net) : Type 0 where
+  pub addresses-ok : Ranged 1 17 (s .addresses)
+  pub length-ok : Ranged 1 513 (s .length)
+  pub nodes-ok : Every (Filled (L (s .addresses) (s .length)) (λ x. zeroNode ≡ x) (s .addresses)) pastNode 16 (s .nodes)
+  pub code-is : emptyNet .code ≡ s .code
+
+-- after each pass
+abbrev pub Blank : ℕ → ℕ → Node → Type 0
+Blank n k x = zeroNode ≡ x
+
+pub record WithRow (n k : ℕ) (x : Node) : Type 0 where
+  pub row-ok : RowOk n (x .row)
+  pub bare : x ≡ bareNode (x .row) free
+
+pub record WithProcesses (n k : ℕ) (x : Node) : Type 0 where
+  pub row-ok : RowOk n (x .row)
+  pub slots-ok : Slots k x
+  pub bare : x ≡ emptied x
+
+pub record NodeOk (n k : ℕ) (x : Node) : Type 0 where
+  pub row-ok : RowOk n (x .row)
+  pub slots-ok : Slots k x
+  pub store-ok : TuplesOk n x
+
+-- a pass takes one stage to the next
+module _ {L M : ℕ → ℕ → Node → Type 0} {Good : Node → Type 0} {undo : Node → Node} (s₀ s : Net) where
+  pub staged-pass :
+      Staged L s₀ → Through (passOver s₀ Good undo) s₀ (s₀ .addresses) s
+      → ((x y : Node) → L (s₀ .addresses) (s₀ .length) y → Good x → undo x ≡ y → M (s₀ .addresses) (s₀ .length) x)
+      → Staged M s
+  staged-pass g t next = record {
+    addresses-ok = subst (Ranged 1 17) (t .frame .addresses-are) (g .addresses-ok);
+    length-ok = subst (Ranged 1 513) (t .frame .length-is) (g .length-ok);
+    nodes-ok =
+        subst (λ (n : ℕ). Every (Filled (M n (s .length)) (λ x. zeroNode ≡ x) n) pastNode 16 (s .nodes))
+        (t .frame .addresses-are)
+        (subst (λ (k : ℕ). Every (Filled (M (s₀ .addresses) k) (λ x. zeroNode ≡ x) (s₀ .addresses)) pastNode 16 (s .nodes))
+        (t .frame .length-is)
+        (record {
+          size-is = t .cells-ok .size-is;
+          holds = λ a h. record {
+            used = λ l.
+                next _ _ (g .nodes-ok .holds a h .used l) (t .cells-ok .holds a h .good l) (t .cells-ok .holds a h .undone l);
+            unused = λ l. g .nodes-ok .holds a h .unused l ∙ t .cells-ok .holds a h .kept l;
+          };
+        }));
+    code-is = g .code-is ∙ t .frame .code-is;
+  }
+
+pub rowed : (s₀ s : Net) → Staged Blank s₀ → RowsPass s₀ s → Staged WithRow s
+unfolding RowsPass withRow zeroNode bareNode
+rowed s₀ s g t =
+    staged-pass s₀ s g t
+    (λ x y b ok u.
+    let e : rowless x ≡ zeroNode = u ∙ sym b in
+    record {
+      row-ok = ok;
+      bare =
+          sym (node-is x (x .row) free 0 (replicate 16 zeroTuple) refl (ap (λ (z : Node). z .processes) (sym e))
+          (ap (λ (z : Node). z .stored) (sym e)) (ap (λ (z : Node). z .tuples) (sym e)));
+    })
+
+pub peopled : (s₀ s : Net) → Staged WithRow s₀ → ProcessesPass s₀ s → Staged WithProcesses s
+unfolding ProcessesPass bareNode
+peopled s₀ s g t =
+    staged-pass s₀ s g t
+    (λ x y b ok u.
+    let e : vacated x ≡ bareNode (y .row) free = u ∙ b .bare in
+    record {
+      row-ok = subst (RowOk (s₀ .addresses)) (ap (λ (z : Node). z .row) (sym u)) (b .row-ok);
+      slots-ok = ok;
+      bare =
+          sym (node-is x (x .row) (x .processes) 0 (replicate 16 zeroTuple) refl refl
+          (ap (λ (z : Node). z .stored) (sym e)) (ap (λ (z : Node). z .tuples) (sym e)));
+    })
+
+-- slots are a matter of the processes alone
+slots-as : (k : ℕ) (x y : Node) → x .processes ≡ y .processes → Slots k x → Slots k y
+slots-as k x y e g = record {
+  count = g .count;
+  slots = record { few = g .slots .few; slots-ok = subst (Every _ _ 4) e (g .slots .slots-ok) };
+}
+
+pub stocked : (s₀ s : Net) → Staged WithProcesses s₀ → TuplesPass s₀ s → Staged NodeOk s
+unfolding TuplesPass bareNode
+stocked s₀ s g t =
+    staged-pass s₀ s g t
+    (λ x y b ok u. record {
+      row-ok = subst (RowOk (s₀ .addresses)) (ap (λ (z : Node). z .row) (sym u)) (b .row-ok);
+      slots-ok = slots-as (s₀ .length) y x (ap (λ (z : Node). z .processes) (sym u)) (b .slots-ok);
+      store-ok = ok;
+    })
+
+-- ---- parts of the nodes that stay
+pub record Keeps {X : Type 0} (part : Node → X) (s b : Net) : Type 0 where
+  pub addresses-are : s .addresses ≡ b .addresses
+  pub length-is : s .length ≡ b .length
+  pub parts-are : (a : ℕ) → a < s .addresses → part (nodeAt b a) ≡ part (nodeAt s a)
+
+module _ {X : Type 0} (part : Node → X) where
+  pub keeps-on : (s t b : Net) → Keeps part s t → Keeps part t b → Keeps part s b
+  keeps-on s t b f g = record {
+    addresses-are = f .addresses-are ∙ g .addresses-are;
+    length-is = f .length-is ∙ g .length-is;
+    parts-are = λ a h. g .parts-are a (omega (arith, f .addresses-are)) ∙ f .parts-are a h;
+  }
+
+  pub pass-keeps : {Good : Node → Type 0} {undo : Node → Node} (s₀ s : Net) → s₀ .addresses ≤ 16
+      → Through (passOver s₀ Good undo) s₀ (s₀ .addresses) s → ((x : Node) → part (undo x) ≡ part x) → Keeps part s₀ s
+  unfolding nodeAt
+  pass-keeps s₀ s l t e = record {
+    addresses-are = t .frame .addresses-are;
+    length-is = t .frame .length-is;
+    parts-are = λ a h. sym (e _) ∙ ap part (t .cells-ok .holds a (omega arith) .undone h);
+  }
+
+  pub code-keeps : (s₀ s : Net) → CodePass s₀ s → Keeps part s₀ s
+  unfolding nodeAt CodePass
+  code-keeps s₀ s t = record {
+    addresses-are = t .frame .addresses-are;
+    length-is = t .frame .length-is;
+    parts-are = λ a h. ap (λ xs. part (getD xs a pastNode)) (sym (t .frame .nodes-are));
+  }
+
+-- what is written of a part that stays
+pub header-same : (s b : Net) → s .addresses ≡ b .addresses → s .length ≡ b .length → headerBits b ≡ headerBits s
+unfolding headerBits
+header-same s b e f =
+    ap (λ (n : ℕ). bitsOf 4 1 ++ (bitsOf 5 n ++ bitsOf 10 (b .length))) (sym e)
+    ∙ ap (λ (k : ℕ). bitsOf 4 1 ++ (bitsOf 5 (s .addresses) ++ bitsOf 10 k)) (sym f)
+
+pub rows-same : (s b : Net) → Keeps (λ x. x .row) s b → rowsBits b ≡ rowsBits s
+unfolding rowsBits
+rows-same s b g =
+    ap (λ (n : ℕ). joined n (λ a. rowBits n (nodeAt b a .row))) (sym (g .addresses-are))
+    ∙ joined-same (s .addresses) _ _ (λ a h. ap (rowBits (s .addresses)) (g .parts-are a h))
+
+pub processes-same : (s b : Net) → Keeps (λ x. x .processes) s b → allProcessesBits b ≡ allProcessesBits s
+unfolding allProcessesBits processesBits processCount processAt
+processes-same s b g =
+    ap (λ (n : ℕ). joined n (λ a. processesBits (nodeAt b a))) (sym (g .addresses-are))
+    ∙ joined-same (s .addresses) _ _ (λ a h.
+    ap (λ ps. processesBits (record { row = zeroRow; processes = ps; stored = 0; tuples = [] })) (g .parts-are a h))
+
+pub tuples-same : (s b : Net) → Keeps (λ x. x) s b → allTuplesBits b ≡ allTuplesBits s
+unfolding allTuplesBits
+tuples-same s b g =
+    ap (λ (n : ℕ). joined n (λ a. tuplesBits (nodeAt b a))) (sym (g .addresses-are))
+    ∙ joined-same (s .addresses) _ _ (λ a h. ap tuplesBits (g .parts-are a h))

@@ -1,0 +1,133 @@
+-- The tuples of a node (`specs/Image.antt`, `specs/ImageOf.antt`, 4): what is read is what is written.
+-- Assumes nothing.
+use Prim.Native.Nat.{ℕ, suc, _+_, _-_, _<_, _≤_}
+use mathlib.Core.Path.{_≡_, refl, sym, ap, subst, _∙_}
+use mathlib.Core.List.{List, _++_}
+use native.Mathlib.Omega.{arith}
+use lib.ListN.{getD, set, replicate, length-replicate, getD-replicate}
+use lib.Seq.{set-getD, set-set}
+use borrow.Author.Tests.{lt-ltb}
+use Rattle.writer.specs.Types.{Tuple, Row, Process, Node}
+use Rattle.net.specs.Records.{zeroTuple, tupleAt}
+use Rattle.net.specs.Records.{withTuple}
+use Rattle.image.specs.Image.{row, processes, stored, tuples}
+use Rattle.writer.specs.ImageOf.{bitsOf, joined}
+use Rattle.writer.specs.ImageOf.{tupleBits, tuplesBits}
+use Rattle.net.proofs.Laws.{choose-true}
+use Rattle.net.proofs.Every.{Every, Filled}
+use Rattle.net.proofs.Past.{pastTuple}
+use Rattle.writer.proofs.ReadsWrites.{Reads, reads-then, reads-field}
+use Rattle.writer.proofs.ReadsCells.{Arrayed, Through, Filling, reads-turn, reads-cells}
+use Rattle.writer.proofs.ReadsCells.{changed-filled, filled-changed}
+use Rattle.writer.proofs.WrittenTuples.{TupleOk, reads-tuple}
+use Rattle.writer.proofs.WrittenProcesses.{bareNode, node-is}
+
+pub record TuplesOk (n : ℕ) (x : Node) : Type 0 where
+  pub few : x .stored ≤ 16
+  pub tuples-ok : Every (Filled (TupleOk n) (λ t. zeroTuple ≡ t) (x .stored)) pastTuple 16 (x .tuples)
+
+put-tuple : (x : Node) (t : Tuple) → x .stored < 16
+    → withTuple x t
+    ≡ record { row = x .row; processes = x .processes; stored = x .stored + 1; tuples = set (x .tuples) (x .stored) t }
+unfolding withTuple
+put-tuple x t h = choose-true _ _ _ (lt-ltb (x .stored) 16 h)
+
+-- a node with i tuples, the last one put anew
+cutTuple : ℕ → Node → Tuple → Node
+cutTuple i x t = record { row = x .row; processes = x .processes; stored = i; tuples = set (x .tuples) i t }
+
+record Storing (r : Row) (ps : List Process) (i : ℕ) (x : Node) : Type 0 where
+  row-is : r ≡ x .row
+  processes-are : ps ≡ x .processes
+  stored-is : i ≡ x .stored
+
+abbrev storesIn : ℕ → Row → List Process → Arrayed Node Tuple
+storesIn n r ps = record {
+  cells = λ x. x .tuples;
+  put = λ i x t. withTuple x t;
+  cut = cutTuple;
+  past = pastTuple;
+  Good = TupleOk n;
+  undo = λ t. zeroTuple;
+  Frame = Storing r ps;
+  Extra = λ i x t. Unit {0};
+  size = 16;
+}
+
+tuples-put : (x : Node) (i : ℕ) (t : Tuple) → i < 16 → i ≡ x .stored → withTuple x t .tuples ≡ set (x .tuples) i t
+tuples-put x i t l e =
+    ap (λ (y : Node). y .tuples) (put-tuple x t (omega arith)) ∙ ap (λ (k : ℕ). set (x .tuples) k t) (sym e)
+
+tuples-cut : (x : Node) (i : ℕ) (t : Tuple) → i < 16 → suc i ≡ x .stored
+    → withTuple (cutTuple i x t) (getD (x .tuples) i pastTuple) ≡ x
+unfolding cutTuple
+tuples-cut x i t l e =
+    let c : i + 1 ≡ x .stored = omega arith in
+    let y : List Tuple = x .tuples in
+    put-tuple (cutTuple i x t) (getD y i pastTuple) l
+    ∙ ap (λ (k : ℕ).
+    record { row = x .row; processes = x .processes; stored = k; tuples = set (set y i t) i (getD y i pastTuple) }) c
+    ∙ ap (λ z. record { row = x .row; processes = x .processes; stored = x .stored; tuples = z })
+    (set-set y i t (getD y i pastTuple) ∙ set-getD y i pastTuple)
+
+-- a node without tuples becomes one with tuples
+pub record Stocked (n : ℕ) (r : Row) (ps : List Process) (x : Node) : Type 0 where
+  pub store : TuplesOk n x
+  pub same-row : r ≡ x .row
+  pub same-processes : ps ≡ x .processes
+
+module _ (n : ℕ) (r : Row) (ps : List Process) (h : n ≤ 16) where
+  filling-tuples : (c : ℕ) → c ≤ 16 → Filling (storesIn n r ps) (bareNode r ps) (stored n) c tupleBits
+  unfolding stored bareNode cutTuple
+  filling-tuples c l = record {
+    room = l;
+    size-is = length-replicate 16 zeroTuple;
+    begins = record { row-is = refl; processes-are = refl; stored-is = refl };
+    starts = λ x e d. node-is x r ps 0 (replicate 16 zeroTuple) (e .row-is) (e .processes-are) (e .stored-is) d;
+    turn = λ i m x e b s.
+        reads-turn (storesIn n r ps) (bareNode r ps) i x tupleBits (λ t. t) (omega arith)
+        (λ t. tuples-put x i t (omega arith) (e .stored-is)) (reads-tuple n h)
+        (λ t g. (g, sym (getD-replicate 16 i zeroTuple pastTuple (omega arith)), tt)) (λ t g. refl)
+        (λ t g _ _. (t, g, refl));
+    put-cells = λ i m x t e. tuples-put x i t (omega arith) (e .stored-is);
+    put-frame = λ i m x t e s _.
+        let d = e .stored-is in
+        subst (Storing r ps (suc i)) (sym (put-tuple x t (omega arith)))
+        (record { row-is = e .row-is; processes-are = e .processes-are; stored-is = omega arith });
+    cut-cells = λ i m x t. refl;
+    cut-frame = λ i m x t e. record { row-is = e .row-is; processes-are = e .processes-are; stored-is = refl };
+    cut-extra = λ i m x t e. tt;
+    put-cut = λ i m x t e. tuples-cut x i t (omega arith) (e .stored-is);
+  }
+
+  through-tuples : (c : ℕ) (x : Node) → c < 17 → Through (storesIn n r ps) (bareNode r ps) c x → Stocked n r ps x
+  unfolding bareNode
+  through-tuples c x l g =
+      let e = g .frame .stored-is in
+      record {
+        store = record { few = omega arith; tuples-ok = changed-filled (sym e) (g .cells-ok) };
+        same-row = g .frame .row-is;
+        same-processes = g .frame .processes-are;
+      }
+
+  tuples-through : (x : Node) → Stocked n r ps x → Through (storesIn n r ps) (bareNode r ps) (x .stored) x
+  unfolding bareNode
+  tuples-through x g = record {
+    frame = record { row-is = g .same-row; processes-are = g .same-processes; stored-is = refl };
+    cells-ok = filled-changed refl (g .store .tuples-ok);
+  }
+
+  pub reads-tuples : Reads (tuples n (bareNode r ps)) tuplesBits (Stocked n r ps)
+  unfolding tuples tuplesBits tupleAt
+  reads-tuples =
+      reads-then (reads-field 5 0 17 22 (omega arith))
+      (λ c l. reads-cells (storesIn n r ps) (bareNode r ps) (stored n) c tupleBits
+      (filling-tuples c (omega (arith, l .below))))
+      (record {
+        keeps = λ c x l g. through-tuples c x (l .below) g;
+        writes = λ c x l g.
+            ap (λ (m : ℕ). bitsOf 5 m ++ joined m (λ i. tupleBits (getD (x .tuples) i pastTuple)))
+            (sym (g .frame .stored-is));
+        parts = λ x g.
+            (x .stored, record { above = omega arith; below = omega (arith, g .store .few) }, tuples-through x g);
+      })

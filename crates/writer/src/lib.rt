@@ -1,0 +1,1 @@
+// The image writer: a net as the bytes that an image has for it.
