@@ -1,0 +1,129 @@
+// Works through the edges of document 01 and prints what the machine answers. edges.bin holds for each edge
+// its name, an image and picks, each after its length in two bytes, lower first; creation.bin the image of the
+// one edge that no image shows. What is printed is compared with what the Rust model gives.
+use files::print_first;
+use files::read_file;
+use image::reader::read_image;
+use libc::STDOUT_FILENO;
+use net::network::Net;
+use run::register::Registered;
+use run::register::register;
+use step::answer::Answer;
+use step::step::Host;
+ghost use Prim.Native.Nat.{_≤_};
+
+// The number that two bytes write, lower first.
+fn number_of(low: u8, high: u8) -> usize
+    ensures { λ r. ⌜ r ≤ 65535 ⌝ }
+{
+    let units = low as usize;
+    let rest = high as usize;
+    units + rest * 256
+}
+
+// The length that the two bytes at a place write; 0 past the end.
+fn length_at(edges: &[u8], at: usize) -> usize
+    ensures { λ r. ⌜ r ≤ 65535 ⌝ }
+{
+    if at < edges.len() {
+        if at + 1 < edges.len() {
+            return number_of(edges[at], edges[at + 1]);
+        }
+    }
+    0
+}
+
+// The part that starts at a place; an empty one where there is none.
+fn part_at(edges: &[u8], at: usize) -> &[u8] {
+    let n = length_at(edges, at);
+    if at < edges.len() {
+        let left = edges.len() - at;
+        if n + 2 <= left {
+            let from = at + 2;
+            return &edges[from..from + n];
+        }
+    }
+    &edges[..0]
+}
+
+// The place after it.
+fn after(edges: &[u8], at: usize) -> usize {
+    let n = length_at(edges, at);
+    if at < edges.len() {
+        let left = edges.len() - at;
+        if n + 2 <= left {
+            return at + 2 + n;
+        }
+    }
+    edges.len()
+}
+
+// Prints the register of an image and its picks.
+fn print_register(image: &[u8], picks: &[u8]) {
+    let mut out = [0u8; 65536];
+    let written = register(image, picks, &mut out);
+    match written {
+        Registered::Written(n) => print_first(&out, n),
+        Registered::NoRoom => print_first(&out, 0),
+    }
+}
+
+// Prints the edge that starts at a place, and gives the place after it.
+fn print_edge(edges: &[u8], at: usize) -> usize {
+    io::write_all(STDOUT_FILENO, b"edge ");
+    io::write_all(STDOUT_FILENO, part_at(edges, at));
+    io::write_all(STDOUT_FILENO, b"\n");
+    let image = after(edges, at);
+    let picks = after(edges, image);
+    print_register(part_at(edges, image), part_at(edges, picks));
+    after(edges, picks)
+}
+
+// Prints each edge. No list has so many that the turns run out.
+fn print_edges(edges: &[u8]) {
+    let mut at = 0;
+    let mut turns = 1000usize;
+    while turns > 0 && at < edges.len() {
+        at = print_edge(edges, at);
+        turns -= 1;
+    }
+}
+
+// The net without the right to create at address 0, which no pick takes away.
+fn without_creation(start: Net) -> Net {
+    let mut net = start;
+    let mut node = net.nodes[0];
+    let mut row = node.row;
+    row.create = false;
+    node.row = row;
+    net.nodes[0] = node;
+    net
+}
+
+// Prints what a pick of address 0, slot 0 is answered in a net that no image gives.
+fn print_barred(image: &[u8]) {
+    let opened = read_image(image);
+    let net = without_creation(opened.net);
+    let host = Host { net };
+    let picked = host.pick(0);
+    let answer = picked.answer;
+    match answer {
+        Answer::NoRight => io::write_all(STDOUT_FILENO, b"pick 1 0 0 4\n"),
+        Answer::NoRoom => io::write_all(STDOUT_FILENO, b"pick 1 0 0 3\n"),
+        _ => io::write_all(STDOUT_FILENO, b"pick 1 0 0 other\n"),
+    }
+    ;
+}
+
+fn main() {
+    let mut edges = [0u8; 65536];
+    let n = read_file(b"edges.bin", &mut edges);
+    print_edges(&edges[..n]);
+    let mut image = [0u8; 14750];
+    let k = read_file(b"creation.bin", &mut image);
+    io::write_all(
+        STDOUT_FILENO,
+        b"edge creation at 16 addresses, n withdrawn\n",
+    );
+    print_barred(&image[..k]);
+}

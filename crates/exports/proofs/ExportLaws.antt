@@ -1,0 +1,14 @@
+-- Laws by which the exported calls meet their contracts. Assumes nothing.
+use Prim.Native.Nat.{ℕ}
+use mathlib.Core.Path.{_≡_, sym, ap, _∙_}
+use Rattle.run.specs.declared.run.Finished.{Finished}
+use Rattle.run.specs.declared.register.Registered.{Registered}
+use Rattle.run.specs.Calls.{finishNumber, registeredLength}
+
+pub number-as : (d e : Finished) (r : ℕ) → d ≡ e → r ≡ finishNumber (d .finish) → r ≡ finishNumber (e .finish)
+number-as d e r p q = q ∙ ap (λ (z : Finished). finishNumber (z .finish)) p
+
+-- what an arm knows of a register
+pub length-as :
+    (w v t : Registered) (r : ℕ) → w ≡ t → w ≡ v → r ≡ registeredLength v → r ≡ registeredLength t
+length-as w v t r p e q = q ∙ ap registeredLength (sym e ∙ p)

@@ -1,0 +1,46 @@
+// The two public calls of `run` for programs in other languages, as the benchmark: numbers and byte slices alone.
+use run::register::Registered;
+use run::register::register;
+use run::run::Finish;
+use run::run::run;
+ghost use mathlib.Core.Path.{_≡_};
+ghost use lib.ListN.{length};
+ghost use Rattle.run.specs.Buffer.{over};
+ghost use Rattle.run.specs.Calls.{finishedOf, finishNumber, answersIn, registeredOf, registeredLength};
+ghost use Rattle.run.specs.Register.{registerOf};
+ghost use Rattle.run.specs.Run.{runOf};
+
+// The paper's number of how a run ended.
+fn number_of(finish: Finish) -> u8
+    ensures { λ r. ⌜ r ≡ finishNumber finish ⌝ }
+{
+    match finish {
+        Finish::Complete => 0,
+        Finish::Refused(fault) => fault.number,
+        Finish::NoRoom => 35,
+    }
+}
+
+// Makes a run, leaves its answers in the buffer and gives 0, or the number of what kept it from being made.
+#[no_mangle]
+pub extern "C" fn cavindorum_run(image: &[u8], picks: &[u8], answers: &mut [u8]) -> u8
+    ensures { λ r. ⌜ r ≡ finishNumber (finishedOf (runOf (now (image .entry)) (now (picks .entry))) (length (now (answers .entry))) .finish) ⌝ }
+    ensures { λ _. ⌜ now (answers .exit) ≡ answersIn (runOf (now (image .entry)) (now (picks .entry))) (now (answers .entry)) ⌝ }
+{
+    let done = run(image, picks, answers);
+    let finish = done.finish;
+    number_of(finish)
+}
+
+// Writes a register and gives its length, or 0 where the buffer is too short for it.
+#[no_mangle]
+pub extern "C" fn cavindorum_register(image: &[u8], picks: &[u8], out: &mut [u8]) -> usize
+    ensures { λ r. ⌜ r ≡ registeredLength (registeredOf (registerOf (now (image .entry)) (now (picks .entry))) (length (now (out .entry)))) ⌝ }
+    ensures { λ _. ⌜ now (out .exit) ≡ over (now (out .entry)) 0 (registerOf (now (image .entry)) (now (picks .entry))) ⌝ }
+{
+    let written = register(image, picks, out);
+    match written {
+        Registered::Written(n) => n,
+        Registered::NoRoom => 0,
+    }
+}

@@ -1,0 +1,37 @@
+// The program of document 01, "The register": reads net.bin and picks.bin and prints the register.
+// A missing file counts as empty. Of net.bin the first 14,750 bytes decide everything (proved:
+// `FirstBytesDecide`), and of picks.bin the first 65,536 picks count.
+use files::print_first;
+use files::read_file;
+use libc::STDERR_FILENO;
+use run::register::Registered;
+use run::register::register;
+ghost use mathlib.Core.Path.{_≡_};
+ghost use lib.ListN.{length};
+
+// Room for every register.
+fn room() -> [u8; 1260000]
+    ensures { λ r. ⌜ 1260000 ≡ length r ⌝ }
+{
+    [0; 1260000]
+}
+
+// Prints the register, made in the lent buffer.
+fn print_register(image: &[u8], picks: &[u8], out: &mut [u8]) {
+    let written = register(image, picks, out);
+    match written {
+        Registered::Written(n) => print_first(out, n),
+        Registered::NoRoom => {
+            io::write_all(STDERR_FILENO, b"register: no room\n");
+        }
+    }
+}
+
+fn main() {
+    let mut image = [0u8; 14750];
+    let mut picks = [0u8; 65536];
+    let n = read_file(b"net.bin", &mut image);
+    let k = read_file(b"picks.bin", &mut picks);
+    let mut out = room();
+    print_register(&image[..n], &picks[..k], &mut out);
+}
