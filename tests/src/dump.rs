@@ -2,9 +2,8 @@
 //! in crates/dump/src/lib.rt), and what `inspect` makes of images.
 
 use crate::net::*;
+use crate::program::start;
 use std::io::{Read, Write};
-use std::path::PathBuf;
-use std::process::{Child, Command, Stdio};
 
 /// The bytes of a dumped net.
 pub const DUMP_BYTES: usize = 23_267;
@@ -136,14 +135,6 @@ pub fn record_at(byte: usize) -> String {
     }
 }
 
-/// Where a program of the repository lies: in the directory that
-/// CAVINDORUM_BIN names, or where `rt check` links it.
-pub fn program(name: &str) -> PathBuf {
-    let linked = concat!(env!("CARGO_MANIFEST_DIR"), "/../target/bin");
-    let directory = std::env::var_os("CAVINDORUM_BIN").unwrap_or_else(|| linked.into());
-    PathBuf::from(directory).join(name)
-}
-
 /// What the program `inspect` makes of each of these images. A missing
 /// program, or one that writes too little or too much, is a failure.
 pub fn inspect(images: &[Vec<u8>]) -> Vec<Opened> {
@@ -164,19 +155,6 @@ pub fn inspect(images: &[Vec<u8>]) -> Vec<Opened> {
     let status = child.wait().expect("inspect ends");
     assert!(status.success(), "inspect: {status}");
     opened
-}
-
-/// Starts a program of the repository with its input and output as pipes.
-pub fn start(name: &str) -> Child {
-    let path = program(name);
-    let started = Command::new(&path)
-        .stdin(Stdio::piped())
-        .stdout(Stdio::piped())
-        .spawn();
-    started.unwrap_or_else(|error| {
-        let path = path.display();
-        panic!("{path}: {error}; `rt check {name}` makes it")
-    })
 }
 
 // An image as the program takes it: its length, then its bytes.

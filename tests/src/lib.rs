@@ -2,13 +2,18 @@
 //! written from document 01 alone. Other programs are compared with it.
 
 pub mod bits;
+pub mod by_hand;
 pub mod dump;
+pub mod edges;
+pub mod examples;
 pub mod generate;
 pub mod image;
 pub mod matching;
 pub mod net;
+pub mod program;
 pub mod random;
 pub mod register;
 pub mod replay;
 pub mod sound;
 pub mod step;
+pub mod stored;

@@ -127,16 +127,9 @@ pub fn bind(template: &Template, tuple: &Tuple, variables: &mut [Value; VARIABLE
 #[cfg(test)]
 mod tests {
     use super::*;
+    use crate::by_hand::{address, reading};
 
     const HOST: Locality = Locality(3);
-
-    fn reading(reading: i32) -> Field {
-        Field::Reading(reading)
-    }
-
-    fn address(address: u8) -> Field {
-        Field::Address(Locality(address))
-    }
 
     fn template(fields: &[TemplateField], variables: &[Value; VARIABLES]) -> Option<Template> {
         let next = Place(0);

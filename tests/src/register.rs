@@ -27,6 +27,15 @@ pub fn register(image: &[u8], picks: &[u8]) -> String {
     text
 }
 
+/// The answers to the picks, as a register shows them.
+pub fn answers_in(register: &str) -> Vec<u8> {
+    let lines = register.lines().filter(|line| line.starts_with("pick "));
+    let answers = lines.filter_map(|line| line.rsplit(' ').next());
+    answers
+        .map(|answer| answer.parse().expect("an answer is a number"))
+        .collect()
+}
+
 fn write_pick(text: &mut String, number: usize, pick: u8, answer: u8) {
     let address = pick_address(pick).0;
     let slot = pick_slot(pick);
@@ -65,52 +74,41 @@ fn line(text: &mut String, content: std::fmt::Arguments) {
 #[cfg(test)]
 mod tests {
     use super::*;
+    use crate::by_hand::*;
     use crate::image::write_image;
-
-    const EXAMPLE: [u8; 12] = [
-        0x10, 0x80, 0x42, 0x20, 0x00, 0x14, 0x00, 0x00, 0x00, 0x00, 0xA0, 0x10,
-    ];
 
     #[test]
     fn the_paper_s_run() {
         let expected = "net 1 2\npick 1 0 0 0\npick 2 0 0 1\npick 3 0 0 7\nnode 0 1 0\ntuple 0 5\n";
-        assert_eq!(register(&EXAMPLE, &[0, 0, 0]), expected);
+        assert_eq!(register(&PAPER_IMAGE, &[0, 0, 0]), expected);
     }
 
     #[test]
     fn no_picks() {
-        assert_eq!(register(&EXAMPLE, &[]), "net 1 2\nnode 0 0 1\n");
+        assert_eq!(register(&PAPER_IMAGE, &[]), "net 1 2\nnode 0 0 1\n");
     }
 
     #[test]
     fn a_refused_image_prints_its_number_only() {
         assert_eq!(register(&[], &[0, 0]), "refused 28\n");
-        let mut barred = EXAMPLE;
+        let mut barred = PAPER_IMAGE;
         barred[2] = 0x40;
         assert_eq!(register(&barred, &[0]), "refused 30\n");
     }
 
     #[test]
     fn address_and_slot_are_printed_at_every_answer() {
-        let text = register(&EXAMPLE, &[0xF5, 0xF4, 0x0C]);
+        let text = register(&PAPER_IMAGE, &[0xF5, 0xF4, 0x0C]);
+        assert_eq!(answers_in(&text), [9, 8, 7]);
         let expected = "net 1 2\npick 1 15 1 9\npick 2 15 1 8\npick 3 0 3 7\nnode 0 0 1\n";
         assert_eq!(text, expected);
     }
 
     #[test]
     fn fields_of_both_sorts() {
-        let mut net = Net::empty();
-        net.address_count = 2;
-        net.code_length = 1;
-        let fields = [
-            Field::Reading(-1),
-            Field::Address(Locality(1)),
-            Field::Reading(i32::MIN),
-            Field::Address(Locality(0)),
-        ];
-        net.nodes[1].tuples[0] = Tuple::of(&fields);
-        net.nodes[1].tuples[1] = Tuple::of(&fields[..1]);
-        net.nodes[1].tuple_count = 2;
+        let mut net = stops(2, 1);
+        let fields = [reading(-1), address(1), reading(i32::MIN), address(0)];
+        fill(&mut net, 1, &[Tuple::of(&fields), Tuple::of(&fields[..1])]);
         let expected =
             "net 2 1\nnode 0 0 0\nnode 1 2 0\ntuple 1 -1 @1 -2147483648 @0\ntuple 1 -1\n";
         assert_eq!(register(&write_image(&net), &[]), expected);
@@ -118,24 +116,17 @@ mod tests {
 
     #[test]
     fn the_net_line_has_the_image_s_count() {
-        let mut net = Net::empty();
-        net.address_count = 1;
-        net.code_length = 1;
+        let mut net = net(1, &[new(0, 0)]);
         net.nodes[0].row.create = true;
-        net.nodes[0].processes[0] = Process::starting(Place(0));
-        net.code[0] = Instruction::plain(Action::New {
-            variable: 0,
-            next: Place(0),
-        });
-        let expected = "net 1 1\npick 1 0 0 0\nnode 0 0 1\nnode 1 0 0\n";
+        let expected = "net 1 2\npick 1 0 0 0\nnode 0 0 1\nnode 1 0 0\n";
         assert_eq!(register(&write_image(&net), &[0]), expected);
     }
 
     #[test]
     fn picks_past_the_limit_are_left_off() {
         let picks = vec![0xFF; MOST_PICKS + 5];
-        let text = register(&EXAMPLE, &picks);
-        assert_eq!(text, register(&EXAMPLE, &picks[..MOST_PICKS]));
+        let text = register(&PAPER_IMAGE, &picks);
+        assert_eq!(text, register(&PAPER_IMAGE, &picks[..MOST_PICKS]));
         assert!(text.contains("pick 65536 15 3 9\nnode 0 0 1\n"));
     }
 }

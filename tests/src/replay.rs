@@ -1,7 +1,8 @@
 //! Picks made by the program `replay`, each compared with the model's.
 
-use crate::dump::{dump, dump_state, record_at, start, DUMP_BYTES};
+use crate::dump::{dump, dump_state, record_at, DUMP_BYTES};
 use crate::net::Net;
+use crate::program::start;
 use crate::step::pick;
 use std::io::{BufReader, Read, Write};
 

@@ -2,16 +2,12 @@
 //! that concern images, and random images. Each image is compared in its
 //! answer and in the whole net.
 
+use cavindorum_tests::by_hand::*;
 use cavindorum_tests::dump::{dump, inspect, record_at, Opened};
 use cavindorum_tests::generate::{damaged_image, valid_image};
 use cavindorum_tests::image::{read_image, write_image};
 use cavindorum_tests::net::*;
 use cavindorum_tests::random::Random;
-
-const ONE_STOP: [u8; 5] = [0x10, 0x80, 0x20, 0x00, 0x00];
-const REGISTER: [u8; 12] = [
-    0x10, 0x80, 0x42, 0x20, 0x00, 0x14, 0x00, 0x00, 0x00, 0x00, 0xA0, 0x10,
-];
 
 // Comparing.
 
@@ -51,70 +47,6 @@ fn assert_accepted(image: &[u8], net: &Net) {
     assert_eq!(opened.dump, dump(net));
 }
 
-// Images.
-
-/// Bytes of a text of 0 and 1, filled up with zero bits.
-fn bits(text: &str) -> Vec<u8> {
-    let digits: Vec<u8> = text.bytes().filter(|byte| *byte != b' ').collect();
-    let byte = |part: &[u8]| {
-        let value = part
-            .iter()
-            .fold(0, |value, digit| value << 1 | (digit - b'0'));
-        value << (8 - part.len())
-    };
-    digits.chunks(8).map(byte).collect()
-}
-
-/// One address with all rights, no process, no tuple, and two
-/// instructions that these bits write.
-fn with_code(code: &str) -> Vec<u8> {
-    bits(&format!("0001 00001 0000000010 1 1111 000 00000 {code}"))
-}
-
-/// One address without rights, no process, one stop, and the one tuple
-/// that these bits write.
-fn with_tuple(tuple: &str) -> Vec<u8> {
-    bits(&format!(
-        "0001 00001 0000000001 0 0000 000 00001 {tuple} 000"
-    ))
-}
-
-/// Stops only, at addresses without rights.
-fn stops(addresses: u8, length: u16) -> Net {
-    let mut net = Net::empty();
-    net.address_count = addresses;
-    net.code_length = length;
-    net
-}
-
-/// The net with the longest image: everything full, and outs and ins of
-/// four readings at written addresses.
-fn longest() -> Net {
-    let mut random = Random::new(14_749);
-    let mut reading = move || random.number() as i32;
-    let mut net = stops(16, 512);
-    for node in net.nodes.iter_mut() {
-        node.row.create = true;
-        node.row.rights = [Rights::ALL; ADDRESSES];
-        node.processes = [0, 100, 300, 511].map(|at| Process::starting(Place(at)));
-        node.tuple_count = 16;
-        for tuple in node.tuples.iter_mut() {
-            *tuple = Tuple::of(&[0; 4].map(|_| Field::Reading(reading())));
-        }
-    }
-    for at in 0..512u16 {
-        let fields = [0; 4].map(|_| TemplateField::Reading(reading()));
-        let target = Target::Written(Locality((at % 16) as u8));
-        let next = Place((at + 1) % 512);
-        let action = match at % 2 {
-            0 => Action::Out { target, next },
-            _ => Action::In { target, next },
-        };
-        net.code[at as usize] = Instruction::with(action, &fields);
-    }
-    net
-}
-
 // The edges.
 
 #[test]
@@ -129,11 +61,8 @@ fn one_stop_is_accepted() {
 
 #[test]
 fn more_after_the_code_is_29() {
-    let images: Vec<Vec<u8>> = (1..32)
-        .map(|last| vec![0x10, 0x80, 0x20, 0x00, last])
-        .chain((0..=255).map(|sixth| vec![0x10, 0x80, 0x20, 0x00, 0x00, sixth]))
-        .collect();
-    assert!(numbers(&images).iter().all(|number| *number == 29));
+    let found = numbers(&more_than_one_stop());
+    assert!(found.iter().all(|number| *number == 29));
 }
 
 #[test]
@@ -175,16 +104,8 @@ fn the_longest_image_has_14_749_bytes() {
 
 #[test]
 fn the_register_s_image() {
-    let mut net = stops(1, 2);
-    net.nodes[0].row.rights[0].put = true;
-    net.nodes[0].processes[0] = Process::starting(Place(0));
-    let out = Action::Out {
-        target: Target::Own,
-        next: Place(1),
-    };
-    net.code[0] = Instruction::with(out, &[TemplateField::Reading(5)]);
-    assert_accepted(&REGISTER, &net);
-    let mut barred = REGISTER;
+    assert_accepted(&PAPER_IMAGE, &paper_net());
+    let mut barred = PAPER_IMAGE;
     barred[2] = 0x40;
     assert_eq!(number(&barred), 30);
 }
@@ -200,16 +121,13 @@ fn readings_are_twos_complement() {
     ];
     for (text, reading) in ends {
         let mut net = stops(1, 1);
-        net.nodes[0].tuple_count = 1;
-        net.nodes[0].tuples[0] = Tuple::of(&[Field::Reading(reading)]);
-        assert_accepted(&with_tuple(&format!("00 0 {text}")), &net);
+        fill(&mut net, 0, &[readings(&[reading])]);
+        assert_accepted(&with_tuple(&format!("00 0 {text} 000")), &net);
         let code = with_code(&format!("001 01 00 000 {text} 000000000 000"));
         let mut net = stops(1, 2);
         net.nodes[0].row.create = true;
         net.nodes[0].row.rights[0] = Rights::ALL;
-        let (target, next) = (Target::Own, Place(0));
-        let out = Action::Out { target, next };
-        net.code[0] = Instruction::with(out, &[TemplateField::Reading(reading)]);
+        net.code[0] = out(OWN, &[TemplateField::Reading(reading)], 0);
         assert_accepted(&code, &net);
     }
 }
@@ -222,7 +140,7 @@ fn every_number() {
         (bits("0000"), 21),
         (bits("0001 00001 0000000001 0 0000 101"), 22),
         (bits("0001 00001 0000000001 0 0000 000 10001"), 22),
-        (with_tuple("00 1 0001"), 23),
+        (with_tuple("00 1 0001 000"), 23),
         (with_code("001 00 0001 00 010 000000000 000"), 23),
         (with_code("001 01 00 001 0001 000000000 000"), 23),
         (
@@ -295,10 +213,10 @@ fn reaching() {
 #[test]
 fn the_register_s_image_with_any_one_byte() {
     let mut images = Vec::new();
-    for at in 0..REGISTER.len() {
-        images.push(REGISTER[..at].to_vec());
+    for at in 0..PAPER_IMAGE.len() {
+        images.push(PAPER_IMAGE[..at].to_vec());
         for byte in 0..=255 {
-            let mut image = REGISTER.to_vec();
+            let mut image = PAPER_IMAGE.to_vec();
             image[at] = byte;
             images.push(image);
         }

@@ -2,19 +2,16 @@
 //! picks, and random picks. Each pick is compared in its answer and in the
 //! net after it.
 
+use cavindorum_tests::by_hand::{
+    self, eval, fill, fork, grant, new, one_address, out, read, readings, take, NONE, OWN, PUT,
+    READ, SEND, TAKE,
+};
 use cavindorum_tests::generate::{net_after_picks, pick_byte, picks, random_net, sound_net};
 use cavindorum_tests::net::*;
 use cavindorum_tests::random::Random;
 use cavindorum_tests::replay::{replay, Made, Run};
 use cavindorum_tests::sound::sound;
 
-const NONE: Rights = Rights::NONE;
-const TAKE: Rights = Rights { take: true, ..NONE };
-const READ: Rights = Rights { read: true, ..NONE };
-const PUT: Rights = Rights { put: true, ..NONE };
-const SEND: Rights = Rights { send: true, ..NONE };
-
-const OWN: Target = Target::Own;
 const FAR: Target = Target::Written(Locality(1));
 const HELD: Target = Target::Variable(0);
 
@@ -22,61 +19,11 @@ const FORMAL: TemplateField = TemplateField::FormalReading(0);
 
 // Nets by hand.
 
-fn out(target: Target, fields: &[TemplateField], next: u16) -> Instruction {
-    let next = Place(next);
-    Instruction::with(Action::Out { target, next }, fields)
-}
-
-fn take(target: Target, fields: &[TemplateField], next: u16) -> Instruction {
-    let next = Place(next);
-    Instruction::with(Action::In { target, next }, fields)
-}
-
-fn read(target: Target, fields: &[TemplateField], next: u16) -> Instruction {
-    let next = Place(next);
-    Instruction::with(Action::Read { target, next }, fields)
-}
-
-fn eval(target: Target, sent: u16, next: u16) -> Instruction {
-    let (sent, next) = (Place(sent), Place(next));
-    Instruction::plain(Action::Eval { target, sent, next })
-}
-
-fn new(variable: u8, next: u16) -> Instruction {
-    let next = Place(next);
-    Instruction::plain(Action::New { variable, next })
-}
-
-fn fork(first: u16, second: u16) -> Instruction {
-    let (first, second) = (Place(first), Place(second));
-    Instruction::plain(Action::Fork { first, second })
-}
-
-fn readings(readings: &[i32]) -> Tuple {
-    let fields: Vec<Field> = readings.iter().map(|x| Field::Reading(*x)).collect();
-    Tuple::of(&fields)
-}
-
-fn address(address: u8) -> Tuple {
-    Tuple::of(&[Field::Address(Locality(address))])
-}
-
-/// This code and one more stop after it; a process at place 0 of address 0
-/// in slot 0, whose row has these rights over its own address.
+/// A net by hand whose address 0 has these rights over itself.
 fn net(addresses: u8, rights: Rights, code: &[Instruction]) -> Net {
-    let mut net = Net::empty();
-    net.address_count = addresses;
-    net.code_length = code.len() as u16 + 1;
-    net.code[..code.len()].copy_from_slice(code);
-    net.nodes[0].row.rights[0] = rights;
-    net.nodes[0].processes[0] = Process::starting(Place(0));
+    let mut net = by_hand::net(addresses, code);
+    grant(&mut net, 0, 0, rights);
     net
-}
-
-fn fill(net: &mut Net, at: usize, tuples: &[Tuple]) {
-    net.nodes[at].tuple_count = tuples.len() as u8;
-    net.nodes[at].tuples = Node::ZERO.tuples;
-    net.nodes[at].tuples[..tuples.len()].copy_from_slice(tuples);
 }
 
 /// Sets a variable of the process.
@@ -113,7 +60,7 @@ fn performed(net: &Net) -> Net {
 fn in_at_self_without_a_tuple_is_2() {
     let mut net = net(1, TAKE, &[take(OWN, &[FORMAL], 1)]);
     assert_eq!(unchanged(&net), 2);
-    fill(&mut net, 0, &[address(0)]);
+    fill(&mut net, 0, &[one_address(0)]);
     assert_eq!(unchanged(&net), 2);
 }
 
@@ -123,7 +70,7 @@ fn out_to_15_tuples_is_0_and_to_16_is_3() {
     fill(&mut net, 0, &[readings(&[3]); 15]);
     let mut after = performed(&net);
     assert_eq!(after.nodes[0].tuple_count, 16);
-    assert_eq!(after.nodes[0].tuples[15], address(0));
+    assert_eq!(after.nodes[0].tuples[15], one_address(0));
     assert_eq!(unchanged(&after), 3);
     after.nodes[0].row.rights[0] = NONE;
     assert_eq!(unchanged(&after), 4);
@@ -147,10 +94,14 @@ fn read_at_a_variable_holding_self_with_i_but_not_r_is_4() {
 #[test]
 fn the_older_of_two_that_fit_is_taken() {
     let mut net = net(1, TAKE, &[take(OWN, &[FORMAL], 1)]);
-    fill(&mut net, 0, &[address(0), readings(&[7]), readings(&[8])]);
+    fill(
+        &mut net,
+        0,
+        &[one_address(0), readings(&[7]), readings(&[8])],
+    );
     let after = performed(&net);
     let mut expected = net.clone();
-    fill(&mut expected, 0, &[address(0), readings(&[8])]);
+    fill(&mut expected, 0, &[one_address(0), readings(&[8])]);
     set(&mut expected, 0, Value::Reading(7));
     expected.nodes[0].processes[0].at = Place(1);
     assert_eq!(after, expected);
@@ -213,7 +164,7 @@ fn sent_code_is_judged_by_the_target_s_row() {
     net.nodes[1].row.rights[1] = PUT;
     let sent = made(&net, &[0, 0x10]);
     assert_eq!(sent.answers, [0, 0]);
-    assert_eq!(sent.net.nodes[1].tuples[0], address(1));
+    assert_eq!(sent.net.nodes[1].tuples[0], one_address(1));
     net.nodes[1].processes = [Process::starting(Place(2)); SLOTS];
     assert_eq!(unchanged(&net), 3);
     net.nodes[0].row.rights[1].send = false;

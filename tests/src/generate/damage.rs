@@ -209,14 +209,22 @@ fn wild_count(random: &mut Random, count: usize, most: usize) -> usize {
     }
 }
 
-// A node in use, the first unused one, or any.
-fn any_node(random: &mut Random, net: &Net) -> usize {
-    match random.below(10) {
-        0..=7 => random
-            .below(net.address_count as usize + 1)
-            .min(ADDRESSES - 1),
-        _ => random.below(ADDRESSES),
+// An index below the count, the first past it, or any below the bound; of
+// ten, so many are near.
+fn any_index(random: &mut Random, count: usize, bound: usize, near: usize) -> usize {
+    if random.below(10) < near {
+        random.below(count + 1).min(bound - 1)
+    } else {
+        random.below(bound)
     }
+}
+
+fn any_node(random: &mut Random, net: &Net) -> usize {
+    any_index(random, net.address_count as usize, ADDRESSES, 8)
+}
+
+fn any_instruction(random: &mut Random, net: &Net) -> usize {
+    any_index(random, net.code_length as usize, INSTRUCTIONS, 9)
 }
 
 fn change_row(random: &mut Random, net: &mut Net) {
@@ -261,16 +269,6 @@ fn change_tuples(random: &mut Random, net: &mut Net) {
     }
 }
 
-// An instruction within the length, the first past it, or any.
-fn any_instruction(random: &mut Random, net: &Net) -> usize {
-    match random.below(10) {
-        0..=8 => random
-            .below(net.code_length as usize + 1)
-            .min(INSTRUCTIONS - 1),
-        _ => random.below(INSTRUCTIONS),
-    }
-}
-
 fn change_code(random: &mut Random, net: &mut Net) {
     let index = any_instruction(random, net);
     let action = wild_action(random, net);
@@ -286,36 +284,21 @@ fn change_code(random: &mut Random, net: &mut Net) {
 
 // Numbers in range, just out of it, or far out.
 
-fn wild_address(random: &mut Random, net: &Net) -> Locality {
-    let count = net.address_count;
-    let near = [
-        0,
-        count.wrapping_sub(1),
-        count,
-        count.wrapping_add(1),
-        15,
-        16,
-    ];
+fn wild_number(random: &mut Random, count: u16, bound: u16) -> u16 {
+    let (before, after) = (count.wrapping_sub(1), count.wrapping_add(1));
+    let near = [0, before, count, after, bound - 1, bound];
     match random.below(10) {
-        0..=8 => Locality(random.choose(&near)),
-        _ => Locality(random.byte()),
+        0..=8 => random.choose(&near),
+        _ => random.number() as u16,
     }
 }
 
+fn wild_address(random: &mut Random, net: &Net) -> Locality {
+    Locality(wild_number(random, net.address_count.into(), 16) as u8)
+}
+
 fn wild_place(random: &mut Random, net: &Net) -> Place {
-    let length = net.code_length;
-    let near = [
-        0,
-        length.wrapping_sub(1),
-        length,
-        length.wrapping_add(1),
-        511,
-        512,
-    ];
-    match random.below(10) {
-        0..=8 => Place(random.choose(&near)),
-        _ => Place(random.number() as u16),
-    }
+    Place(wild_number(random, net.code_length, 512))
 }
 
 fn wild_variable(random: &mut Random) -> u8 {

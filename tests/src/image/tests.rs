@@ -2,67 +2,11 @@
 //! written out by hand.
 
 use super::*;
-
-const ONE_STOP: [u8; 5] = [0x10, 0x80, 0x20, 0x00, 0x00];
-const EXAMPLE: [u8; 12] = [
-    0x10, 0x80, 0x42, 0x20, 0x00, 0x14, 0x00, 0x00, 0x00, 0x00, 0xA0, 0x10,
-];
-
-/// Bytes of a text of 0 and 1, filled up with zero bits.
-fn bits(text: &str) -> Vec<u8> {
-    let digits: Vec<u8> = text.bytes().filter(|byte| *byte != b' ').collect();
-    let byte = |part: &[u8]| {
-        let value = part
-            .iter()
-            .fold(0, |value, digit| value << 1 | (digit - b'0'));
-        value << (8 - part.len())
-    };
-    digits.chunks(8).map(byte).collect()
-}
+use crate::by_hand::*;
 
 /// The number an image is refused with, 0 when it is accepted.
 fn number(bytes: &[u8]) -> u8 {
     read_image(bytes).err().unwrap_or(0)
-}
-
-/// One address with all rights, no process, no tuple, two instructions of
-/// which these bits are the first.
-fn with_code(code: &str) -> Vec<u8> {
-    bits(&format!("0001 00001 0000000010 1 1111 000 00000 {code}"))
-}
-
-/// As above, but with the one tuple these bits write.
-fn with_tuple(tuple: &str) -> Vec<u8> {
-    bits(&format!("0001 00001 0000000001 0 0000 000 00001 {tuple}"))
-}
-
-fn one_stop() -> Net {
-    let mut net = Net::empty();
-    net.address_count = 1;
-    net.code_length = 1;
-    net
-}
-
-fn full_net() -> Net {
-    let mut net = Net::empty();
-    net.address_count = 16;
-    net.code_length = 512;
-    for node in net.nodes.iter_mut() {
-        node.row.create = true;
-        node.row.rights = [Rights::ALL; 16];
-        node.processes = [Process::starting(Place(511)); 4];
-        node.tuple_count = 16;
-        node.tuples = [Tuple::of(&[Field::Reading(-7); 4]); 16];
-    }
-    let out = Action::Out {
-        target: Target::Written(Locality(15)),
-        next: Place(511),
-    };
-    net.code.fill(Instruction::with(
-        out,
-        &[TemplateField::Reading(i32::MIN); 4],
-    ));
-    net
 }
 
 #[test]
@@ -72,37 +16,24 @@ fn no_bytes_are_28() {
 
 #[test]
 fn one_stop_is_accepted() {
-    assert_eq!(read_image(&ONE_STOP), Ok(one_stop()));
-    assert_eq!(write_image(&one_stop()), ONE_STOP);
+    assert_eq!(read_image(&ONE_STOP), Ok(stops(1, 1)));
+    assert_eq!(write_image(&stops(1, 1)), ONE_STOP);
 }
 
 #[test]
 fn more_after_the_code_is_29() {
-    for last in 1..32 {
-        assert_eq!(number(&[0x10, 0x80, 0x20, 0x00, last]), 29);
-    }
-    assert_eq!(number(&[0x10, 0x80, 0x20, 0x00, 0x00, 0x00]), 29);
-    assert_eq!(number(&[0x10, 0x80, 0x20, 0x00, 0x00, 0x80]), 29);
+    assert!(more_than_one_stop().iter().all(|image| number(image) == 29));
 }
 
 #[test]
 fn the_register_s_image() {
-    let mut net = one_stop();
-    net.code_length = 2;
-    net.nodes[0].row.rights[0].put = true;
-    net.nodes[0].processes[0] = Process::starting(Place(0));
-    let out = Action::Out {
-        target: Target::Own,
-        next: Place(1),
-    };
-    net.code[0] = Instruction::with(out, &[TemplateField::Reading(5)]);
-    assert_eq!(read_image(&EXAMPLE), Ok(net.clone()));
-    assert_eq!(write_image(&net), EXAMPLE);
+    assert_eq!(read_image(&PAPER_IMAGE), Ok(paper_net()));
+    assert_eq!(write_image(&paper_net()), PAPER_IMAGE);
 }
 
 #[test]
 fn the_register_s_image_without_o_is_30() {
-    let mut bytes = EXAMPLE;
+    let mut bytes = PAPER_IMAGE;
     bytes[2] = 0x40;
     assert_eq!(number(&bytes), 30);
     for rights in 0..16 {
@@ -113,7 +44,7 @@ fn the_register_s_image_without_o_is_30() {
 
 #[test]
 fn thirty_comes_after_all_others() {
-    let mut bytes = EXAMPLE.to_vec();
+    let mut bytes = PAPER_IMAGE.to_vec();
     bytes[2] = 0x40;
     bytes[11] |= 1;
     assert_eq!(number(&bytes), 29);
@@ -136,8 +67,7 @@ fn the_address_count_is_1_to_16() {
         let expected = if (1..=16).contains(&count) { 28 } else { 22 };
         assert_eq!(number(&bytes), expected, "{count} addresses");
     }
-    let mut net = one_stop();
-    net.address_count = 16;
+    let net = stops(16, 1);
     assert_eq!(read_image(&write_image(&net)), Ok(net));
 }
 
@@ -148,8 +78,7 @@ fn the_code_length_is_1_to_512() {
         let expected = if (1..=512).contains(&length) { 28 } else { 22 };
         assert_eq!(number(&bytes), expected, "{length} instructions");
     }
-    let mut net = one_stop();
-    net.code_length = 512;
+    let net = stops(1, 512);
     assert_eq!(read_image(&write_image(&net)), Ok(net));
 }
 
@@ -313,17 +242,17 @@ fn a_kind_is_judged_before_the_bits_end() {
 
 #[test]
 fn a_cut_image_is_28() {
-    let full = write_image(&full_net());
+    let full = write_image(&longest());
     assert!((0..full.len())
         .step_by(28)
         .all(|length| number(&full[..length]) == 28));
     assert_eq!(number(&full[..full.len() - 1]), 28);
-    assert!((0..EXAMPLE.len()).all(|length| number(&EXAMPLE[..length]) == 28));
+    assert!((0..PAPER_IMAGE.len()).all(|length| number(&PAPER_IMAGE[..length]) == 28));
 }
 
 #[test]
 fn the_longest_image_has_14749_bytes() {
-    let net = full_net();
+    let net = longest();
     let mut bytes = write_image(&net);
     assert_eq!(bytes.len(), 14_749);
     assert_eq!(read_image(&bytes), Ok(net));
@@ -370,51 +299,24 @@ fn every_instruction_is_read() {
         "110 000000000 000000011",
     ));
     let net = read_image(&bytes).unwrap();
-    let far = Target::Written(Locality(1));
+    let four = [
+        TemplateField::Address(Locality(1)),
+        TemplateField::Own,
+        TemplateField::Variable(6),
+        TemplateField::Reading(2),
+    ];
+    let formals = [
+        TemplateField::FormalAddress(0),
+        TemplateField::FormalReading(1),
+    ];
     let expected = [
         Instruction::STOP,
-        Instruction::with(
-            Action::Out {
-                target: far,
-                next: Place(1),
-            },
-            &[
-                TemplateField::Address(Locality(1)),
-                TemplateField::Own,
-                TemplateField::Variable(6),
-                TemplateField::Reading(2),
-            ],
-        ),
-        Instruction::with(
-            Action::In {
-                target: Target::Own,
-                next: Place(2),
-            },
-            &[TemplateField::FormalReading(7)],
-        ),
-        Instruction::with(
-            Action::Read {
-                target: Target::Variable(5),
-                next: Place(3),
-            },
-            &[
-                TemplateField::FormalAddress(0),
-                TemplateField::FormalReading(1),
-            ],
-        ),
-        Instruction::plain(Action::Eval {
-            target: Target::Variable(6),
-            sent: Place(4),
-            next: Place(5),
-        }),
-        Instruction::plain(Action::New {
-            variable: 3,
-            next: Place(6),
-        }),
-        Instruction::plain(Action::Fork {
-            first: Place(0),
-            second: Place(3),
-        }),
+        out(written(1), &four, 1),
+        take(OWN, &[TemplateField::FormalReading(7)], 2),
+        read(Target::Variable(5), &formals, 3),
+        eval(Target::Variable(6), 4, 5),
+        new(3, 6),
+        fork(0, 3),
     ];
     assert_eq!(net.code[..7], expected);
     assert_eq!(write_image(&net), bytes);

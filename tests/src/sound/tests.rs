@@ -1,6 +1,7 @@
 //! Reaching, keeping within a row, and soundness.
 
 use super::*;
+use crate::by_hand::{self, eval, fork, new, read, take, PUT, READ, SEND, TAKE};
 use crate::generate::{image_net, net_after_picks, random_net, sound_net};
 use crate::image::{read_layout, write_image};
 use crate::random::Random;
@@ -9,18 +10,7 @@ const HERE: Locality = Locality(1);
 const FAR: Target = Target::Written(Locality(2));
 
 fn out(target: Target, next: u16) -> Instruction {
-    let next = Place(next);
-    Instruction::with(Action::Out { target, next }, &[TemplateField::Own])
-}
-
-fn eval(target: Target, sent: u16, next: u16) -> Instruction {
-    let (sent, next) = (Place(sent), Place(next));
-    Instruction::plain(Action::Eval { target, sent, next })
-}
-
-fn fork(first: u16, second: u16) -> Instruction {
-    let (first, second) = (Place(first), Place(second));
-    Instruction::plain(Action::Fork { first, second })
+    by_hand::out(target, &[TemplateField::Own], next)
 }
 
 fn places(code: &[Instruction], place: u16) -> Vec<usize> {
@@ -71,32 +61,14 @@ fn all_512_can_be_reached() {
 
 #[test]
 fn each_action_needs_its_own_right() {
-    let none = Rights::NONE;
-    let next = Place(1);
     let each = [
-        (
-            Action::In { target: FAR, next },
-            Rights { take: true, ..none },
-        ),
-        (
-            Action::Read { target: FAR, next },
-            Rights { read: true, ..none },
-        ),
-        (
-            Action::Out { target: FAR, next },
-            Rights { put: true, ..none },
-        ),
-        (
-            Action::Eval {
-                target: FAR,
-                sent: next,
-                next,
-            },
-            Rights { send: true, ..none },
-        ),
+        (take(FAR, &[TemplateField::Own], 1), TAKE),
+        (read(FAR, &[TemplateField::Own], 1), READ),
+        (out(FAR, 1), PUT),
+        (eval(FAR, 1, 1), SEND),
     ];
-    for (index, (action, _)) in each.iter().enumerate() {
-        let code = [Instruction::plain(*action), Instruction::STOP];
+    for (index, (instruction, _)) in each.iter().enumerate() {
+        let code = [*instruction, Instruction::STOP];
         for (other, (_, rights)) in each.iter().enumerate() {
             assert_eq!(keeps(&code, &row_over(2, *rights)), index == other);
         }
@@ -119,13 +91,7 @@ fn a_variable_is_judged_when_it_runs() {
 
 #[test]
 fn a_new_needs_n_and_a_fork_nothing() {
-    let code = [
-        fork(0, 1),
-        Instruction::plain(Action::New {
-            variable: 0,
-            next: Place(0),
-        }),
-    ];
+    let code = [fork(0, 1), new(0, 0)];
     assert!(!keeps(&code, &row_over(1, Rights::ALL)));
     assert!(keeps(
         &code,
@@ -232,12 +198,6 @@ fn places_lie_below_the_length() {
     assert!(!after(|net| net.code[2] = fork(3, 0)));
     assert!(!after(|net| net.code[2] = fork(0, 3)));
     assert!(after(|net| net.code[2] = fork(2, 2)));
-    let new = |variable, next| {
-        Instruction::plain(Action::New {
-            variable,
-            next: Place(next),
-        })
-    };
     assert!(!after(|net| net.code[2] = new(0, 3)));
     assert!(after(|net| net.code[2] = new(7, 2)));
     assert!(!after(|net| net.code[2] = new(8, 2)));

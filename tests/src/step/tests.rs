@@ -1,73 +1,10 @@
 //! The answers to a pick and the net after it, on nets written by hand.
 
 use super::*;
-
-const NONE: Rights = Rights::NONE;
-const TAKE: Rights = Rights { take: true, ..NONE };
-const READ: Rights = Rights { read: true, ..NONE };
-const PUT: Rights = Rights { put: true, ..NONE };
-const SEND: Rights = Rights { send: true, ..NONE };
+use crate::by_hand::*;
 
 const FAR: Target = Target::Written(Locality(1));
 const HELD: Target = Target::Variable(0);
-
-fn out(target: Target, fields: &[TemplateField], next: u16) -> Instruction {
-    let next = Place(next);
-    Instruction::with(Action::Out { target, next }, fields)
-}
-
-fn take(target: Target, fields: &[TemplateField], next: u16) -> Instruction {
-    let next = Place(next);
-    Instruction::with(Action::In { target, next }, fields)
-}
-
-fn read(target: Target, fields: &[TemplateField], next: u16) -> Instruction {
-    let next = Place(next);
-    Instruction::with(Action::Read { target, next }, fields)
-}
-
-fn eval(target: Target, sent: u16, next: u16) -> Instruction {
-    let (sent, next) = (Place(sent), Place(next));
-    Instruction::plain(Action::Eval { target, sent, next })
-}
-
-fn new(variable: u8, next: u16) -> Instruction {
-    let next = Place(next);
-    Instruction::plain(Action::New { variable, next })
-}
-
-fn fork(first: u16, second: u16) -> Instruction {
-    let (first, second) = (Place(first), Place(second));
-    Instruction::plain(Action::Fork { first, second })
-}
-
-fn reading(reading: i32) -> Field {
-    Field::Reading(reading)
-}
-
-fn address(address: u8) -> Field {
-    Field::Address(Locality(address))
-}
-
-/// A net with this code and, after it, one more stop; a process at place
-/// 0 of address 0 in slot 0.
-fn net(addresses: u8, code: &[Instruction]) -> Net {
-    let mut net = Net::empty();
-    net.address_count = addresses;
-    net.code_length = code.len() as u16 + 1;
-    net.code[..code.len()].copy_from_slice(code);
-    net.nodes[0].processes[0] = Process::starting(Place(0));
-    net
-}
-
-fn grant(net: &mut Net, by: usize, over: usize, rights: Rights) {
-    net.nodes[by].row.rights[over] = rights;
-}
-
-fn fill(net: &mut Net, at: usize, tuples: &[Tuple]) {
-    net.nodes[at].tuple_count = tuples.len() as u8;
-    net.nodes[at].tuples[..tuples.len()].copy_from_slice(tuples);
-}
 
 fn process(net: &mut Net) -> &mut Process {
     &mut net.nodes[0].processes[0]
@@ -221,7 +158,6 @@ fn the_older_of_two_that_fit_is_taken() {
     let (answer, after) = picked(&net);
     assert_eq!(answer, 0);
     let mut expected = net.clone();
-    expected.nodes[0].tuples[2] = Tuple::ZERO;
     fill(&mut expected, 0, &[Tuple::of(&[odd]), Tuple::of(&[second])]);
     set(&mut expected, 6, Value::Reading(7));
     process(&mut expected).at = Place(1);

@@ -1,0 +1,133 @@
+//! Times the proved code and the model on the same nets and picks, after
+//! comparing what they give. The least of several rounds counts.
+
+mod machine;
+mod nets;
+
+use cavindorum_tests::program::{print_register, printed_in, TestDirectory};
+use cavindorum_tests::register::register;
+use machine::{Machine, MODEL, PROVED};
+use nets::Work;
+use std::hint::black_box;
+use std::io::Write;
+use std::process::Command;
+use std::time::{Duration, Instant};
+
+const ROUNDS: usize = 5;
+
+/// Makes this program the model's register.
+const AS_REGISTER: &str = "register";
+
+fn main() {
+    if std::env::args().nth(1).as_deref() == Some(AS_REGISTER) {
+        return model_s_register();
+    }
+    let all = nets::all();
+    all.iter().for_each(compare);
+    println!("65,536 picks each; the least of {ROUNDS} rounds\n");
+    println!("{:<36}{:>12}{:>12}{:>8}", "", "proved", "model", "ratio");
+    for work in &all {
+        let times = both(|machine| a_pick(machine, work));
+        row(&format!("a pick, {} (ns)", work.name), times);
+    }
+    let work = &all[0];
+    let times = both(|machine| milliseconds(|| (machine.register)(&work.image, &work.picks)));
+    row("a register in memory (ms)", times);
+    row("the program register (ms)", programs(work));
+}
+
+/// The register of the two files in this directory, printed by the model.
+fn model_s_register() {
+    let file = |name: &str| std::fs::read(name).unwrap_or_default();
+    let text = register(&file("net.bin"), &file("picks.bin"));
+    let mut output = std::io::stdout();
+    output
+        .write_all(text.as_bytes())
+        .expect("the output is open");
+}
+
+// Comparing.
+
+/// Fails unless the proved code and the model give the same.
+fn compare(work: &Work) {
+    let Work { name, image, picks } = work;
+    let mut proved = vec![0xFF; picks.len()];
+    let mut model = proved.clone();
+    assert_eq!(
+        (PROVED.run)(image, picks, &mut proved),
+        0,
+        "{name}: refused"
+    );
+    assert_eq!((MODEL.run)(image, picks, &mut model), 0, "{name}: refused");
+    assert!(proved == model, "{name}: other answers");
+    let expected = (MODEL.register)(image, picks);
+    assert!(
+        (PROVED.register)(image, picks) == expected,
+        "{name}: another register"
+    );
+    println!("{name}: the same answers and register; {}", shares(&model));
+}
+
+// How many of a hundred picks have each answer that was met.
+fn shares(answers: &[u8]) -> String {
+    let share = |answer: u8| {
+        let met = answers.iter().filter(|found| **found == answer).count();
+        (met > 0).then(|| {
+            format!(
+                "{answer}: {:.1} %",
+                100.0 * met as f64 / answers.len() as f64
+            )
+        })
+    };
+    (0..=10).filter_map(share).collect::<Vec<_>>().join(", ")
+}
+
+// Timing.
+
+/// Of the proved code and of the model.
+type Both = (f64, f64);
+
+fn both(time: impl Fn(&Machine) -> f64) -> Both {
+    (time(&PROVED), time(&MODEL))
+}
+
+fn least<T>(mut act: impl FnMut() -> T) -> Duration {
+    let once = |_| {
+        let start = Instant::now();
+        black_box(act());
+        start.elapsed()
+    };
+    (0..ROUNDS).map(once).min().expect("there are rounds")
+}
+
+fn milliseconds<T>(act: impl FnMut() -> T) -> f64 {
+    least(act).as_secs_f64() * 1e3
+}
+
+/// Nanoseconds a pick; the time to read the image is taken off.
+fn a_pick(machine: &Machine, work: &Work) -> f64 {
+    let Work { image, picks, .. } = work;
+    let mut answers = vec![0; picks.len()];
+    let reading = least(|| (machine.run)(image, &[], &mut []));
+    let whole = least(|| (machine.run)(image, picks, &mut answers));
+    whole.saturating_sub(reading).as_secs_f64() * 1e9 / picks.len() as f64
+}
+
+/// Milliseconds of the program `register` and of the model as a program,
+/// in one directory: files read, output taken from a pipe.
+fn programs(work: &Work) -> Both {
+    let directory = TestDirectory::with(Some(&work.image), Some(&work.picks));
+    let path = &directory.path;
+    let this = std::env::current_exe().expect("this program has a path");
+    let model = || printed_in(path, Command::new(&this).arg(AS_REGISTER)).expect("it starts");
+    assert!(
+        print_register(path) == model(),
+        "the program prints another register"
+    );
+    (milliseconds(|| print_register(path)), milliseconds(model))
+}
+
+fn row(name: &str, (proved, model): Both) {
+    let ratio = proved / model;
+    println!("{name:<36}{proved:>12.1}{model:>12.1}{ratio:>8.1}");
+}

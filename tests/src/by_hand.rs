@@ -1,0 +1,179 @@
+//! Nets and images written by hand: for the edges, the examples and tests.
+
+use crate::net::*;
+use crate::random::Random;
+
+// Rights, one of each sort.
+
+pub const NONE: Rights = Rights::NONE;
+pub const TAKE: Rights = Rights { take: true, ..NONE };
+pub const READ: Rights = Rights { read: true, ..NONE };
+pub const PUT: Rights = Rights { put: true, ..NONE };
+pub const SEND: Rights = Rights { send: true, ..NONE };
+
+// Targets.
+
+pub const OWN: Target = Target::Own;
+
+pub fn written(address: u8) -> Target {
+    Target::Written(Locality(address))
+}
+
+// Instructions.
+
+pub fn out(target: Target, fields: &[TemplateField], next: u16) -> Instruction {
+    let next = Place(next);
+    Instruction::with(Action::Out { target, next }, fields)
+}
+
+pub fn take(target: Target, fields: &[TemplateField], next: u16) -> Instruction {
+    let next = Place(next);
+    Instruction::with(Action::In { target, next }, fields)
+}
+
+pub fn read(target: Target, fields: &[TemplateField], next: u16) -> Instruction {
+    let next = Place(next);
+    Instruction::with(Action::Read { target, next }, fields)
+}
+
+pub fn eval(target: Target, sent: u16, next: u16) -> Instruction {
+    let (sent, next) = (Place(sent), Place(next));
+    Instruction::plain(Action::Eval { target, sent, next })
+}
+
+pub fn new(variable: u8, next: u16) -> Instruction {
+    let next = Place(next);
+    Instruction::plain(Action::New { variable, next })
+}
+
+pub fn fork(first: u16, second: u16) -> Instruction {
+    let (first, second) = (Place(first), Place(second));
+    Instruction::plain(Action::Fork { first, second })
+}
+
+// Fields and tuples.
+
+pub fn reading(reading: i32) -> Field {
+    Field::Reading(reading)
+}
+
+pub fn address(address: u8) -> Field {
+    Field::Address(Locality(address))
+}
+
+pub fn one_address(held: u8) -> Tuple {
+    Tuple::of(&[address(held)])
+}
+
+pub fn readings(readings: &[i32]) -> Tuple {
+    let fields: Vec<Field> = readings.iter().copied().map(reading).collect();
+    Tuple::of(&fields)
+}
+
+// Nets.
+
+/// Stops only, at addresses without rights.
+pub fn stops(addresses: u8, length: u16) -> Net {
+    let mut net = Net::empty();
+    net.address_count = addresses;
+    net.code_length = length;
+    net
+}
+
+/// This code and, after it, one more stop; a process at place 0 of
+/// address 0 in slot 0. No rights.
+pub fn net(addresses: u8, code: &[Instruction]) -> Net {
+    let mut net = stops(addresses, code.len() as u16 + 1);
+    net.code[..code.len()].copy_from_slice(code);
+    net.nodes[0].processes[0] = Process::starting(Place(0));
+    net
+}
+
+/// Grants one node these rights over an address, and no others over it.
+pub fn grant(net: &mut Net, by: usize, over: usize, rights: Rights) {
+    net.nodes[by].row.rights[over] = rights;
+}
+
+/// Gives a node these tuples, oldest first, and no others.
+pub fn fill(net: &mut Net, at: usize, tuples: &[Tuple]) {
+    net.nodes[at].tuple_count = tuples.len() as u8;
+    net.nodes[at].tuples = Node::ZERO.tuples;
+    net.nodes[at].tuples[..tuples.len()].copy_from_slice(tuples);
+}
+
+/// The net of the paper's register: a row with o on itself, an out of
+/// reading 5 at self, then stop.
+pub fn paper_net() -> Net {
+    let mut net = net(1, &[out(OWN, &[TemplateField::Reading(5)], 1)]);
+    grant(&mut net, 0, 0, PUT);
+    net
+}
+
+/// A net with the longest image: everything full, and outs and ins of
+/// four readings at written addresses.
+pub fn longest() -> Net {
+    let mut random = Random::new(14_749);
+    let mut reading = move || random.number() as i32;
+    let mut net = stops(16, 512);
+    for node in net.nodes.iter_mut() {
+        node.row.create = true;
+        node.row.rights = [Rights::ALL; ADDRESSES];
+        node.processes = [0, 100, 300, 511].map(|at| Process::starting(Place(at)));
+        node.tuple_count = 16;
+        for tuple in node.tuples.iter_mut() {
+            *tuple = readings(&[0; 4].map(|_| reading()));
+        }
+    }
+    for at in 0..512u16 {
+        let fields = [0; 4].map(|_| TemplateField::Reading(reading()));
+        let target = written((at % 16) as u8);
+        let action = if at % 2 == 0 { out } else { take };
+        net.code[at as usize] = action(target, &fields, (at + 1) % 512);
+    }
+    net
+}
+
+// Images.
+
+/// One address and one stop.
+pub const ONE_STOP: [u8; 5] = [0x10, 0x80, 0x20, 0x00, 0x00];
+
+/// The image of the paper's register.
+pub const PAPER_IMAGE: [u8; 12] = [
+    0x10, 0x80, 0x42, 0x20, 0x00, 0x14, 0x00, 0x00, 0x00, 0x00, 0xA0, 0x10,
+];
+
+/// The one-stop image with a bit set after the code, in each way, and with
+/// each sixth byte: all refused with 29.
+pub fn more_than_one_stop() -> Vec<Vec<u8>> {
+    let last = (1..32).map(|last| [&ONE_STOP[..4], &[last]].concat());
+    let sixth = (0..=255).map(|sixth| [&ONE_STOP[..], &[sixth]].concat());
+    last.chain(sixth).collect()
+}
+
+/// Bytes of a text of 0 and 1, filled up with zero bits. Spaces are passed
+/// over.
+pub fn bits(text: &str) -> Vec<u8> {
+    let digits: Vec<u8> = text.bytes().filter(|byte| *byte != b' ').collect();
+    let byte = |part: &[u8]| {
+        let value = part
+            .iter()
+            .fold(0, |value, digit| value << 1 | (digit - b'0'));
+        value << (8 - part.len())
+    };
+    digits.chunks(8).map(byte).collect()
+}
+
+/// One address with all rights, no process, no tuple, and two instructions
+/// that these bits write.
+pub fn with_code(code: &str) -> Vec<u8> {
+    bits(&format!("0001 00001 0000000010 1 1111 000 00000 {code}"))
+}
+
+/// One address without rights, no process, one tuple and one instruction
+/// that these bits write.
+pub fn with_tuple(tuple_and_code: &str) -> Vec<u8> {
+    bits(&format!(
+        "0001 00001 0000000001 0 0000 000 00001 {tuple_and_code}"
+    ))
+}

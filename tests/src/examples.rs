@@ -1,0 +1,100 @@
+//! Four small nets that a person can follow, with picks and register. They
+//! are stored below `examples`.
+
+mod nets;
+
+use crate::image::{read_image, write_image};
+use crate::net::*;
+use crate::register::register;
+use crate::step::{pick, pick_address, pick_slot};
+use crate::stored::Stored;
+use std::fmt::Write;
+
+/// A net and its picks, with what a reader is told of them.
+pub struct Example {
+    /// The directory's name.
+    pub name: &'static str,
+    pub title: &'static str,
+    /// What the example shows.
+    pub about: &'static str,
+    /// The net in the planners' notation. Its instructions have the same
+    /// numbers there as in the image.
+    pub notation: &'static str,
+    pub net: Net,
+    /// Each pick, and what it does.
+    pub picks: &'static [(u8, &'static str)],
+}
+
+/// All examples.
+pub fn examples() -> Vec<Example> {
+    vec![
+        nets::put_and_take(),
+        nets::moved_process(),
+        nets::new_address(),
+        nets::tenant(),
+    ]
+}
+
+/// The files of all examples.
+pub fn stored_files() -> Vec<Stored> {
+    examples().iter().flat_map(Example::files).collect()
+}
+
+impl Example {
+    pub fn image(&self) -> Vec<u8> {
+        write_image(&self.net)
+    }
+
+    pub fn pick_bytes(&self) -> Vec<u8> {
+        self.picks.iter().map(|(pick, _)| *pick).collect()
+    }
+
+    pub fn register(&self) -> String {
+        register(&self.image(), &self.pick_bytes())
+    }
+
+    fn files(&self) -> Vec<Stored> {
+        let file = |name: &str, content| Stored {
+            path: format!("examples/{}/{name}", self.name),
+            content,
+        };
+        vec![
+            file("net.bin", self.image()),
+            file("picks.bin", self.pick_bytes()),
+            file("register.txt", self.register().into_bytes()),
+            file("README.md", self.readme().into_bytes()),
+        ]
+    }
+
+    fn readme(&self) -> String {
+        let (title, about, notation) = (self.title, self.about, self.notation);
+        let (table, register) = (self.table(), self.register());
+        format!(
+            "# {title}\n\n{about}\n\
+             ## The net\n\n\
+             In the planners' notation; `net.bin` holds the same net as an image.\n\n\
+             ```\n{notation}```\n\n\
+             ## The picks\n\n\
+             One byte each in `picks.bin`.\n\n\
+             {table}\n\
+             ## The register\n\n\
+             Run in this directory, `../../target/bin/register` prints what `register.txt` holds:\n\n\
+             ```\n{register}```\n"
+        )
+    }
+
+    // The picks one by one, as a table.
+    fn table(&self) -> String {
+        let mut net = read_image(&self.image()).expect("an example's image is accepted");
+        let mut text = String::from(
+            "| pick | byte | address | slot | what it does | answer |\n|---|---|---|---|---|---|\n",
+        );
+        for (index, (byte, does)) in self.picks.iter().enumerate() {
+            let (number, address, slot) = (index + 1, pick_address(*byte).0, pick_slot(*byte));
+            let answer = pick(&mut net, *byte);
+            let row = format!("| {number} | {byte:02X} | {address} | {slot} | {does} | {answer} |");
+            writeln!(text, "{row}").expect("a string takes every line");
+        }
+        text
+    }
+}

@@ -1,0 +1,78 @@
+//! The repository's programs: where they lie, and running them.
+
+use crate::stored::repository;
+use std::path::{Path, PathBuf};
+use std::process::{Child, Command, Stdio};
+use std::sync::atomic::{AtomicUsize, Ordering};
+use std::{fs, io};
+
+/// Where a program of the repository lies: in the directory that
+/// CAVINDORUM_BIN names, or where `rt check` links it.
+pub fn program(name: &str) -> PathBuf {
+    let linked = || repository().join("target/bin");
+    let directory = std::env::var_os("CAVINDORUM_BIN").map_or_else(linked, PathBuf::from);
+    // Programs are run in other directories too.
+    std::path::absolute(directory.join(name)).expect("the path is not empty")
+}
+
+/// Starts a program of the repository with its input and output as pipes.
+pub fn start(name: &str) -> Child {
+    let mut command = Command::new(program(name));
+    command.stdin(Stdio::piped()).stdout(Stdio::piped());
+    started(name, command.spawn())
+}
+
+/// What the program `register` prints in a directory. A missing program,
+/// or one that does not end well, is a failure.
+pub fn print_register(directory: &Path) -> Vec<u8> {
+    let output = printed_in(directory, &mut Command::new(program("register")));
+    started("register", output)
+}
+
+/// What a command prints in a directory, without input. One that does not
+/// end well is a failure.
+pub fn printed_in(directory: &Path, command: &mut Command) -> io::Result<Vec<u8>> {
+    let output = command
+        .current_dir(directory)
+        .stdin(Stdio::null())
+        .output()?;
+    let (status, errors) = (output.status, String::from_utf8_lossy(&output.stderr));
+    assert!(status.success(), "{command:?}: {status} {errors}");
+    Ok(output.stdout)
+}
+
+fn started<T>(name: &str, result: io::Result<T>) -> T {
+    result.unwrap_or_else(|error| {
+        let path = program(name);
+        panic!("{}: {error}; `rt check {name}` makes it", path.display())
+    })
+}
+
+/// A directory for one test, removed with all it holds when dropped.
+pub struct TestDirectory {
+    pub path: PathBuf,
+}
+
+impl TestDirectory {
+    /// A directory with these files; none is a missing file.
+    pub fn with(image: Option<&[u8]>, picks: Option<&[u8]>) -> TestDirectory {
+        static MADE: AtomicUsize = AtomicUsize::new(0);
+        let number = MADE.fetch_add(1, Ordering::Relaxed);
+        let name = format!("cavindorum-{}-{number}", std::process::id());
+        let path = std::env::temp_dir().join(name);
+        fs::create_dir_all(&path).expect("the directory can be made");
+        for (name, content) in [("net.bin", image), ("picks.bin", picks)] {
+            if let Some(content) = content {
+                fs::write(path.join(name), content).expect("the file can be written");
+            }
+        }
+        TestDirectory { path }
+    }
+}
+
+impl Drop for TestDirectory {
+    fn drop(&mut self) {
+        // What cannot be removed is left to the system.
+        let _ = fs::remove_dir_all(&self.path);
+    }
+}

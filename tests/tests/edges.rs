@@ -1,0 +1,190 @@
+//! The edges of document 01: that the stored list is the model's, and that
+//! each edge has the answer the paper states.
+
+use cavindorum_tests::by_hand::{bits, net, new};
+use cavindorum_tests::edges::{edges, pack, stops_image, stored_files, Edge};
+use cavindorum_tests::image::write_image;
+use cavindorum_tests::register::{answers_in, register};
+use cavindorum_tests::step::pick;
+use cavindorum_tests::stored;
+
+#[test]
+fn the_stored_files_are_the_model_s() {
+    stored::compare(&stored_files(), "write_edges");
+}
+
+/// Reading the packed edges, part by part, gives the list again.
+#[test]
+fn packed_edges_are_read_back() {
+    let edges = edges();
+    let packed = pack(&edges);
+    let mut rest = &packed[..];
+    for edge in &edges {
+        for part in [edge.name.as_bytes(), &edge.image, &edge.picks] {
+            let length = u16::from_le_bytes([rest[0], rest[1]]) as usize;
+            assert_eq!(&rest[2..2 + length], part, "{}", edge.name);
+            rest = &rest[2 + length..];
+        }
+    }
+    assert!(rest.is_empty());
+}
+
+/// What the paper states of an edge.
+enum Stated {
+    Refused(u8),
+    /// The picks' answers, and lines that end the register.
+    Answers(&'static [u8], &'static [&'static str]),
+}
+
+use Stated::{Answers, Refused};
+
+/// Each edge by its name, those without a star first, as in the paper.
+const STATED: [(&str, Stated); 29] = [
+    ("one stop, last byte 01", Refused(29)),
+    ("one stop, sixth byte 00", Refused(29)),
+    ("one stop, sixth byte FF", Refused(29)),
+    ("16 addresses", Answers(&[7], &["node 15 0 0"])),
+    ("17 addresses", Refused(22)),
+    ("0 addresses", Refused(22)),
+    ("512 instructions", Answers(&[1], &["node 0 0 0"])),
+    ("513 instructions", Refused(22)),
+    ("0 instructions", Refused(22)),
+    ("0 addresses and 0 instructions", Refused(22)),
+    (
+        "reading with only the first bit set",
+        Answers(
+            &[0],
+            &["node 0 2 1", "tuple 0 -2147483648", "tuple 0 -2147483648"],
+        ),
+    ),
+    (
+        "out to 15 tuples",
+        Answers(&[0], &["tuple 0 15", "tuple 0 100"]),
+    ),
+    (
+        "eval to itself with four busy slots",
+        Answers(&[3, 3], &["node 0 0 4"]),
+    ),
+    (
+        "eval to itself until four slots are busy",
+        Answers(&[0, 0, 0, 3], &["node 0 0 4"]),
+    ),
+    (
+        "out, in, read and eval barred at a full target",
+        Answers(&[0, 0, 0, 0, 4, 4, 4, 4], &["tuple 1 3"]),
+    ),
+    (
+        "creation at 15 addresses",
+        Answers(&[8, 0, 7], &["node 14 0 0", "node 15 0 0"]),
+    ),
+    (
+        "creation at 16 addresses with n",
+        Answers(&[3], &["node 15 0 0"]),
+    ),
+    ("creation at 16 addresses without n, started", Refused(30)),
+    (
+        "creation at 16 addresses without n, sent",
+        Answers(&[5], &["node 15 0 0"]),
+    ),
+    ("no bytes", Refused(28)),
+    ("one stop", Answers(&[], &["net 1 1", "node 0 0 0"])),
+    ("the register's image with third byte 40", Refused(30)),
+    (
+        "the register's run",
+        Answers(&[0, 1, 7], &["node 0 1 0", "tuple 0 5"]),
+    ),
+    (
+        "reading with all bits set",
+        Answers(&[0], &["node 0 2 1", "tuple 0 -1", "tuple 0 -1"]),
+    ),
+    ("in at self without a tuple", Answers(&[2], &["node 0 0 1"])),
+    (
+        "out to 16 tuples",
+        Answers(&[3], &["tuple 0 15", "tuple 0 16"]),
+    ),
+    (
+        "read at a variable holding self, i but not r",
+        Answers(&[0, 4], &["node 0 1 1", "tuple 0 3"]),
+    ),
+    (
+        "formal reading against an address",
+        Answers(&[2], &["node 0 1 1", "tuple 0 @0"]),
+    ),
+    (
+        "two tuples fit",
+        Answers(&[0], &["node 0 1 1", "tuple 0 8"]),
+    ),
+];
+
+#[test]
+fn each_edge_has_the_stated_answer() {
+    let edges = edges();
+    assert_eq!(edges.len(), STATED.len());
+    for (edge, (name, stated)) in edges.iter().zip(&STATED) {
+        assert_eq!(edge.name, *name);
+        check(edge, stated);
+    }
+}
+
+fn check(edge: &Edge, stated: &Stated) {
+    let name = edge.name;
+    let text = register(&edge.image, &edge.picks);
+    match stated {
+        Refused(number) => assert_eq!(text, format!("refused {number}\n"), "{name}"),
+        Answers(answers, ending) => {
+            assert!(text.starts_with("net "), "{name}: {text}");
+            assert_eq!(answers_in(&text), *answers, "{name}");
+            let ending: String = ending.iter().map(|line| format!("{line}\n")).collect();
+            assert!(text.ends_with(&ending), "{name}: {text}");
+        }
+    }
+}
+
+fn image(name: &str) -> Vec<u8> {
+    let edges = edges();
+    let mut named = edges.iter().filter(|edge| edge.name == name);
+    named.next().expect("an edge of this name").image.clone()
+}
+
+/// The counts at fault stand in images that are otherwise whole.
+#[test]
+fn counts_stand_in_the_image() {
+    assert_eq!(stops_image(1, 1), [0x10, 0x80, 0x20, 0x00, 0x00]);
+    let zeros = |count: usize| "0".repeat(count);
+    let seventeen = format!(
+        "0001 10001 0000000001 {}",
+        zeros(17 * (1 + 68) + 17 * 8 + 3)
+    );
+    assert_eq!(image("17 addresses"), bits(&seventeen));
+    let no_address = "0001 00000 0000000001 000";
+    assert_eq!(image("0 addresses"), bits(no_address));
+    let most = format!("0001 00001 1000000001 {}", zeros(13 + 513 * 3));
+    assert_eq!(image("513 instructions"), bits(&most));
+    let no_code = format!("0001 00001 0000000000 {}", zeros(13));
+    assert_eq!(image("0 instructions"), bits(&no_code));
+}
+
+/// The bits of the reading, once in a tuple and once in an out at self.
+#[test]
+fn the_first_bit_alone_stands_in_the_image() {
+    let reading = format!("1{}", "0".repeat(31));
+    let head = "0001 00001 0000000010 0 0010 001 000000000";
+    let tuple_and_code = format!("00001 00 0 {reading} 001 01 00 000 {reading} 000000001 000");
+    let expected = bits(&format!("{head} {tuple_and_code}"));
+    assert_eq!(image("reading with only the first bit set"), expected);
+}
+
+/// A process of an accepted image never stands at a creation without n, so
+/// the paper's 4 is met only on a net handed in: sound, and not from an
+/// image.
+#[test]
+fn creation_at_16_addresses_without_n_is_4() {
+    let mut net = net(16, &[new(0, 1)]);
+    assert_eq!(
+        write_image(&net),
+        image("creation at 16 addresses without n, started")
+    );
+    let before = net.clone();
+    assert_eq!(pick(&mut net, 0), 4);
+    assert_eq!(net, before);
+}

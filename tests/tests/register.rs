@@ -1,0 +1,216 @@
+//! The program `register` beside the model: its whole output in many
+//! directories, byte for byte.
+
+use cavindorum_tests::by_hand::{longest, PAPER_IMAGE};
+use cavindorum_tests::generate::{damaged_image, picks, valid_image};
+use cavindorum_tests::image::{read_image, write_image};
+use cavindorum_tests::program::{print_register, TestDirectory};
+use cavindorum_tests::random::Random;
+use cavindorum_tests::register::{answers_in, register, MOST_PICKS};
+
+/// The files of a directory; none is a missing file.
+struct Files {
+    image: Option<Vec<u8>>,
+    picks: Option<Vec<u8>>,
+}
+
+fn files(image: &[u8], picks: &[u8]) -> Files {
+    Files {
+        image: Some(image.to_vec()),
+        picks: Some(picks.to_vec()),
+    }
+}
+
+// Comparing.
+
+/// Runs the program on all of these, on two threads, and compares what it
+/// prints with the model's registers, which are returned.
+fn compare_all(all: &[Files]) -> Vec<String> {
+    let (first, second) = all.split_at(all.len() / 2);
+    std::thread::scope(|scope| {
+        let other = scope.spawn(|| second.iter().map(compare).collect::<Vec<_>>());
+        let mut registers: Vec<_> = first.iter().map(compare).collect();
+        match other.join() {
+            Ok(others) => registers.extend(others),
+            Err(failure) => std::panic::resume_unwind(failure),
+        }
+        registers
+    })
+}
+
+fn compare(files: &Files) -> String {
+    let (image, picks) = (files.image.as_deref(), files.picks.as_deref());
+    let directory = TestDirectory::with(image, picks);
+    let printed = print_register(&directory.path);
+    let (image, picks) = (image.unwrap_or_default(), picks.unwrap_or_default());
+    let expected = register(image, picks);
+    if printed != expected.as_bytes() {
+        panic!("{}", first_difference(&printed, &expected, image, picks));
+    }
+    expected
+}
+
+// The first line that differs, and the files' beginnings.
+fn first_difference(printed: &[u8], expected: &str, image: &[u8], picks: &[u8]) -> String {
+    let printed = String::from_utf8_lossy(printed);
+    let (mut program, mut model) = (printed.lines(), expected.lines());
+    let mut number = 1;
+    let (program, model) = loop {
+        match (program.next(), model.next()) {
+            (Some(one), Some(other)) if one == other => number += 1,
+            lines => break lines,
+        }
+    };
+    let (net_bytes, pick_count) = (image.len(), picks.len());
+    let (image, picks) = (&image[..net_bytes.min(200)], &picks[..pick_count.min(100)]);
+    format!(
+        "line {number}: program {program:?}, model {model:?}; \
+         net.bin ({net_bytes} bytes) {image:02X?}; picks.bin ({pick_count} bytes) {picks:02X?}"
+    )
+}
+
+// Directories by hand.
+
+#[test]
+fn the_paper_s_run() {
+    let registers = compare_all(&[files(&PAPER_IMAGE, &[0, 0, 0])]);
+    let paper = "net 1 2\npick 1 0 0 0\npick 2 0 0 1\npick 3 0 0 7\nnode 0 1 0\ntuple 0 5\n";
+    assert_eq!(registers, [paper]);
+}
+
+/// A missing file counts as empty.
+#[test]
+fn missing_and_empty_files() {
+    let mut all = Vec::new();
+    for image in [None, Some(vec![]), Some(PAPER_IMAGE.to_vec())] {
+        for picks in [None, Some(vec![]), Some(vec![0, 0])] {
+            let image = image.clone();
+            all.push(Files { image, picks });
+        }
+    }
+    let registers = compare_all(&all);
+    assert!(registers[..6].iter().all(|text| text == "refused 28\n"));
+    let unpicked = "net 1 2\nnode 0 0 1\n";
+    assert_eq!(registers[6..8], [unpicked, unpicked]);
+}
+
+/// Only the first 65,536 picks count.
+#[test]
+fn long_lists_of_picks() {
+    let mut random = Random::new(301);
+    let lengths = [65_535, 65_536, 65_537, 70_000, 131_072, 200_000];
+    let all = lengths.map(|length| {
+        let (image, _) = accepted(&mut random);
+        let picks: Vec<u8> = (0..length).map(|_| any_pick(&mut random)).collect();
+        files(&image, &picks)
+    });
+    let registers = compare_all(&all);
+    for (text, length) in registers.iter().zip(lengths) {
+        assert_eq!(answers_in(text).len(), length.min(MOST_PICKS));
+    }
+    assert_eq!(compare_all(&[files(&[], &[0; 70_000])]), ["refused 28\n"]);
+}
+
+/// Files longer than the longest accepted image.
+#[test]
+fn long_images() {
+    let mut random = Random::new(302);
+    let longest = write_image(&longest());
+    let run = picks(
+        &mut random,
+        &read_image(&longest).expect("it is accepted"),
+        500,
+    );
+    let mut all = vec![files(&longest, &run), files(&longest[..14_748], &run)];
+    for image in [longest, PAPER_IMAGE.to_vec()] {
+        for length in [14_750, 16_383, 16_384, 16_385, 20_000, 70_000, 1_000_000] {
+            let mut image = image.clone();
+            image.resize(length, 0);
+            all.push(files(&image, &run));
+        }
+    }
+    let registers = compare_all(&all);
+    assert!(registers[0].starts_with("net 16 512\npick 1 "));
+    assert_eq!(registers[1], "refused 28\n");
+    assert!(registers[2..].iter().all(|text| text == "refused 29\n"));
+}
+
+#[test]
+fn long_noise() {
+    let mut random = Random::new(303);
+    let mut noise = |head: &[u8]| {
+        let mut image = head.to_vec();
+        image.resize_with(20_000, || random.byte());
+        files(&image, &[0, 0])
+    };
+    let heads: [&[u8]; 4] = [&[], &[0x10], &[0x10, 0x80], &PAPER_IMAGE];
+    let all: Vec<_> = (0..40).map(|index| noise(heads[index % 4])).collect();
+    compare_all(&all);
+}
+
+// Random directories.
+
+/// An accepted image, and picks that mostly perform.
+fn accepted(random: &mut Random) -> (Vec<u8>, Vec<u8>) {
+    loop {
+        let image = valid_image(random);
+        if let Ok(net) = read_image(&image) {
+            let count = random.choose(&[0, 1, 5, 40, 40, 200]);
+            let picks = picks(random, &net, count);
+            return (image, picks);
+        }
+    }
+}
+
+/// Mostly a well formed pick of a low address.
+fn any_pick(random: &mut Random) -> u8 {
+    match random.below(10) {
+        0 => random.byte(),
+        _ => random.byte() & 0x3C,
+    }
+}
+
+/// How often each answer was met.
+fn answers_met(registers: &[String]) -> [usize; 11] {
+    let mut met = [0; 11];
+    for answer in registers.iter().flat_map(|text| answers_in(text)) {
+        met[answer as usize] += 1;
+    }
+    met
+}
+
+#[test]
+fn accepted_images() {
+    let mut random = Random::new(304);
+    let all: Vec<_> = (0..1_300)
+        .map(|_| {
+            let (image, picks) = accepted(&mut random);
+            files(&image, &picks)
+        })
+        .collect();
+    let registers = compare_all(&all);
+    let met = answers_met(&registers);
+    assert!(met[..10].iter().all(|count| *count > 50), "{met:?}");
+    assert_eq!(met[10], 0);
+    println!("answers 0 to 10: {met:?}");
+}
+
+#[test]
+fn damaged_images() {
+    let mut random = Random::new(305);
+    let all: Vec<_> = (0..900)
+        .map(|_| {
+            let image = damaged_image(&mut random);
+            let count = random.below(20);
+            let picks: Vec<u8> = (0..count).map(|_| any_pick(&mut random)).collect();
+            files(&image, &picks)
+        })
+        .collect();
+    let registers = compare_all(&all);
+    for number in 21..=30 {
+        let refused = format!("refused {number}\n");
+        let met = registers.iter().filter(|text| **text == refused).count();
+        assert!(met > 5, "{number}: {met}");
+    }
+    assert!(registers.iter().any(|text| text.starts_with("net ")));
+}
