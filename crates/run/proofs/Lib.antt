@@ -1,13 +1,7 @@
 pub mod CallLaws
 pub mod DecimalLaws
-pub mod Erasure
-pub mod Fence
 pub mod RunLaws
 pub mod SignedLaws
-pub mod TenantOfNets
-pub mod TenantRule
-pub mod View
 pub mod TurnLaws
 pub mod Whole
 pub mod WritingLaws
-pub mod Yields

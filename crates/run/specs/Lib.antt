@@ -4,7 +4,6 @@ pub mod Drawn
 pub mod Making
 pub mod Register
 pub mod Run
-pub mod TenantRule
 pub mod Turn
 pub mod Types
 pub mod Writing

@@ -11,12 +11,12 @@ use Rattle.net.proofs.Laws.{choose-true, choose-false}
 use Rattle.step.specs.Pick.{hostOf, stepOf, pickOf}
 use Rattle.step.specs.Shape.{Shaped}
 use Rattle.step.proofs.SoundKept.{step-sound-kept}
-use Rattle.run.specs.Types.{Node, Net, Answer, Picked}
+use Rattle.tenant.specs.Types.{Node, Net, Answer, Picked}
 use Rattle.run.specs.Run.{Ran, answered, ranFrom}
-use Rattle.run.specs.TenantRule.{struck, remaining, Same, Agree}
-use Rattle.run.proofs.View.{blanked-same, view, view-node, seen}
-use Rattle.run.proofs.Fence.{Fence, tested, fence-kept}
-use Rattle.run.proofs.Erasure.{step-out, step-in}
+use Rattle.tenant.specs.TenantRule.{struck, remaining, Same, Agree}
+use Rattle.tenant.proofs.View.{blanked-same, view, view-node, seen}
+use Rattle.tenant.proofs.Fence.{Fence, tested, fence-kept}
+use Rattle.tenant.proofs.Erasure.{step-out, step-in}
 
 -- a run without the soundness test
 unfoldable stepped : Net → List ℕ → Ran

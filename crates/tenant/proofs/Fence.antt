@@ -15,8 +15,8 @@ use Rattle.step.specs.Request.{granted}
 use Rattle.step.specs.Pick.{unchanged, performed, withHost, stopped, added, out, taken, inFound, input}
 use Rattle.step.specs.Pick.{readFound, read, startedIn, eval, fork, gaining, opened, created, create, done, acting}
 use Rattle.step.specs.Pick.{processStep, slotStep, stepOf}
-use Rattle.run.specs.Types.{Place, Tuple, Process, Row, Node, Slot, Net, Evaluated, Found, Request, Answer}
-use Rattle.run.specs.Types.{Picked}
+use Rattle.tenant.specs.Types.{Place, Tuple, Process, Row, Node, Slot, Net, Evaluated, Found, Request, Answer}
+use Rattle.tenant.specs.Types.{Picked}
 
 -- what a test comes to
 pub tested : {A : Type 0} (b : Bool) → (b ≡ true → A) → (b ≡ false → A) → A

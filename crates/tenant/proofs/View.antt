@@ -11,7 +11,7 @@ use Rattle.net.specs.Choice.{choose}
 use Rattle.net.specs.Records.{zeroNode, nodeAt, withNode}
 use Rattle.net.proofs.Laws.{choose-true, choose-false}
 use Rattle.step.specs.Pick.{unchanged, performed, opened}
-use Rattle.run.specs.Types.{Node, Net, Answer, Picked}
+use Rattle.tenant.specs.Types.{Node, Net, Answer, Picked}
 
 -- ---- the nodes
 unfoldable pub blanked : (ℕ → Bool) → List Node → List Node

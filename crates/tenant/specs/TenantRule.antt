@@ -7,8 +7,8 @@ use Rattle.net.specs.Choice.{choose}
 use Rattle.net.specs.Records.{nodeAt, rightsAt, noRights}
 use Rattle.image.specs.Image.{openedOf}
 use Rattle.step.specs.Pick.{hostOf}
-use Rattle.run.specs.Types.{Row, Node, Net, Reading, Answer}
+use Rattle.tenant.specs.Types.{Row, Node, Net, Reading, Answer}
 use Rattle.run.specs.Run.{Ran, Outcome, ran, runOf}
 
 -- the picks that are not of a tenant's address, in use or not, well formed or not
 unfoldable pub struck : (ℕ → Bool) → List ℕ → List ℕ

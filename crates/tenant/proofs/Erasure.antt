@@ -12,11 +12,11 @@ use Rattle.step.specs.Request.{granted}
 use Rattle.step.specs.Pick.{hostOf, unchanged, performed, withHost, stopped, added, out, taken, inFound, input}
 use Rattle.step.specs.Pick.{readFound, read, startedIn, eval, fork, created, create, done, acting}
 use Rattle.step.specs.Pick.{processStep, slotStep, stepOf}
-use Rattle.run.specs.Types.{Place, Tuple, Process, Slot, Net, Evaluated, Found, Request, Answer}
-use Rattle.run.specs.Types.{Rights, Picked}
-use Rattle.run.proofs.View.{view, view-addresses, view-code, view-node, view-out, view-in, view-opened}
-use Rattle.run.proofs.View.{seen, seen-choose, seen-unchanged, seen-performed}
-use Rattle.run.proofs.Fence.{Fence, tested, never, new-outside}
+use Rattle.tenant.specs.Types.{Place, Tuple, Process, Slot, Net, Evaluated, Found, Request, Answer}
+use Rattle.tenant.specs.Types.{Rights, Picked}
+use Rattle.tenant.proofs.View.{view, view-addresses, view-code, view-node, view-out, view-in, view-opened}
+use Rattle.tenant.proofs.View.{seen, seen-choose, seen-unchanged, seen-performed}
+use Rattle.tenant.proofs.Fence.{Fence, tested, never, new-outside}
 
 -- the sides of a choice may be equal under its test only
 choose-both : {A : Type 0} (b : Bool) (x x′ y y′ : A) → (b ≡ true → x ≡ x′) → y ≡ y′ → choose b x y ≡ choose b x′ y′

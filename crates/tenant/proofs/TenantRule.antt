@@ -17,12 +17,12 @@ use Rattle.net.proofs.Laws.{both-l, both-r}
 use Rattle.image.proofs.AcceptedSound.{accepted-is-sound}
 use Rattle.step.proofs.SoundFacts.{pastRights, sound-apart}
 use Rattle.step.proofs.SoundChanges.{node-at}
-use Rattle.run.specs.Types.{Rights, Node, Net, Reading}
+use Rattle.tenant.specs.Types.{Rights, Node, Net, Reading}
 use Rattle.run.specs.Run.{Ran, ran, ranFrom, runIn, runOf}
-use Rattle.run.specs.TenantRule.{Fenced, Agree, TenantRule}
-use Rattle.run.proofs.Fence.{Fence}
+use Rattle.tenant.specs.TenantRule.{Fenced, Agree, TenantRule}
+use Rattle.tenant.proofs.Fence.{Fence}
 use Rattle.run.proofs.Whole.{Whole, whole-shaped, opened-whole}
-use Rattle.run.proofs.TenantOfNets.{same-node, tenant-of-nets}
+use Rattle.tenant.proofs.TenantOfNets.{same-node, tenant-of-nets}
 
 -- ---- what stands past the end, and where there is no right
 past : {A : Type 0} (xs : List A) (i : ℕ) (d : A) → length xs ≤ i → getD xs i d ≡ d

@@ -1,0 +1,5 @@
+pub mod Erasure
+pub mod Fence
+pub mod TenantOfNets
+pub mod TenantRule
+pub mod View

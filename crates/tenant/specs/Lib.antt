@@ -1,0 +1,2 @@
+pub mod TenantRule
+pub mod Types

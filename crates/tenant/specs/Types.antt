@@ -1,0 +1,15 @@
+-- The types of the crates below that the definitions of this crate speak of.
+pub use Rattle.net.specs.declared.locality.Place.{Place}
+pub use Rattle.net.specs.declared.tuple.Tuple.{Tuple}
+pub use Rattle.net.specs.declared.policy.Rights.{Rights}
+pub use Rattle.net.specs.declared.policy.Row.{Row}
+pub use Rattle.net.specs.declared.process.Process.{Process}
+pub use Rattle.net.specs.declared.node.Node.{Node}
+pub use Rattle.net.specs.declared.node.Slot.{Slot}
+pub use Rattle.net.specs.declared.network.Net.{Net}
+pub use Rattle.net.specs.declared.matching.Evaluated.{Evaluated}
+pub use Rattle.net.specs.declared.matching.Found.{Found}
+pub use Rattle.image.specs.declared.reader.Answer.{Answer as Reading}
+pub use Rattle.step.specs.declared.request.Request.{Request}
+pub use Rattle.step.specs.declared.answer.Answer.{Answer}
+pub use Rattle.step.specs.declared.answer.Picked.{Picked}
