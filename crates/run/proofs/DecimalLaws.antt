@@ -1,10 +1,13 @@
 -- Laws of decimal numbers (`specs/Register.antt`). Assumes nothing.
-use Prim.Native.Nat.{ℕ, zero, suc, _+_, _-_, _/_, _%_, _<_, _≤_}
+use Prim.Native.Nat.{ℕ, zero, suc, _*_, _/_, _%_, _^_, _<_, _≤_}
 use mathlib.Core.Path.{_≡_, refl, sym, ap, subst, _∙_}
 use mathlib.Core.Bool.{Bool, true, false}
 use mathlib.Core.List.{List, [], _∷_, _++_}
 use native.Mathlib.Omega.{arith}
+use native.Mathlib.Nat.{pow-suc}
 use lib.Dec.{ltb}
+use mir.Syntax.{w64}
+use mir.Val.{Fits}
 use borrow.Author.Tests.{lt-ltb, le-ltb, ltb-true, ltb-false}
 use Rattle.net.specs.Choice.{choose}
 use Rattle.net.proofs.Laws.{choose-true, choose-false}
@@ -21,17 +24,13 @@ alike n x y z f = go (ltb n 10) refl
     go true e = choose-true _ _ _ (sym e) ∙ sym (choose-true _ _ _ (sym e))
     go false e = ap (choose (ltb n 10) x) (f (ltb-false n 10 (sym e)))
 
--- one more digit allowed than a number can have makes no difference
-digits-more : (k n : ℕ) → n < k → digits k n ≡ digits (suc k) n
+-- one more digit allowed than a number has makes no difference
+digits-more : (k n : ℕ) → n < 10 ^ suc k → digits (suc k) n ≡ digits (suc (suc k)) n
 unfolding digits
-digits-more zero n h = absurd (omega arith)
+digits-more zero n h = alike n _ _ _ (λ l. absurd (omega arith))
 digits-more (suc k) n h =
-    alike n _ _ _ (λ l. ap (λ (ds : List ℕ). ds ++ digit (n % 10) ∷ []) (digits-more k (n / 10) (omega arith)))
-
-digits-plus : (j k n : ℕ) → n < k → digits k n ≡ digits (j + k) n
-digits-plus zero k n h = ap (λ (i : ℕ). digits i n) (omega arith)
-digits-plus (suc j) k n h =
-    digits-plus j k n h ∙ digits-more (j + k) n (omega arith) ∙ ap (λ (i : ℕ). digits i n) (omega arith)
+    let power : 10 ^ suc (suc k) ≡ 10 ^ suc k * 10 = pow-suc 10 (suc k) in
+    alike n _ _ _ (λ l. ap (λ (ds : List ℕ). ds ++ digit (n % 10) ∷ []) (digits-more k (n / 10) (omega (arith, power))))
 
 -- a number below 10 is its digit
 pub decimal-digit : (n : ℕ) → n < 10 → digit n ∷ [] ≡ decimal n
@@ -39,12 +38,10 @@ unfolding decimal digits
 decimal-digit n h = sym (choose-true _ _ _ (lt-ltb n 10 h))
 
 -- any other ends with a digit
-pub decimal-more : (n : ℕ) → 10 ≤ n → decimal (n / 10) ++ digit (n % 10) ∷ [] ≡ decimal n
+pub decimal-more : (n : ℕ) → 10 ≤ n → n < 2 ^ 64 → decimal (n / 10) ++ digit (n % 10) ∷ [] ≡ decimal n
 unfolding decimal digits
-decimal-more n h =
-    ap (λ (ds : List ℕ). ds ++ digit (n % 10) ∷ [])
-    (let whole : n - suc (n / 10) + suc (n / 10) ≡ n = omega arith in
-    digits-plus (n - suc (n / 10)) (suc (n / 10)) (n / 10) (omega arith) ∙ ap (λ (i : ℕ). digits i (n / 10)) whole)
+decimal-more n h l =
+    ap (λ (ds : List ℕ). ds ++ digit (n % 10) ∷ []) (sym (digits-more 18 (n / 10) (omega arith)))
     ∙ sym (choose-false _ _ _ (le-ltb n 10 h))
 
 -- ---- as they are written
@@ -53,7 +50,7 @@ module _ (xs : List ℕ) (at n : ℕ) where
   wrote-digit ys r h w = subst (λ (t : List ℕ). Wrote xs at t ys r) (decimal-digit n h) w
 
   pub wrote-digits :
-      (ys zs : List ℕ) (r q : ℕ) → 10 ≤ n → Wrote xs at (decimal (n / 10)) ys r → Wrote ys r (digit (n % 10) ∷ []) zs q
+      (ys zs : List ℕ) (r q : ℕ) → 10 ≤ n → Fits w64 n → Wrote xs at (decimal (n / 10)) ys r → Wrote ys r (digit (n % 10) ∷ []) zs q
       → Wrote xs at (decimal n) zs q
-  wrote-digits ys zs r q h w v =
-      subst (λ (t : List ℕ). Wrote xs at t zs q) (decimal-more n h) (wrote-then xs at _ _ _ _ _ _ w v)
+  wrote-digits ys zs r q h f w v =
+      subst (λ (t : List ℕ). Wrote xs at t zs q) (decimal-more n h (f .fits)) (wrote-then xs at _ _ _ _ _ _ w v)

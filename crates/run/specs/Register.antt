@@ -24,9 +24,9 @@ unfoldable pub digits : ℕ → ℕ → List ℕ
 digits zero n = []
 digits (suc k) n = choose (ltb n 10) (digit n ∷ []) (digits k (n / 10) ++ digit (n % 10) ∷ [])
 
--- plain decimal: a number n has no more than n + 1 digits
+-- plain decimal: 20 digits are enough for every number of 64 bits
 unfoldable pub decimal : ℕ → List ℕ
-decimal n = digits (suc n) n
+decimal n = digits 20 n
 
 -- a reading, with a minus (45) below nought
 unfoldable pub signedDecimal : ℤ → List ℕ

@@ -1,0 +1,93 @@
+-- The starred edges of document 01 ("Edges, those with * to be proved") as one claim about the definitions: what the
+-- register says of an image and its picks. The images are those of edges.bin, which the program works through as well.
+use Prim.Native.Nat.{ℕ}
+use Prim.Native.Char.{code}
+use Prim.Native.String.{String, [] as empty, _∷_ as _then_}
+use mathlib.Core.List.{List, [], _∷_}
+use mathlib.Core.Path.{_≡_}
+use Rattle.run.specs.Register.{registerOf}
+
+-- the bytes of a text
+unfoldable pub bytes : String → List ℕ
+bytes empty = []
+bytes (c then s) = code c ∷ bytes s
+
+pub record StarredEdges : Type 0 where
+  -- No bytes: 28.
+  pub no-bytes :
+      registerOf
+      ([])
+      ([])
+      ≡ bytes "refused 28\n"
+  -- 10 80 20 00 00: accepted.
+  pub one-stop :
+      registerOf
+      (16 ∷ 128 ∷ 32 ∷ 0 ∷ 0 ∷ [])
+      ([])
+      ≡ bytes "net 1 1\nnode 0 0 0\n"
+  -- The register's image with third byte 40: 30.
+  pub no-put :
+      registerOf
+      (16 ∷ 128 ∷ 64 ∷ 32 ∷ 0 ∷ 20 ∷ 0 ∷ 0 ∷ 0 ∷ 0 ∷ 160 ∷ 16 ∷ [])
+      ([])
+      ≡ bytes "refused 30\n"
+  -- The register's run.
+  pub listing :
+      registerOf
+      (16 ∷ 128 ∷ 66 ∷ 32 ∷ 0 ∷ 20 ∷ 0 ∷ 0 ∷ 0 ∷ 0 ∷ 160 ∷ 16 ∷ [])
+      (0 ∷ 0 ∷ 0 ∷ [])
+      ≡ bytes "net 1 2\npick 1 0 0 0\npick 2 0 0 1\npick 3 0 0 7\nnode 0 1 0\ntuple 0 5\n"
+  -- Reading bits all ones: -1.
+  pub all-ones :
+      registerOf
+      (16 ∷ 128 ∷ 66 ∷ 32 ∷ 0 ∷ 143 ∷ 255 ∷ 255 ∷ 255 ∷ 242 ∷ 131 ∷ 255 ∷ 255 ∷ 255 ∷ 252 ∷ 2 ∷ 0 ∷ [])
+      (0 ∷ [])
+      ≡ bytes "net 1 2\npick 1 0 0 0\nnode 0 2 1\ntuple 0 -1\ntuple 0 -1\n"
+  -- Only the first bit set: -2147483648.
+  pub first-bit :
+      registerOf
+      (16 ∷ 128 ∷ 66 ∷ 32 ∷ 0 ∷ 136 ∷ 0 ∷ 0 ∷ 0 ∷ 2 ∷ 130 ∷ 0 ∷ 0 ∷ 0 ∷ 0 ∷ 2 ∷ 0 ∷ [])
+      (0 ∷ [])
+      ≡ bytes "net 1 2\npick 1 0 0 0\nnode 0 2 1\ntuple 0 -2147483648\ntuple 0 -2147483648\n"
+  -- An in at self, i held, no tuple: 2.
+  pub nothing-to-take :
+      registerOf
+      (16 ∷ 128 ∷ 72 ∷ 32 ∷ 0 ∷ 36 ∷ 128 ∷ 2 ∷ 0 ∷ [])
+      (0 ∷ [])
+      ≡ bytes "net 1 2\npick 1 0 0 2\nnode 0 0 1\n"
+  -- Out to 16 tuples: 3.
+  pub full :
+      registerOf
+      (16 ∷ 128 ∷ 66 ∷ 32 ∷ 8 ∷ 0 ∷ 0 ∷ 0 ∷ 0 ∷ 16 ∷ 0 ∷ 0 ∷ 0 ∷ 4 ∷ 0 ∷ 0 ∷ 0 ∷ 0 ∷ 192 ∷ 0 ∷ 0 ∷ 0 ∷
+      32 ∷ 0 ∷ 0 ∷ 0 ∷ 5 ∷ 0 ∷ 0 ∷ 0 ∷ 0 ∷ 192 ∷ 0 ∷ 0 ∷ 0 ∷ 28 ∷ 0 ∷ 0 ∷ 0 ∷ 4 ∷ 0 ∷ 0 ∷ 0 ∷ 0 ∷ 144 ∷
+      0 ∷ 0 ∷ 0 ∷ 20 ∷ 0 ∷ 0 ∷ 0 ∷ 2 ∷ 192 ∷ 0 ∷ 0 ∷ 0 ∷ 96 ∷ 0 ∷ 0 ∷ 0 ∷ 13 ∷ 0 ∷ 0 ∷ 0 ∷ 1 ∷ 192 ∷ 0 ∷
+      0 ∷ 0 ∷ 60 ∷ 0 ∷ 0 ∷ 0 ∷ 8 ∷ 20 ∷ 0 ∷ 0 ∷ 0 ∷ 12 ∷ 128 ∷ 16 ∷ [])
+      (0 ∷ [])
+      ≡ bytes "net 1 2\npick 1 0 0 3\nnode 0 16 1\ntuple 0 1\ntuple 0 2\ntuple 0 3\ntuple 0 4\ntuple 0 5\ntuple 0 6\ntuple 0 7\ntuple 0 8\ntuple 0 9\ntuple 0 10\ntuple 0 11\ntuple 0 12\ntuple 0 13\ntuple 0 14\ntuple 0 15\ntuple 0 16\n"
+  -- Out to 15: 0.
+  pub room :
+      registerOf
+      (16 ∷ 128 ∷ 66 ∷ 32 ∷ 7 ∷ 128 ∷ 0 ∷ 0 ∷ 0 ∷ 16 ∷ 0 ∷ 0 ∷ 0 ∷ 4 ∷ 0 ∷ 0 ∷ 0 ∷ 0 ∷ 192 ∷ 0 ∷ 0 ∷ 0 ∷
+      32 ∷ 0 ∷ 0 ∷ 0 ∷ 5 ∷ 0 ∷ 0 ∷ 0 ∷ 0 ∷ 192 ∷ 0 ∷ 0 ∷ 0 ∷ 28 ∷ 0 ∷ 0 ∷ 0 ∷ 4 ∷ 0 ∷ 0 ∷ 0 ∷ 0 ∷ 144 ∷
+      0 ∷ 0 ∷ 0 ∷ 20 ∷ 0 ∷ 0 ∷ 0 ∷ 2 ∷ 192 ∷ 0 ∷ 0 ∷ 0 ∷ 96 ∷ 0 ∷ 0 ∷ 0 ∷ 13 ∷ 0 ∷ 0 ∷ 0 ∷ 1 ∷ 192 ∷ 0 ∷
+      0 ∷ 0 ∷ 60 ∷ 160 ∷ 0 ∷ 0 ∷ 0 ∷ 100 ∷ 0 ∷ 128 ∷ [])
+      (0 ∷ [])
+      ≡ bytes "net 1 2\npick 1 0 0 0\nnode 0 16 1\ntuple 0 1\ntuple 0 2\ntuple 0 3\ntuple 0 4\ntuple 0 5\ntuple 0 6\ntuple 0 7\ntuple 0 8\ntuple 0 9\ntuple 0 10\ntuple 0 11\ntuple 0 12\ntuple 0 13\ntuple 0 14\ntuple 0 15\ntuple 0 100\n"
+  -- Row with i but not r, read at a variable holding self: 4.
+  pub barred :
+      registerOf
+      (16 ∷ 128 ∷ 104 ∷ 32 ∷ 1 ∷ 16 ∷ 0 ∷ 0 ∷ 0 ∷ 0 ∷ 105 ∷ 40 ∷ 0 ∷ 184 ∷ 16 ∷ 128 ∷ 128 ∷ [])
+      (0 ∷ 0 ∷ [])
+      ≡ bytes "net 1 3\npick 1 0 0 0\npick 2 0 0 4\nnode 0 1 1\ntuple 0 3\n"
+  -- Formal reading against an address field: 2.
+  pub other-sort :
+      registerOf
+      (16 ∷ 128 ∷ 72 ∷ 32 ∷ 0 ∷ 144 ∷ 73 ∷ 0 ∷ 4 ∷ 0 ∷ [])
+      (0 ∷ [])
+      ≡ bytes "net 1 2\npick 1 0 0 2\nnode 0 1 1\ntuple 0 @0\n"
+  -- Two tuples fit: the older is taken, the younger stays.
+  pub oldest :
+      registerOf
+      (16 ∷ 128 ∷ 72 ∷ 32 ∷ 1 ∷ 0 ∷ 0 ∷ 0 ∷ 0 ∷ 112 ∷ 0 ∷ 0 ∷ 0 ∷ 16 ∷ 146 ∷ 0 ∷ 8 ∷ [])
+      (0 ∷ [])
+      ≡ bytes "net 1 2\npick 1 0 0 0\nnode 0 1 1\ntuple 0 8\n"
