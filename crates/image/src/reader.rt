@@ -158,7 +158,7 @@ fn admits_at(net: Net, i: usize) -> bool
 }
 
 // Whether each starting process keeps within the row of its node.
-fn admitted(net: Net) -> bool
+pub fn admitted(net: Net) -> bool
     ensures { λ r. ⌜ r ≡ admits net ⌝ }
 {
     let mut ok = true;

@@ -61,7 +61,7 @@ module _ (bits : List Bool) (p : ℕ) where
   bit-below : (j : ℕ) → bit j < 2
   bit-below j = digit-small (getD bits (p + j) false)
 
-  number-small : (w : ℕ) → numberIn bits p w < 2 ^ w
+  pub number-small : (w : ℕ) → numberIn bits p w < 2 ^ w
   unfolding numberIn
   number-small zero = omega arith
   number-small (suc w) = let h = number-small w in let g = bit-below w in omega arith
@@ -89,7 +89,7 @@ module _ (f : ℕ → ℕ) where
   abbrev listed : ℕ → List ℕ
   listed n = joined n (λ i. f i ∷ [])
 
-  listed-length : (n : ℕ) → length (listed n) ≡ n
+  pub listed-length : (n : ℕ) → length (listed n) ≡ n
   unfolding joined
   listed-length zero = refl
   listed-length (suc n) =

@@ -1,0 +1,16 @@
+-- `writer::bits::put_bit` meets its contract. Assumes nothing.
+use Rattle.writer.proofs.WritingLaws.{wrote-bit, wrote-past}
+use borrow.Author.Needs.{needs}
+use Rattle.writer.proofs.bits.put_bit.Statement.{statement}
+use Rattle.writer.proofs.bits.put_bit.Tie as tie
+
+pub put-bit-spec : {M : Type 1} → statement M
+put-bit-spec =
+    tie.close
+    (tie.spec
+    (λ c. search needs)
+    (λ c. search needs)
+    (λ c. search needs)
+    (λ c. search needs)
+    (λ c. search (needs, wrote-bit))
+    (λ c. search (needs, wrote-past)))

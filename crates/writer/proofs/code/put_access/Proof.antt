@@ -1,0 +1,16 @@
+-- `writer::code::put_access` meets its contract. Assumes nothing.
+use Rattle.writer.proofs.WritingLaws.{wrote-then}
+use borrow.Author.Needs.{needs}
+use Rattle.writer.proofs.code.put_access.Statement.{statement}
+use Rattle.writer.proofs.code.put_access.Tie as tie
+
+pub put-access-spec : {M : Type 1} → statement M
+put-access-spec =
+    tie.close
+    (tie.spec
+    (λ c κs. search needs)
+    (λ c κs. search needs)
+    (λ c κs. search needs)
+    (λ c κs. search needs)
+    (λ c. search needs)
+    (λ c. search (needs, wrote-then)))

@@ -1,0 +1,12 @@
+-- `writer::fresh::busy_where` meets its contract. Assumes nothing.
+use Rattle.net.proofs.Laws.{branches}
+use borrow.Author.Needs.{needs}
+use Rattle.writer.proofs.fresh.busy_where.Statement.{statement}
+use Rattle.writer.proofs.fresh.busy_where.Tie as tie
+
+pub busy-where-spec : {M : Type 1} → statement M
+busy-where-spec =
+    tie.close
+    (tie.spec
+    (λ c. search (needs, branches))
+    (λ c. search (needs, branches)))

@@ -1,0 +1,17 @@
+-- `writer::fresh::is_unset` meets its contract. Assumes nothing.
+use Rattle.net.specs.Soundness.{isUnset}
+use borrow.Author.Needs.{needs}
+use Rattle.writer.proofs.fresh.is_unset.Statement.{statement}
+use Rattle.writer.proofs.fresh.is_unset.Tie as tie
+
+pub is-unset-spec : {M : Type 1} → statement M
+unfolding isUnset
+is-unset-spec =
+    tie.close
+    (tie.spec
+    (λ c. search needs)
+    (λ c. search needs)
+    (λ c. search needs)
+    (λ c. cc)
+    (λ c. cc)
+    (λ c. cc))

@@ -1,0 +1,14 @@
+-- `writer::nodes::put_address_item` meets its contract. Assumes nothing.
+use Rattle.writer.proofs.WritingLaws.{wrote-bit-then}
+use borrow.Author.Needs.{needs}
+use Rattle.writer.proofs.nodes.put_address_item.Statement.{statement}
+use Rattle.writer.proofs.nodes.put_address_item.Tie as tie
+
+pub put-address-item-spec : {M : Type 1} → statement M
+put-address-item-spec =
+    tie.close
+    (tie.spec
+    (λ c κs. search needs)
+    (λ c κs. search needs)
+    (λ c. search needs)
+    (λ c. search (needs, wrote-bit-then)))

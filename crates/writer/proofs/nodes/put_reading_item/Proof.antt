@@ -1,0 +1,15 @@
+-- `writer::nodes::put_reading_item` meets its contract. Assumes nothing.
+use Rattle.writer.proofs.SignedLaws.{reading-back}
+use Rattle.writer.proofs.WritingLaws.{wrote-bit-then}
+use borrow.Author.Needs.{needs}
+use Rattle.writer.proofs.nodes.put_reading_item.Statement.{statement}
+use Rattle.writer.proofs.nodes.put_reading_item.Tie as tie
+
+pub put-reading-item-spec : {M : Type 1} → statement M
+put-reading-item-spec =
+    tie.close
+    (tie.spec
+    (λ c κs. search needs)
+    (λ c κs. search needs)
+    (λ c. search needs)
+    (λ c. search (needs, wrote-bit-then, reading-back)))

@@ -1,0 +1,16 @@
+-- `writer::nodes::put_row` meets its contract. Assumes nothing.
+use Rattle.writer.proofs.WritingLaws.{wrote-bit-then}
+use Rattle.writer.specs.ImageOf.{rowBits}
+use borrow.Author.Needs.{needs}
+use Rattle.writer.proofs.nodes.put_row.Statement.{statement}
+use Rattle.writer.proofs.nodes.put_row.Tie as tie
+
+pub put-row-spec : {M : Type 1} → statement M
+unfolding rowBits
+put-row-spec =
+    tie.close
+    (tie.spec
+    (λ c κs. search needs)
+    (λ c κs. search needs)
+    (λ c. search needs)
+    (λ c. search (needs, wrote-bit-then)))

@@ -1,0 +1,16 @@
+-- `writer::pack::put_parts` meets its contract. Assumes nothing.
+use Rattle.writer.proofs.WritingLaws.{wrote-then}
+use borrow.Author.Needs.{needs}
+use Rattle.writer.proofs.pack.put_parts.Statement.{statement}
+use Rattle.writer.proofs.pack.put_parts.Tie as tie
+
+pub put-parts-spec : {M : Type 1} → statement M
+put-parts-spec =
+    tie.close
+    (tie.spec
+    (λ c κs. search needs)
+    (λ c κs. search needs)
+    (λ c κs. search needs)
+    (λ c κs. search needs)
+    (λ c. search needs)
+    (λ c. search (needs, wrote-then)))
