@@ -22,11 +22,16 @@ pub fn start(name: &str) -> Child {
     started(name, command.spawn())
 }
 
-/// What the program `register` prints in a directory. A missing program,
-/// or one that does not end well, is a failure.
+/// What the program `register` prints in a directory.
 pub fn print_register(directory: &Path) -> Vec<u8> {
-    let output = printed_in(directory, &mut Command::new(program("register")));
-    started("register", output)
+    printed_by("register", directory)
+}
+
+/// What a program of the repository prints in a directory. A missing
+/// program, or one that does not end well, is a failure.
+pub fn printed_by(name: &str, directory: &Path) -> Vec<u8> {
+    let output = printed_in(directory, &mut Command::new(program(name)));
+    started(name, output)
 }
 
 /// What a command prints in a directory, without input. One that does not

@@ -1,0 +1,60 @@
+//! The proved writer beside the model's: `repack` reads an image and writes
+//! its net as an image again.
+
+use cavindorum_tests::by_hand::longest;
+use cavindorum_tests::examples::examples;
+use cavindorum_tests::generate::{damaged_image, valid_image};
+use cavindorum_tests::image::{read_image, write_image};
+use cavindorum_tests::program::{printed_by, TestDirectory};
+use cavindorum_tests::random::Random;
+
+fn repacked(image: &[u8]) -> Vec<u8> {
+    let directory = TestDirectory::with(Some(image), None);
+    printed_by("repack", &directory.path)
+}
+
+/// What the model writes for a net is what the proved writer writes for it.
+#[test]
+fn random_nets() {
+    let mut random = Random::new(0x5EED_0006);
+    let mut accepted = 0;
+    while accepted < 1_000 {
+        let image = valid_image(&mut random);
+        if read_image(&image).is_ok() {
+            assert!(repacked(&image) == image, "{image:02X?}");
+            accepted += 1;
+        }
+    }
+}
+
+/// The examples' images are those that the proved writer makes.
+#[test]
+fn the_examples() {
+    for example in examples() {
+        let image = write_image(&example.net);
+        assert!(repacked(&image) == image, "{}", example.name);
+    }
+}
+
+/// The longest image there is.
+#[test]
+fn the_longest_image() {
+    let image = write_image(&longest());
+    assert_eq!(image.len(), 14_749);
+    assert!(repacked(&image) == image);
+}
+
+/// A refused image gives the empty net, which no image has.
+#[test]
+fn refused_images() {
+    let mut random = Random::new(0x5EED_0106);
+    for _ in 0..300 {
+        let image = damaged_image(&mut random);
+        let expected = if read_image(&image).is_ok() {
+            image.clone()
+        } else {
+            Vec::new()
+        };
+        assert!(repacked(&image) == expected, "{image:02X?}");
+    }
+}
