@@ -9,11 +9,11 @@ use run::register::register;
 ghost use mathlib.Core.Path.{_≡_};
 ghost use lib.ListN.{length};
 
-// Room for every register.
-fn room() -> [u8; 1260000]
-    ensures { λ r. ⌜ 1260000 ≡ length r ⌝ }
+// Room for every register (proved: `LongestRegister`).
+fn room() -> [u8; 1300000]
+    ensures { λ r. ⌜ 1300000 ≡ length r ⌝ }
 {
-    [0; 1260000]
+    [0; 1300000]
 }
 
 // Prints the register, made in the lent buffer.

@@ -10,4 +10,4 @@ count : (n : ℕ) → n ≡ length {A = ℕ} (replicate n 0)
 count n = sym (length-replicate n 0)
 
 pub room-spec : {M : Type 1} → statement M
-room-spec = tie.close (tie.spec (λ c. count 1260000))
+room-spec = tie.close (tie.spec (λ c. count 1300000))
