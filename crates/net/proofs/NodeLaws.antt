@@ -4,10 +4,14 @@ use mathlib.Core.Path.{_≡_, refl, sym, ap, _∙_}
 use mathlib.Core.Bool.{Bool, true, false, not}
 use mathlib.Core.List.{List}
 use native.Mathlib.Omega.{arith}
+use lib.Dec.{ltb}
 use lib.ListN.{length, set}
 use lib.Seq.{set-out}
-use Rattle.net.specs.Choice.{fold}
-use Rattle.net.specs.Records.{Tuple, Rights, Row, Process, Node, withRights, withProcess, afterTaking, withoutTuple}
+use borrow.Author.Tests.{ltb-true}
+use Rattle.net.specs.Choice.{choose, fold}
+use Rattle.net.specs.Records.{Tuple, Rights, Row, Process, Node, tupleAt, zeroTuple, withRights, withProcess}
+use Rattle.net.specs.Records.{afterTaking, withoutTuple}
+use Rattle.net.proofs.Laws.{choose-false}
 use Rattle.net.proofs.FoldLaws.{fold-none, fold-more, fold-end}
 
 -- a store past the last place changes nothing
@@ -30,6 +34,17 @@ pub record Taking (x : Node) (i : ℕ) (node : Node) (j : ℕ) : Type 0 where
 module _ (x : Node) (i : ℕ) where
   pub taking-none : (n : ℕ) → n ≡ x .stored - 1 → Taking x i (record { row = x .row; processes = x .processes; stored = n; tuples = x .tuples }) 0
   taking-none n e = record { low = omega arith; row = refl; processes = refl; stored = e; tuples = fold-none _ (x .tuples) (x .tuples) refl }
+
+  -- what moves up is the tuple at the next place
+  pub taking-next : (j above : ℕ) (t : Tuple) → (j < 15 → above ≡ j + 1)
+      → t ≡ choose (ltb j i) (tupleAt x j) (choose (ltb j 15) (tupleAt x above) zeroTuple) → t ≡ afterTaking x i j
+  unfolding afterTaking
+  taking-next j above t h e = e ∙ ap (choose (ltb j i) (tupleAt x j)) (go (ltb j 15) refl)
+    where
+      go : (b : Bool) → ltb j 15 ≡ b
+          → choose (ltb j 15) (tupleAt x above) zeroTuple ≡ choose (ltb j 15) (tupleAt x (j + 1)) zeroTuple
+      go true q = ap (λ (k : ℕ). choose (ltb j 15) (tupleAt x k) zeroTuple) (h (ltb-true j 15 q))
+      go false q = choose-false _ _ _ q ∙ sym (choose-false _ _ _ q)
 
   pub taking-more : (node : Node) (j : ℕ) (t : Tuple) → Taking x i node j → j < 16 → t ≡ afterTaking x i j
       → Taking x i (record { row = node .row; processes = node .processes; stored = node .stored; tuples = set (node .tuples) j t }) (j + 1)

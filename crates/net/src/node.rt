@@ -2,9 +2,11 @@
 use crate::policy::Row;
 use crate::process::Process;
 use crate::tuple::Tuple;
-ghost use Prim.Native.Nat.{_-_, _<_};
+ghost use Prim.Native.Nat.{_+_, _-_, _<_};
 ghost use mathlib.Core.Path.{_≡_};
-ghost use Rattle.net.specs.Records.{zeroNode, withTuple, withRow, withProcess, afterTaking, withoutTuple, freeSlot};
+ghost use lib.Dec.{ltb};
+ghost use Rattle.net.specs.Choice.{choose};
+ghost use Rattle.net.specs.Records.{zeroTuple, zeroNode, withTuple, withRow, withProcess, withoutTuple, freeSlot};
 
 // A node: its policy, its process slots and its tuple space, oldest tuple first.
 pub struct Node {
@@ -70,20 +72,6 @@ impl Node {
         }
     }
 
-    // What stands at place j once the tuple at place i is taken.
-    fn after_taking(self, i: usize, j: usize) -> Tuple
-        requires { ⌜ j < 16 ⌝ }
-        ensures { λ r. ⌜ r ≡ afterTaking self i j ⌝ }
-    {
-        if j < i {
-            self.tuples[j]
-        } else if j < 15 {
-            self.tuples[j + 1]
-        } else {
-            Tuple::zero()
-        }
-    }
-
     // The node without the tuple at place i: the younger ones move up.
     pub fn without_tuple(self, i: usize) -> Node
         ensures { λ r. ⌜ r ≡ withoutTuple self i ⌝ }
@@ -92,7 +80,10 @@ impl Node {
         node.stored = one_less(self.stored);
         let mut j = 0;
         while j < 16 {
-            let t = self.after_taking(i, j);
+            let above = place_above(j);
+            let here = self.tuples[j];
+            let next = self.tuples[above];
+            let t = after_taking(i, j, here, next);
             node.tuples[j] = t;
             j += 1;
         }
@@ -120,4 +111,24 @@ fn one_less(n: usize) -> usize
     ensures { λ r. ⌜ r ≡ n - 1 ⌝ }
 {
     if 0 < n { n - 1 } else { 0 }
+}
+
+// The place after j; the last place after itself.
+fn place_above(j: usize) -> usize
+    ensures { λ r. ⌜ (r < 16) × (j < 15 → r ≡ j + 1) ⌝ }
+{
+    if j < 15 { j + 1 } else { 15 }
+}
+
+// What stands at place j once the tuple at place i is taken, of the tuples there and at the next place.
+fn after_taking(i: usize, j: usize, here: Tuple, next: Tuple) -> Tuple
+    ensures { λ r. ⌜ r ≡ choose (ltb j i) here (choose (ltb j 15) next zeroTuple) ⌝ }
+{
+    if j < i {
+        here
+    } else if j < 15 {
+        next
+    } else {
+        Tuple::zero()
+    }
 }

@@ -15,7 +15,7 @@ use Rattle.net.specs.Matching.{evaluatedOf}
 use Rattle.net.proofs.Laws.{choose-true, choose-false, both-l, both-r}
 use Rattle.step.specs.Pick.{hostOf, slotOf, spareOf, stepOf, slotStep, processStep, unchanged}
 use Rattle.step.specs.Request.{requestOf}
-use Rattle.step.specs.Plan.{planOf, Planned, still, changes, putBack, hosted, grown, grownCount, hostAfter, effectOn}
+use Rattle.step.specs.Plan.{planOf, Planned, still, changes, putBack, effectOn, hostAfter, grownCount}
 use Rattle.step.specs.Plan.{targetIndex, sentWithin}
 use Rattle.step.proofs.PickLaws.{process-step-is, opens, put-is, put-nothing}
 use Rattle.step.proofs.SoundFacts.{pastNode, pastInstruction, sound-apart}
@@ -24,7 +24,7 @@ use Rattle.step.specs.Shape.{Shaped}
 use Rattle.net.specs.Soundness.{soundOf}
 use borrow.Author.Tests.{ltb-true}
 use Rattle.run.specs.Types.{Row, Process, Node, Instruction, Net, Evaluated, Request, Answer, Picked, Plan, Effect}
-use Rattle.run.specs.Turn.{ready, refusal, met, turnPlan, sendsCode, hostNext, targetNext, countNext}
+use Rattle.run.specs.Turn.{ready, refusal, met, turnPlan, sendsCode, actsOn}
 use Rattle.run.specs.Drawn.{Drawn, Indexed}
 
 pub either : {A B C : Type 0} → (A → C) → (B → C) → A ⊎ B → C
@@ -60,32 +60,42 @@ nothing-sent code r (Request.Eval l sent q) x e h = absurd (true-not-false (sym 
 nothing-sent code r (Request.New v q) x e h = refl
 nothing-sent code r (Request.Fork q q′) x e h = refl
 
--- ---- the plan put back: the host is stored, then the target
-module _ (s : Net) (a k l : ℕ) (plan : Plan) (host target : Node) (n : ℕ) where
-  pub put-next :
-      host ≡ hostNext plan k (nodeAt s a)
-      → target ≡ targetNext plan (getD (set (s .nodes) a host) l pastNode)
-      → n ≡ countNext plan (s .addresses)
-      → record { addresses = n; length = s .length; nodes = set (set (s .nodes) a host) l target; code = s .code }
-      ≡ putBack s a k l plan
-  unfolding hostNext targetNext countNext nodeAt
-  put-next h t c = go (changes (plan .answer)) refl
-    where
-      go : (b : Bool) → b ≡ changes (plan .answer)
-          → record { addresses = n; length = s .length; nodes = set (set (s .nodes) a host) l target; code = s .code }
-          ≡ putBack s a k l plan
-      go true e =
-          put-is s a k l plan true host target n refl e (h ∙ choose-true _ _ _ (sym e)) (c ∙ choose-true _ _ _ (sym e))
-          (t ∙ choose-true _ _ _ (sym e))
-      go false e =
-          let host-is = h ∙ choose-false _ _ _ (sym e) in
-          let target-is = t ∙ choose-false _ _ _ (sym e) in
-          let count-is = c ∙ choose-false _ _ _ (sym e) in
-          let nodes-are : set (set (s .nodes) a host) l target ≡ s .nodes =
-          ap (set (set (s .nodes) a host) l) target-is ∙ set-getD (set (s .nodes) a host) l pastNode
-          ∙ ap (set (s .nodes) a) host-is ∙ set-getD (s .nodes) a pastNode in
-          (λ i. record { addresses = count-is i; length = s .length; nodes = nodes-are i; code = s .code })
-          ∙ put-nothing s a k l plan false refl e
+-- an effect that does not change the target leaves it as it is
+pub same-target :
+    (e : Effect) (plan : Plan) (nodes : List Node) (l : ℕ) (x : Bool) → x ≡ actsOn e → x ≡ false
+    → effectOn e plan (getD nodes l pastNode) ≡ getD nodes l pastNode
+unfolding actsOn effectOn
+same-target Effect.Nothing plan nodes l x e h = refl
+same-target Effect.Put plan nodes l x e h = absurd (true-not-false (sym e ∙ h))
+same-target (Effect.Take i) plan nodes l x e h = absurd (true-not-false (sym e ∙ h))
+same-target (Effect.Start j) plan nodes l x e h = absurd (true-not-false (sym e ∙ h))
+same-target Effect.Open plan nodes l x e h = absurd (true-not-false (sym e ∙ h))
+
+-- ---- a plan put back, where the net has its host already
+module _ (s : Net) (a k l : ℕ) (plan : Plan) (x : Bool) (host : Node) (n : ℕ) where
+  -- and its target
+  pub put-target : (target : Node) (net : Net) → x ≡ true → x ≡ changes (plan .answer) → host ≡ hostAfter plan k (nodeAt s a)
+      → n ≡ grownCount (plan .effect) (s .addresses)
+      → target ≡ effectOn (plan .effect) plan (getD (set (s .nodes) a host) l pastNode)
+      → net ≡ record { addresses = s .addresses; length = s .length; nodes = set (set (s .nodes) a host) l target; code = s .code }
+      → _≡_ {A = Net} (record { addresses = n; length = net .length; nodes = net .nodes; code = net .code }) (putBack s a k l plan)
+  unfolding nodeAt
+  put-target target net t c h m e q =
+      ap {B = Net} (λ (z : Net). record { addresses = n; length = z .length; nodes = z .nodes; code = z .code }) q
+      ∙ put-is s a k l plan x host target n t c h m e
+
+  -- the target stays
+  pub put-same : (y : Bool) (net : Net) → x ≡ true → x ≡ changes (plan .answer) → host ≡ hostAfter plan k (nodeAt s a)
+      → n ≡ grownCount (plan .effect) (s .addresses)
+      → y ≡ actsOn (plan .effect) → y ≡ false
+      → net ≡ record { addresses = s .addresses; length = s .length; nodes = set (s .nodes) a host; code = s .code }
+      → _≡_ {A = Net} (record { addresses = n; length = net .length; nodes = net .nodes; code = net .code }) (putBack s a k l plan)
+  put-same y net t c h m e f q =
+      put-target (getD (set (s .nodes) a host) l pastNode) net t c h m
+      (sym (same-target (plan .effect) plan (set (s .nodes) a host) l y e f))
+      (q
+      ∙ ap {B = Net} (λ (ns : List Node). record { addresses = s .addresses; length = s .length; nodes = ns; code = s .code })
+      (sym (set-getD (set (s .nodes) a host) l pastNode)))
 
 -- ---- a pick that is not ready
 module _ (s : Net) (a k l : ℕ) where
@@ -173,7 +183,7 @@ module _ (s : Net) (b : ℕ) where
 -- the same of the records that the loop looks at: the host's address is a, the slot is k
 module _
     (s : Net) (b at : ℕ) (c : Instruction) (e : Evaluated) (req : Request) (l : ℕ) (within : Bool) (plan : Plan)
-    (host target : Node) (n : ℕ)
+    (after : Net)
   where
     Turned : ℕ → ℕ → Type 0
     Turned a k =
@@ -186,24 +196,17 @@ module _
         → l ≡ targetIndex a (s .addresses) req
         → within ≡ sentWithin (s .code) (nodeAt s l .row) req
         → Drawn b (s .addresses) (nodeAt s a .row) (processAt (nodeAt s a) k) (nodeAt s l) e within req plan
-        → host ≡ hostNext plan k (nodeAt s a)
-        → target ≡ targetNext plan (getD (set (s .nodes) a host) l pastNode)
-        → n ≡ countNext plan (s .addresses)
-        → _≡_ {A = Picked} (record {
-          answer = plan .answer;
-          net = record { addresses = n; length = s .length; nodes = set (set (s .nodes) a host) l target; code = s .code };
-        })
-        (stepOf s b)
+        → after ≡ putBack s a k l plan
+        → _≡_ {A = Picked} (record { answer = plan .answer; net = after }) (stepOf s b)
 
     turned : Turned (hostOf b) (slotOf b)
     unfolding Turned picked
-    turned shaped sound index hc he hr hl hw hp hh ht hn =
-        step-is s b _ refl at c e req l within plan _ (place-below s shaped sound b) index hc he hr hl hw hp
-        (put-next s (hostOf b) (slotOf b) l plan host target n hh ht hn)
+    turned shaped sound index hc he hr hl hw hp ha =
+        step-is s b _ refl at c e req l within plan after (place-below s shaped sound b) index hc he hr hl hw hp ha
 
 pub turn-is :
     (s : Net) (b at : ℕ) (c : Instruction) (e : Evaluated) (req : Request) (l : ℕ) (within : Bool) (plan : Plan)
-    (host target : Node) (n a k : ℕ)
+    (after : Net) (a k : ℕ)
     → Shaped s
     → soundOf s ≡ true
     → a ≡ hostOf b
@@ -215,18 +218,12 @@ pub turn-is :
     → l ≡ targetIndex a (s .addresses) req
     → within ≡ sentWithin (s .code) (nodeAt s l .row) req
     → Drawn b (s .addresses) (nodeAt s a .row) (processAt (nodeAt s a) k) (nodeAt s l) e within req plan
-    → host ≡ hostNext plan k (nodeAt s a)
-    → target ≡ targetNext plan (getD (set (s .nodes) a host) l pastNode)
-    → n ≡ countNext plan (s .addresses)
-    → _≡_ {A = Picked} (record {
-      answer = plan .answer;
-      net = record { addresses = n; length = s .length; nodes = set (set (s .nodes) a host) l target; code = s .code };
-    })
-    (stepOf s b)
+    → after ≡ putBack s a k l plan
+    → _≡_ {A = Picked} (record { answer = plan .answer; net = after }) (stepOf s b)
 unfolding Turned
-turn-is s b at c e req l within plan host target n a k shaped sound ha hk =
-    subst₂ (Turned s b at c e req l within plan host target n) (sym ha) (sym hk)
-    (turned s b at c e req l within plan host target n) shaped sound
+turn-is s b at c e req l within plan after a k shaped sound ha hk =
+    subst₂ (Turned s b at c e req l within plan after) (sym ha) (sym hk) (turned s b at c e req l within plan after) shaped
+    sound
 
 -- an address is opened only where there is room
 pub drawn-opens :

@@ -8,8 +8,8 @@ use Rattle.net.specs.Records.{zeroInstruction, zeroNode, nodeAt, processAt, ins
 use Rattle.net.specs.Matching.{evaluatedOf}
 use Rattle.step.specs.Pick.{hostOf, slotOf, spareOf}
 use Rattle.step.specs.Request.{requestOf}
-use Rattle.step.specs.Plan.{planOf, still, targetIndex, sentWithin, changes, hostAfter, effectOn, grownCount}
-use Rattle.run.specs.Types.{Row, Process, Node, Instruction, Net, Evaluated, Request, Answer, Plan}
+use Rattle.step.specs.Plan.{planOf, still}
+use Rattle.run.specs.Types.{Row, Process, Node, Instruction, Net, Evaluated, Request, Answer, Plan, Effect}
 
 -- the pick is well formed, its address in use and its slot busy: 9, 8 and 7 are absent
 unfoldable pub ready : ℕ → ℕ → Process → Bool
@@ -37,12 +37,10 @@ sendsCode (Request.Eval l sent q) = true
 sendsCode (Request.New v q) = false
 sendsCode (Request.Fork q q′) = false
 
--- the host, the target and the address count after a plan
-unfoldable pub hostNext : Plan → ℕ → Node → Node
-hostNext plan k x = choose (changes (plan .answer)) (hostAfter plan k x) x
-
-unfoldable pub targetNext : Plan → Node → Node
-targetNext plan y = choose (changes (plan .answer)) (effectOn (plan .effect) plan y) y
-
-unfoldable pub countNext : Plan → ℕ → ℕ
-countNext plan n = choose (changes (plan .answer)) (grownCount (plan .effect) n) n
+-- the effect changes the target
+unfoldable pub actsOn : Effect → Bool
+actsOn Effect.Nothing = false
+actsOn Effect.Put = true
+actsOn (Effect.Take i) = true
+actsOn (Effect.Start j) = true
+actsOn Effect.Open = true

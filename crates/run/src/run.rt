@@ -1,10 +1,8 @@
 // A run: each pick goes to the net that the last one left, whatever its answer.
+use crate::turn::acts;
 use crate::turn::host_of;
 use crate::turn::index_of;
 use crate::turn::met_by;
-use crate::turn::next_count;
-use crate::turn::next_host;
-use crate::turn::next_target;
 use crate::turn::number_of;
 use crate::turn::plan_of;
 use crate::turn::sends;
@@ -15,7 +13,10 @@ use image::reader::read_image;
 use net::locality::Locality;
 use net::network::Net;
 use step::request::ask;
+use step::step::changes_net;
+use step::step::count_after;
 use step::step::sent_within;
+use step::step::target_after;
 use step::step::target_index;
 ghost use Prim.Native.Nat.{_≤_};
 ghost use mathlib.Core.Path.{_≡_};
@@ -51,8 +52,8 @@ pub fn make(start: Net, picks: &[u8], answers: &mut [u8]) -> Net
         let a = host_of(b);
         let k = slot_of(b);
         let n = net.addresses;
-        let x = net.nodes[a];
-        let p = x.processes[k];
+        let mut host = net.nodes[a];
+        let p = host.processes[k];
         let at = index_of(p.at);
         let c = met_by(b, n, p, net.code[at]);
         let asked = ask(Locality(a as u8), p, c);
@@ -65,14 +66,22 @@ pub fn make(start: Net, picks: &[u8], answers: &mut [u8]) -> Net
             let code = net.code;
             within = sent_within(code, y.row, request);
         }
-        let plan = plan_of(b, n, x.row, p, y, template, within, request);
-        let host = next_host(plan, k, x);
-        net.nodes[a] = host;
-        let z = net.nodes[l];
-        let target = next_target(plan, z);
-        net.nodes[l] = target;
-        net.addresses = next_count(plan, n);
+        let plan = plan_of(b, n, host.row, p, y, template, within, request);
         let answer = plan.answer;
+        if changes_net(answer) {
+            let process = plan.process;
+            let row = plan.row;
+            let effect = plan.effect;
+            host.processes[k] = process;
+            host.row = row;
+            net.nodes[a] = host;
+            if acts(effect) {
+                let z = net.nodes[l];
+                let target = target_after(plan, z);
+                net.nodes[l] = target;
+            }
+            net.addresses = count_after(effect, n);
+        }
         answers[i] = number_of(answer);
         i += 1;
     }

@@ -6,20 +6,16 @@ use net::node::Node;
 use net::policy::Row;
 use net::process::Process;
 use step::answer::Answer;
+use step::plan::Effect;
 use step::plan::Plan;
 use step::plan::no_change;
 use step::plan::plan_for;
 use step::request::Request;
-use step::step::changes_net;
-use step::step::count_after;
-use step::step::host_after;
-use step::step::target_after;
 ghost use Prim.Native.Nat.{_<_};
 ghost use mathlib.Core.Path.{_≡_};
 ghost use Rattle.step.specs.Answer.{numberOf};
 ghost use Rattle.step.specs.Pick.{hostOf, slotOf};
-ghost use Rattle.run.specs.Types.{Effect};
-ghost use Rattle.run.specs.Turn.{sendsCode, ready, refusal, met, turnPlan, hostNext, targetNext, countNext};
+ghost use Rattle.run.specs.Turn.{sendsCode, actsOn, ready, refusal, met, turnPlan};
 ghost use Rattle.run.specs.Drawn.{Drawn, Indexed};
 
 // The address that a pick names.
@@ -117,41 +113,16 @@ pub fn plan_of(
     }
 }
 
-// The host after a plan.
-pub fn next_host(plan: Plan, k: usize, x: Node) -> Node
-    ensures { λ r. ⌜ r ≡ hostNext plan k x ⌝ }
+// Whether an effect changes the target.
+pub fn acts(e: Effect) -> bool
+    ensures { λ r. ⌜ r ≡ actsOn e ⌝ }
 {
-    let answer = plan.answer;
-    if changes_net(answer) {
-        host_after(plan, k, x)
-    } else {
-        x
-    }
-}
-
-// The target after a plan.
-pub fn next_target(plan: Plan, y: Node) -> Node
-    ensures { λ r. ⌜ r ≡ targetNext plan y ⌝ }
-{
-    let answer = plan.answer;
-    if changes_net(answer) {
-        target_after(plan, y)
-    } else {
-        y
-    }
-}
-
-// The address count after a plan.
-pub fn next_count(plan: Plan, n: usize) -> usize
-    requires { ⌜ (plan .effect ≡ Effect.Open → n < 16) ⌝ }
-    ensures { λ r. ⌜ r ≡ countNext plan n ⌝ }
-{
-    let answer = plan.answer;
-    let effect = plan.effect;
-    if changes_net(answer) {
-        count_after(effect, n)
-    } else {
-        n
+    match e {
+        Effect::Nothing => false,
+        Effect::Put => true,
+        Effect::Take(_) => true,
+        Effect::Start(_) => true,
+        Effect::Open => true,
     }
 }
 
