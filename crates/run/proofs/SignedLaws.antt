@@ -6,24 +6,16 @@ use mathlib.Core.Bool.{Bool, true, false}
 use mathlib.Core.List.{List, _∷_}
 use native.Mathlib.Nat.{not-suc-le-zero}
 use native.Mathlib.Omega.{arith}
-use borrow.Author.Tests.{leb-false, le-ltb}
-use lib.Dec.{T}
+use borrow.Author.Tests.{leb-false}
 use lib.IntN.{ℤ, pos, negsuc, _-ℤ_, natAbs}
-use lib.Signed.{mag, leZ, nonNeg}
+use lib.Signed.{mag, leZ}
 use mir.Syntax.{w32, w64}
 use mir.Val.{Fits, SFits, toZ, ofZ}
-use mir.Facts.{toZ-ofZ, fits-natAbs}
+use mir.Facts.{toZ-ofZ}
+use Rattle.writer.proofs.SignedLaws.{back}
 use Rattle.run.specs.Register.{decimal, signedDecimal, itemText}
 use Rattle.run.specs.Types.{Locality, Item}
 use Rattle.run.specs.Writing.{Wrote}
-
-upward : (y : ℤ) → leZ (pos 0) y ≡ true → SFits w32 y → T (nonNeg y) × Fits w64 (natAbs y)
-upward (pos n) h s = (tt, record { fits = omega (arith, s .sfits) })
-upward (negsuc n) h s = let z : _≡_ {A = ℕ} 0 1 = cc in omega arith
-
-above : (y : ℤ) → leZ (pos 0) y ≡ false → negsuc 0 -ℤ y ≡ pos (mag y)
-above (pos n) h = absurd (not-suc-le-zero (leb-false 0 n h))
-above (negsuc n) h = rw (le-ltb (suc n) 1 (omega arith)) (ap pos (omega arith))
 
 -- below nought
 mag-more : (y : ℤ) → leZ (pos 0) y ≡ false → mag y + 1 ≡ natAbs y
@@ -31,25 +23,11 @@ mag-more (pos n) h = absurd (not-suc-le-zero (leb-false 0 n h))
 mag-more (negsuc n) h = omega arith
 
 module _ (x : ℤ) (s : SFits w32 x) where
-  pub cast-up : leZ (pos 0) (toZ w32 (ofZ w32 x)) ≡ true → T (nonNeg (toZ w32 (ofZ w32 x))) × Fits w64 (natAbs (toZ w32 (ofZ w32 x)))
-  cast-up h = upward (toZ w32 (ofZ w32 x)) h (rw (toZ-ofZ s) s)
-
-  pub above-fits : leZ (pos 0) (toZ w32 (ofZ w32 x)) ≡ false → SFits w32 (negsuc 0 -ℤ toZ w32 (ofZ w32 x))
-  above-fits h = rw (above (toZ w32 (ofZ w32 x)) h, toZ-ofZ s) (record { sfits = s .sfits })
-
-  back : (h : leZ (pos 0) (toZ w32 (ofZ w32 x)) ≡ false) → toZ w32 (ofZ w32 (negsuc 0 -ℤ toZ w32 (ofZ w32 x))) ≡ pos (mag x)
-  back h = toZ-ofZ (above-fits h) ∙ above (toZ w32 (ofZ w32 x)) h ∙ ap (λ (y : ℤ). pos (mag y)) (toZ-ofZ s)
-
-  pub cast-above :
-      leZ (pos 0) (toZ w32 (ofZ w32 x)) ≡ false
-      → T (nonNeg (toZ w32 (ofZ w32 (negsuc 0 -ℤ toZ w32 (ofZ w32 x))))) × Fits w64 (natAbs (toZ w32 (ofZ w32 (negsuc 0 -ℤ toZ w32 (ofZ w32 x)))))
-  cast-above h = rw (back h) (tt, record { fits = omega (arith, s .sfits) })
-
   pub above-more : leZ (pos 0) (toZ w32 (ofZ w32 x)) ≡ false → Fits w64 (natAbs (toZ w32 (ofZ w32 (negsuc 0 -ℤ toZ w32 (ofZ w32 x)))) + 1)
-  above-more h = rw (back h) (record { fits = omega (arith, s .sfits) })
+  above-more h = rw (back x s h) (record { fits = omega (arith, s .sfits) })
 
   pub magnitude-below : leZ (pos 0) (toZ w32 (ofZ w32 x)) ≡ false → natAbs (toZ w32 (ofZ w32 (negsuc 0 -ℤ toZ w32 (ofZ w32 x)))) + 1 ≡ natAbs x
-  magnitude-below h = rw (back h) (mag-more x (rw (toZ-ofZ s) at h))
+  magnitude-below h = rw (back x s h) (mag-more x (rw (toZ-ofZ s) at h))
 
 -- ---- what is written
 module _ (xs : List ℕ) (at n : ℕ) (x : ℤ) (s : SFits w32 x) (ys : List ℕ) (r : ℕ) where

@@ -40,7 +40,7 @@ module _ (x : ℤ) (s : SFits w32 x) where
   pub above-fits : leZ (pos 0) (toZ w32 (ofZ w32 x)) ≡ false → SFits w32 (negsuc 0 -ℤ toZ w32 (ofZ w32 x))
   above-fits h = rw (above (toZ w32 (ofZ w32 x)) h, toZ-ofZ s) (record { sfits = s .sfits })
 
-  back : (h : leZ (pos 0) (toZ w32 (ofZ w32 x)) ≡ false) → toZ w32 (ofZ w32 (negsuc 0 -ℤ toZ w32 (ofZ w32 x))) ≡ pos (mag x)
+  pub back : (h : leZ (pos 0) (toZ w32 (ofZ w32 x)) ≡ false) → toZ w32 (ofZ w32 (negsuc 0 -ℤ toZ w32 (ofZ w32 x))) ≡ pos (mag x)
   back h = toZ-ofZ (above-fits h) ∙ above (toZ w32 (ofZ w32 x)) h ∙ ap (λ (y : ℤ). pos (mag y)) (toZ-ofZ s)
 
   pub cast-above :

@@ -1,5 +1,6 @@
 -- `run::text::magnitude` meets its contract. Assumes nothing.
-use Rattle.run.proofs.SignedLaws.{cast-up, above-fits, cast-above, above-more, magnitude-below}
+use Rattle.writer.proofs.SignedLaws.{cast-up, above-fits, cast-above}
+use Rattle.run.proofs.SignedLaws.{above-more, magnitude-below}
 use borrow.Author.Needs.{needs}
 use Rattle.run.proofs.text.magnitude.Statement.{statement}
 use Rattle.run.proofs.text.magnitude.Tie as tie
