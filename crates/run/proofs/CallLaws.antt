@@ -19,13 +19,13 @@ use Rattle.step.specs.Answer.{numberOf}
 use Rattle.step.specs.Shape.{Shaped}
 use Rattle.run.specs.Types.{Net, Fault, Opened, Reading}
 use Rattle.run.specs.Run.{Ran, Outcome, refused, ran, answered, ranFrom, runIn, runOf}
-use Rattle.run.specs.Buffer.{over}
+use Rattle.writer.specs.Buffer.{over}
 use Rattle.run.specs.Calls.{Finish, Finished, Registered, finished, finishedOf, answersIn, registeredOf}
 use Rattle.run.specs.Making.{numbers, Startable, Made}
 use Rattle.run.specs.Register.{pieces, pickLine, pickLines, netLine, netLines, refusedLine, registerIn, registerOf}
-use Rattle.run.specs.Writing.{Wrote}
+use Rattle.writer.specs.Writing.{Wrote}
 use Rattle.run.proofs.Whole.{whole-shaped, opened-whole}
-use Rattle.run.proofs.WritingLaws.{wrote-then, wrote-length}
+use Rattle.writer.proofs.WritingLaws.{wrote-then, wrote-length}
 
 -- ---- an image that was read
 module _ (image : List ℕ) (o : Opened) (read : o ≡ openedOf image) where

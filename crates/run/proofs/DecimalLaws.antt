@@ -12,8 +12,8 @@ use borrow.Author.Tests.{lt-ltb, le-ltb, ltb-true, ltb-false}
 use Rattle.net.specs.Choice.{choose}
 use Rattle.net.proofs.Laws.{choose-true, choose-false}
 use Rattle.run.specs.Register.{digit, digits, decimal}
-use Rattle.run.specs.Writing.{Wrote}
-use Rattle.run.proofs.WritingLaws.{wrote-then}
+use Rattle.writer.specs.Writing.{Wrote}
+use Rattle.writer.proofs.WritingLaws.{wrote-then}
 
 -- two sides of a choice that agree where they are taken
 alike :

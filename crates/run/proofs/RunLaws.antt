@@ -15,7 +15,7 @@ use Rattle.step.specs.Shape.{Shaped}
 use Rattle.step.proofs.SoundKept.{step-sound-kept}
 use Rattle.run.specs.Types.{Net, Answer, Picked}
 use Rattle.run.specs.Run.{Ran, answered, ranFrom}
-use Rattle.run.specs.Buffer.{over}
+use Rattle.writer.specs.Buffer.{over}
 use Rattle.run.specs.Making.{numbers, Startable, Making, Made}
 
 past-drop : {A : Type 0} (xs : List A) (i : ℕ) → length xs ≤ i → drop i xs ≡ []

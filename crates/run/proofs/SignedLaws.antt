@@ -15,7 +15,7 @@ use mir.Facts.{toZ-ofZ}
 use Rattle.writer.proofs.SignedLaws.{back}
 use Rattle.run.specs.Register.{decimal, signedDecimal, itemText}
 use Rattle.run.specs.Types.{Locality, Item}
-use Rattle.run.specs.Writing.{Wrote}
+use Rattle.writer.specs.Writing.{Wrote}
 
 -- below nought
 mag-more : (y : ℤ) → leZ (pos 0) y ≡ false → mag y + 1 ≡ natAbs y

@@ -1,4 +1,3 @@
-pub mod Buffer
 pub mod Calls
 pub mod Drawn
 pub mod Making
@@ -6,4 +5,3 @@ pub mod Register
 pub mod Run
 pub mod Turn
 pub mod Types
-pub mod Writing

@@ -9,7 +9,7 @@ use Rattle.step.specs.Answer.{numberOf}
 use Rattle.step.specs.Shape.{Shaped}
 use Rattle.run.specs.Types.{Net}
 use Rattle.run.specs.Run.{Ran, ranFrom}
-use Rattle.run.specs.Buffer.{over}
+use Rattle.writer.specs.Buffer.{over}
 
 -- the answers of a run as bytes
 unfoldable pub numbers : Ran → List ℕ

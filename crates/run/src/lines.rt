@@ -18,7 +18,7 @@ ghost use Rattle.net.specs.Choice.{choose};
 ghost use Rattle.step.specs.Pick.{hostOf, slotOf};
 ghost use Rattle.run.specs.Register.{decimal, newline, words, fewer, refusedLine, netLine, pickLine, busyOf, nodeLine, tupleFields};
 ghost use Rattle.run.specs.Register.{tupleLine, tupleLines, nodeLines, netLines, pickLines};
-ghost use Rattle.run.specs.Writing.{Wrote};
+ghost use Rattle.writer.specs.Writing.{Wrote};
 
 // A count, or the size of its array where the count is larger.
 fn at_most(count: usize, size: usize) -> usize

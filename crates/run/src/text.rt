@@ -6,7 +6,7 @@ ghost use mathlib.Core.Path.{_≡_};
 ghost use mathlib.Core.List.{[], _∷_};
 ghost use lib.IntN.{natAbs};
 ghost use Rattle.run.specs.Register.{digit, decimal, signedDecimal, itemText, field};
-ghost use Rattle.run.specs.Writing.{Wrote};
+ghost use Rattle.writer.specs.Writing.{Wrote};
 
 // One byte.
 pub fn put(out: &mut [u8], at: usize, b: u8) -> usize

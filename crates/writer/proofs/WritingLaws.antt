@@ -41,14 +41,14 @@ module _ {A : Type 0} where
   unfolding over
   over-length xs at text = length-sets xs at text
 
--- ---- bits, one part after another
-module _ (xs : List Bool) (at : ℕ) where
-  wrote-nothing : Wrote xs at [] xs at
+-- ---- one part after another
+module _ {A : Type 0} (xs : List A) (at : ℕ) where
+  pub wrote-nothing : Wrote xs at [] xs at
   unfolding over
   wrote-nothing = record { is = refl; fits = λ h. omega arith; full = λ h. omega arith }
 
   store-after :
-      (bits more : List Bool) (r : ℕ) → (at + length bits ≤ length xs → r ≡ at + length bits)
+      (bits more : List A) (r : ℕ) → (at + length bits ≤ length xs → r ≡ at + length bits)
       → (length xs < at + length bits → length xs < r) → Dec (at + length bits ≤ length xs)
       → over (over xs at bits) r more ≡ over xs at (bits ++ more)
   store-after bits more r fits full (yes h) =
@@ -60,13 +60,13 @@ module _ (xs : List Bool) (at : ℕ) where
       ∙ sym (over-past (over xs at bits) (at + length bits) more (omega (arith, long))) ∙ over-both xs at bits more
 
   pub wrote-then :
-      (bits more ys zs : List Bool) (r q : ℕ) → Wrote xs at bits ys r → Wrote ys r more zs q
+      (bits more ys zs : List A) (r q : ℕ) → Wrote xs at bits ys r → Wrote ys r more zs q
       → Wrote xs at (bits ++ more) zs q
   wrote-then bits more ys zs r q w v =
       let long : length ys ≡ length xs = ap length (w .is) ∙ over-length xs at bits in
       let whole : length (bits ++ more) ≡ length bits + length more = length-append bits more in
       record {
-        is = v .is ∙ ap (λ (b : List Bool). over b r more) (w .is)
+        is = v .is ∙ ap (λ (b : List A). over b r more) (w .is)
             ∙ store-after bits more r (w .fits) (w .full) (decLe (at + length bits) (length xs));
         fits = λ h.
             let here = w .fits (omega arith) in
@@ -77,20 +77,20 @@ module _ (xs : List Bool) (at : ℕ) where
             (λ l. let here = w .full l in let there = v .full (omega arith) in omega arith);
       }
 
-  -- a bit, and more after it
-  pub wrote-bit-then :
-      (b : Bool) (more ys zs : List Bool) (r q : ℕ) → Wrote xs at (b ∷ []) ys r → Wrote ys r more zs q
+  -- an element, and more after it
+  pub wrote-one-then :
+      (b : A) (more ys zs : List A) (r q : ℕ) → Wrote xs at (b ∷ []) ys r → Wrote ys r more zs q
       → Wrote xs at (b ∷ more) zs q
-  wrote-bit-then b more ys zs r q w v = wrote-then (b ∷ []) more ys zs r q w v
+  wrote-one-then b more ys zs r q w v = wrote-then (b ∷ []) more ys zs r q w v
 
-pub wrote-length : (xs : List Bool) (at : ℕ) (bits ys : List Bool) (r : ℕ) → Wrote xs at bits ys r → length ys ≡ length xs
+pub wrote-length : {A : Type 0} (xs : List A) (at : ℕ) (bits ys : List A) (r : ℕ) → Wrote xs at bits ys r → length ys ≡ length xs
 wrote-length xs at bits ys r w = ap length (w .is) ∙ over-length xs at bits
 
--- ---- a bit
-module _ (xs : List Bool) (at : ℕ) (b : Bool) where
-  pub wrote-bit : at < length xs → Wrote xs at (b ∷ []) (set xs at b) (at + 1)
+-- ---- an element
+module _ {A : Type 0} (xs : List A) (at : ℕ) (b : A) where
+  pub wrote-one : at < length xs → Wrote xs at (b ∷ []) (set xs at b) (at + 1)
   unfolding over
-  wrote-bit h = record { is = refl; fits = λ _. refl; full = λ g. absurd (omega arith) }
+  wrote-one h = record { is = refl; fits = λ _. refl; full = λ g. absurd (omega arith) }
 
   pub wrote-past : length xs ≤ at → Wrote xs at (b ∷ []) xs (length xs + 1)
   wrote-past h = record { is = sym (over-past xs at _ h); fits = λ g. absurd (omega arith); full = λ _. omega arith }

@@ -12,11 +12,11 @@ use Rattle.writer.specs.Types.{Node, Net}
 use Rattle.writer.specs.Buffer.{over}
 use Rattle.writer.specs.ImageOf.{joined, numberIn}
 
--- from place `at` of buffer xs the bits were written: the buffer is ys, and the next place r
-pub record Wrote (xs : List Bool) (at : ℕ) (bits ys : List Bool) (r : ℕ) : Type 0 where
-  pub is : ys ≡ over xs at bits
-  pub fits : at + length bits ≤ length xs → r ≡ at + length bits
-  pub full : length xs < at + length bits → length xs < r
+-- from place `at` of buffer xs a text, of bits or of bytes, was written: the buffer is ys, and the next place r
+pub record Wrote {A : Type 0} (xs : List A) (at : ℕ) (text ys : List A) (r : ℕ) : Type 0 where
+  pub is : ys ≡ over xs at text
+  pub fits : at + length text ≤ length xs → r ≡ at + length text
+  pub full : length xs < at + length text → length xs < r
 
 -- the number whose last 32 binary digits are the two's complement of a reading
 unfoldable pub complementOf : ℤ → ℕ

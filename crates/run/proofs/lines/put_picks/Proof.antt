@@ -3,8 +3,9 @@ use Prim.Native.Nat.{_+_, _-_, _≤_}
 use mathlib.Core.Path.{_≡_}
 use lib.ListN.{length, getD}
 use Rattle.run.specs.Register.{pieces, pickLine, pickLines}
-use Rattle.run.specs.Writing.{Wrote}
-use Rattle.run.proofs.WritingLaws.{pieces-none, pieces-more, pieces-end, wrote-length}
+use Rattle.writer.specs.Writing.{Wrote}
+use Rattle.writer.proofs.WritingLaws.{wrote-length}
+use Rattle.run.proofs.WritingLaws.{pieces-none, pieces-more, pieces-end}
 use borrow.Author.Needs.{needs}
 use Rattle.run.proofs.lines.put_picks.Statement.{statement}
 use Rattle.run.proofs.lines.put_picks.Tie as tie

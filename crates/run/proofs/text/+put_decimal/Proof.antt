@@ -1,7 +1,7 @@
 -- The cycle of calls {put_decimal}: the measure is the number. Assumes nothing.
 use native.Mathlib.Omega.{arith}
 use borrow.Author.Needs.{needs}
-use Rattle.run.proofs.WritingLaws.{wrote-length}
+use Rattle.writer.proofs.WritingLaws.{wrote-length}
 use Rattle.run.proofs.DecimalLaws.{wrote-digit, wrote-digits}
 use Prim.Native.Nat.{ℕ, _<_}
 use borrow.Fn.Kinds.{In}

@@ -1,5 +1,5 @@
 -- `run::text::put` meets its contract. Assumes nothing.
-use Rattle.run.proofs.WritingLaws.{wrote-byte, wrote-past}
+use Rattle.writer.proofs.WritingLaws.{wrote-one, wrote-past}
 use borrow.Author.Needs.{needs}
 use Rattle.run.proofs.text.put.Statement.{statement}
 use Rattle.run.proofs.text.put.Tie as tie
@@ -12,5 +12,5 @@ put-spec =
     (λ c. search needs)
     (λ c. search needs)
     (λ c. search needs)
-    (λ c. search (needs, wrote-byte, wrote-past))
-    (λ c. search (needs, wrote-byte, wrote-past)))
+    (λ c. search (needs, wrote-one, wrote-past))
+    (λ c. search (needs, wrote-one, wrote-past)))

@@ -1,8 +1,9 @@
 -- `run::text::put_bytes` meets its contract. Assumes nothing.
 use Prim.Native.Nat.{_-_, _≤_}
 use lib.ListN.{length, take}
-use Rattle.run.specs.Writing.{Wrote}
-use Rattle.run.proofs.WritingLaws.{wrote-nothing, wrote-more, wrote-all, wrote-length}
+use Rattle.writer.specs.Writing.{Wrote}
+use Rattle.writer.proofs.WritingLaws.{wrote-nothing, wrote-length}
+use Rattle.run.proofs.WritingLaws.{wrote-more, wrote-all}
 use borrow.Author.Needs.{needs}
 use Rattle.run.proofs.text.put_bytes.Statement.{statement}
 use Rattle.run.proofs.text.put_bytes.Tie as tie

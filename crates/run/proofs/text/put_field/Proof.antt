@@ -1,5 +1,5 @@
 -- `run::text::put_field` meets its contract. Assumes nothing.
-use Rattle.run.proofs.WritingLaws.{wrote-marked}
+use Rattle.writer.proofs.WritingLaws.{wrote-one-then}
 use Rattle.run.specs.Register.{field}
 use borrow.Author.Needs.{needs}
 use Rattle.run.proofs.text.put_field.Statement.{statement}
@@ -13,4 +13,4 @@ put-field-spec =
     (λ c κs. search needs)
     (λ c κs. search needs)
     (λ c. search needs)
-    (λ c. search (needs, wrote-marked)))
+    (λ c. search (needs, wrote-one-then)))

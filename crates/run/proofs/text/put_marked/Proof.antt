@@ -1,5 +1,6 @@
 -- `run::text::put_marked` meets its contract. Assumes nothing.
-use Rattle.run.proofs.WritingLaws.{wrote-marked, wrote-length}
+use Rattle.writer.proofs.WritingLaws.{wrote-length}
+use Rattle.writer.proofs.WritingLaws.{wrote-one-then}
 use borrow.Author.Needs.{needs}
 use Rattle.run.proofs.text.put_marked.Statement.{statement}
 use Rattle.run.proofs.text.put_marked.Tie as tie
@@ -11,4 +12,4 @@ put-marked-spec =
     (λ c κs. search needs)
     (λ c κs. search needs)
     (λ c. search (needs, wrote-length))
-    (λ c. search (needs, wrote-marked)))
+    (λ c. search (needs, wrote-one-then)))

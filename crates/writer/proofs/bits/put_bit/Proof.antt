@@ -1,5 +1,5 @@
 -- `writer::bits::put_bit` meets its contract. Assumes nothing.
-use Rattle.writer.proofs.WritingLaws.{wrote-bit, wrote-past}
+use Rattle.writer.proofs.WritingLaws.{wrote-one, wrote-past}
 use borrow.Author.Needs.{needs}
 use Rattle.writer.proofs.bits.put_bit.Statement.{statement}
 use Rattle.writer.proofs.bits.put_bit.Tie as tie
@@ -12,5 +12,5 @@ put-bit-spec =
     (λ c. search needs)
     (λ c. search needs)
     (λ c. search needs)
-    (λ c. search (needs, wrote-bit))
+    (λ c. search (needs, wrote-one))
     (λ c. search (needs, wrote-past)))

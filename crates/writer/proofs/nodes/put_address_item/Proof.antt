@@ -1,5 +1,5 @@
 -- `writer::nodes::put_address_item` meets its contract. Assumes nothing.
-use Rattle.writer.proofs.WritingLaws.{wrote-bit-then}
+use Rattle.writer.proofs.WritingLaws.{wrote-one-then}
 use borrow.Author.Needs.{needs}
 use Rattle.writer.proofs.nodes.put_address_item.Statement.{statement}
 use Rattle.writer.proofs.nodes.put_address_item.Tie as tie
@@ -11,4 +11,4 @@ put-address-item-spec =
     (λ c κs. search needs)
     (λ c κs. search needs)
     (λ c. search needs)
-    (λ c. search (needs, wrote-bit-then)))
+    (λ c. search (needs, wrote-one-then)))

@@ -1,6 +1,6 @@
 -- `writer::nodes::put_reading_item` meets its contract. Assumes nothing.
 use Rattle.writer.proofs.SignedLaws.{reading-back}
-use Rattle.writer.proofs.WritingLaws.{wrote-bit-then}
+use Rattle.writer.proofs.WritingLaws.{wrote-one-then}
 use borrow.Author.Needs.{needs}
 use Rattle.writer.proofs.nodes.put_reading_item.Statement.{statement}
 use Rattle.writer.proofs.nodes.put_reading_item.Tie as tie
@@ -12,4 +12,4 @@ put-reading-item-spec =
     (λ c κs. search needs)
     (λ c κs. search needs)
     (λ c. search needs)
-    (λ c. search (needs, wrote-bit-then, reading-back)))
+    (λ c. search (needs, wrote-one-then, reading-back)))
