@@ -27,6 +27,8 @@ unfolding opened
 starredEdges = record {
   no-bytes = refl;
   one-stop = refl;
+  last-byte = refl;
+  sixth-byte = λ b. refl;
   no-put = refl;
   listing = refl;
   all-ones = refl;
