@@ -12,11 +12,13 @@
  * picks, and no other thread writes to any of the three before the call
  * returns. The image and the picks are only read, and may overlap.
  *
- * Stack. A call needs CAVINDORUM_STACK bytes of stack below its caller's
- * frame. This is measured and not proved: with less the process may end at
- * the guard page. No call uses the heap, keeps anything between calls or
- * calls the C library but for memcpy, memmove and memset, so calls on buffers
- * of their own may run in several threads at once.
+ * Stack. CAVINDORUM_STACK bytes below the caller's frame are enough for a
+ * call. This is measured and not proved; with too little the process ends at
+ * the guard page below the stack.
+ *
+ * Threads. No call uses the heap, keeps anything between calls or calls the
+ * C library but for memcpy, memmove and memset, so that calls may run in
+ * several threads at once, each on a buffer of its own to write.
  */
 #ifndef CAVINDORUM_H
 #define CAVINDORUM_H

@@ -4,6 +4,7 @@
 
 use cavindorum_tests::by_hand::{paper_net, ONE_STOP, PAPER_IMAGE};
 use cavindorum_tests::dump::framed;
+use cavindorum_tests::edges::{pack, Edge};
 use cavindorum_tests::program::{run_on, TestDirectory};
 use cavindorum_tests::replay::Run;
 use std::fs::{self, File};
@@ -154,6 +155,21 @@ fn an_input_that_ends_midway() {
     let input = File::open(here.path.join("input")).expect("it is there");
     let nothing = (Vec::new(), String::new());
     assert_eq!(said("inspect", &here.path, input.into()), nothing);
+}
+
+/// A register that `edges` has no room for: it says so, and stops there.
+#[test]
+fn an_edge_with_too_long_a_register() {
+    let edge = Edge {
+        name: "long".to_string(),
+        image: PAPER_IMAGE.to_vec(),
+        picks: vec![0; 10_000],
+    };
+    let edges = pack(&[edge.clone(), edge]);
+    let here = TestDirectory::holding([("edges.bin", &edges[..])]);
+    let (printed, errors) = said("edges", &here.path, Stdio::null());
+    assert_eq!(String::from_utf8_lossy(&printed), "edge long\n");
+    assert_eq!(errors, "no room for a register\n");
 }
 
 /// A full device: the failure is named once, by each program.

@@ -5,6 +5,7 @@
 use files::print;
 use files::print_first;
 use files::read_file;
+use files::say;
 use image::reader::read_image;
 use net::network::Net;
 use run::register::Registered;
@@ -65,7 +66,10 @@ fn print_register(image: &[u8], picks: &[u8]) -> bool {
     let written = register(image, picks, &mut out);
     match written {
         Registered::Written(n) => print_first(&out, n),
-        Registered::NoRoom => false,
+        Registered::NoRoom => {
+            say(b"no room for a register\n");
+            false
+        }
     }
 }
 

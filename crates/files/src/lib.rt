@@ -13,9 +13,14 @@ pub struct Loaded {
     pub failed: bool,
 }
 
+// Writes to standard error.
+pub fn say(text: &[u8]) {
+    io::write_all(STDERR_FILENO, text);
+}
+
 // Writes a line to standard error: what cannot be done, with which file, and errno's text.
 fn complain(what: &[u8], name: &[u8]) {
-    io::write_all(STDERR_FILENO, what);
+    say(what);
     os::fail(name);
 }
 
@@ -70,7 +75,7 @@ pub fn read_file(path: &[u8], buffer: &mut [u8]) -> Loaded
 }
 
 // Fills the buffer from standard input, as far as it goes.
-pub fn read_input(buffer: &mut [u8]) -> Loaded
+fn read_input(buffer: &mut [u8]) -> Loaded
     ensures { λ r. ⌜ Counts (r .count) (now (buffer .exit)) ⌝ }
 {
     fill(STDIN_FILENO, b"standard input", buffer)

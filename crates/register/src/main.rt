@@ -3,7 +3,7 @@
 // decide everything (proved: `FirstBytesDecide`), and of picks.bin the first 65,536 picks count.
 use files::print_first;
 use files::read_file;
-use libc::STDERR_FILENO;
+use files::say;
 use run::register::Registered;
 use run::register::register;
 ghost use mathlib.Core.Path.{_≡_};
@@ -23,9 +23,7 @@ fn print_register(image: &[u8], picks: &[u8], out: &mut [u8]) {
         Registered::Written(n) => {
             print_first(out, n);
         }
-        Registered::NoRoom => {
-            io::write_all(STDERR_FILENO, b"register: no room\n");
-        }
+        Registered::NoRoom => say(b"no room for the register\n"),
     }
 }
 

@@ -2,20 +2,23 @@
 // nor does a file that cannot be read; a missing file counts as empty.
 use files::print_first;
 use files::read_file;
+use files::say;
 use image::reader::read_image;
 use writer::pack::Packed;
 use writer::pack::write_image;
 
-// Prints the image of the net that an image gives; false where that fails.
-fn repack(image: &[u8]) -> bool {
+// Prints the image of the net that an image gives.
+fn repack(image: &[u8]) {
     let opened = read_image(image);
     let net = opened.net;
     let mut out = [0u8; 14749];
     let packed = write_image(net, &mut out);
     match packed {
-        Packed::Written(n) => print_first(&out, n),
-        Packed::NotFresh => true,
-        Packed::NoRoom => true,
+        Packed::Written(n) => {
+            print_first(&out, n);
+        }
+        Packed::NotFresh => {}
+        Packed::NoRoom => say(b"no room for the image\n"),
     }
 }
 

@@ -11,6 +11,7 @@ use cavindorum_tests::random::Random;
 use cavindorum_tests::register;
 use cavindorum_tests::stack::loads;
 use cavindorum_tests::step::pick;
+use cavindorum_tests::stored::repository;
 
 /// A byte that no answer and no text has.
 const KEPT: u8 = 0xEE;
@@ -71,7 +72,8 @@ fn the_edges() {
 #[test]
 fn the_examples() {
     for example in examples() {
-        compare(&write_image(&example.net), &example.picks);
+        let picks: Vec<u8> = example.picks.iter().map(|(pick, _)| *pick).collect();
+        compare(&write_image(&example.net), &picks);
     }
 }
 
@@ -103,6 +105,20 @@ fn random_images() {
         compare(&image, &list);
         compare(&damaged_image(&mut random), &list);
     }
+}
+
+/// The numbers of include/cavindorum.h are those that are tried here.
+#[test]
+fn the_header_s_numbers() {
+    let header = repository().join("include/cavindorum.h");
+    let header = std::fs::read_to_string(header).expect("it is there");
+    let stack = format!(
+        "#define CAVINDORUM_STACK ((size_t)1 << {})\n",
+        STACK.ilog2()
+    );
+    let longest = format!("#define CAVINDORUM_LONGEST_REGISTER ((size_t){LONGEST_REGISTER})\n");
+    assert!(STACK.is_power_of_two() && header.contains(&stack));
+    assert!(header.contains(&longest));
 }
 
 /// Both calls, on the longest image and on a net with every action, in a
