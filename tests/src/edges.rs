@@ -55,7 +55,7 @@ pub fn unpack(bytes: &[u8]) -> Vec<Edge> {
         let (image, picks) = (part()?, part()?);
         Some(Edge { name, image, picks })
     };
-    std::iter::from_fn(|| edge()).collect()
+    std::iter::from_fn(edge).collect()
 }
 
 /// What the program `edges` prints of an edge with this register.

@@ -116,7 +116,7 @@ pub fn jobs(name: &str) -> Vec<Job> {
         "repack" => loads().map(|load| repacking(&load)).into(),
         "edges" => vec![edging()],
         "inspect" => vec![inspecting()],
-        "replay" => loads().map(|load| replaying(load)).into(),
+        "replay" => loads().map(replaying).into(),
         _ => panic!("{name} is no program"),
     }
 }

@@ -74,7 +74,7 @@ fn a_link_to_itself() {
 fn an_unreadable_file() {
     let make = |path: &Path| {
         fs::write(path, PAPER_IMAGE).expect("it can be written");
-        let nobody = fs::Permissions::from_mode(0);
+        let nobody = fs::Permissions::from_mode(0o000);
         fs::set_permissions(path, nobody).expect("they can be set");
     };
     let directory = TestDirectory::holding([]);
