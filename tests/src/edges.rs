@@ -50,7 +50,7 @@ pub fn unpack(bytes: &[u8]) -> Vec<Edge> {
         rest = after;
         Some(part.to_vec())
     };
-    let mut edge = move || {
+    let edge = move || {
         let name = String::from_utf8(part()?).expect("a name is text");
         let (image, picks) = (part()?, part()?);
         Some(Edge { name, image, picks })
