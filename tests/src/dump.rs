@@ -157,12 +157,10 @@ pub fn inspect(images: &[Vec<u8>]) -> Vec<Opened> {
     opened
 }
 
-// An image as the program takes it: its length, then its bytes.
-fn framed(image: &[u8]) -> Vec<u8> {
-    assert!(image.len() < 16_384, "inspect takes at most 16,383 bytes");
-    let mut bytes = (image.len() as u16).to_le_bytes().to_vec();
-    bytes.extend(image);
-    bytes
+/// An image as the program `inspect` takes it: its length, then its bytes.
+pub fn framed(image: &[u8]) -> Vec<u8> {
+    let length = u16::try_from(image.len()).expect("at most 65,535 bytes");
+    [&length.to_le_bytes(), image].concat()
 }
 
 fn read_opened(output: &mut impl Read) -> Opened {

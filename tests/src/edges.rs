@@ -1,5 +1,6 @@
 //! The edges of document 01 ("Edges, those with * to be proved"), each as
-//! an image and picks: first those without a star, then the others.
+//! an image and picks: first those without a star, then those that
+//! crates/edges/specs/Starred.antt claims.
 
 use crate::bits::{BitWriter, Sort};
 use crate::by_hand::*;
@@ -10,8 +11,9 @@ use crate::step::pick;
 use crate::stored::Stored;
 
 /// An image, accepted or not, and the picks made from it.
+#[derive(Clone, PartialEq, Eq, Debug)]
 pub struct Edge {
-    pub name: &'static str,
+    pub name: String,
     pub image: Vec<u8>,
     pub picks: Vec<u8>,
 }
@@ -20,7 +22,7 @@ pub struct Edge {
 pub fn edges() -> Vec<Edge> {
     let mut edges = images_without_star();
     edges.extend(picks_without_star());
-    edges.extend(with_star());
+    edges.extend(starred());
     edges
 }
 
@@ -39,12 +41,33 @@ pub fn pack(edges: &[Edge]) -> Vec<u8> {
     bytes
 }
 
+/// The edges that the program reads from these bytes.
+pub fn unpack(bytes: &[u8]) -> Vec<Edge> {
+    let mut rest = bytes;
+    let mut part = move || {
+        let (length, after) = rest.split_first_chunk()?;
+        let (part, after) = after.split_at_checked(u16::from_le_bytes(*length).into())?;
+        rest = after;
+        Some(part.to_vec())
+    };
+    let edge = move || {
+        let name = String::from_utf8(part()?).expect("a name is text");
+        let (image, picks) = (part()?, part()?);
+        Some(Edge { name, image, picks })
+    };
+    std::iter::from_fn(edge).collect()
+}
+
+/// What the program `edges` prints of an edge with this register.
+pub fn entry(name: &str, register: &str) -> String {
+    format!("edge {name}\n{register}")
+}
+
 /// What the program `edges` prints: for each edge its name and register.
 pub fn expected(edges: &[Edge]) -> Vec<u8> {
-    let entries = edges.iter().map(|edge| {
-        let register = register(&edge.image, &edge.picks);
-        format!("edge {}\n{register}", edge.name)
-    });
+    let entries = edges
+        .iter()
+        .map(|edge| entry(&edge.name, &register(&edge.image, &edge.picks)));
     entries.collect::<String>().into_bytes()
 }
 
@@ -73,12 +96,12 @@ pub fn stored_files() -> Vec<Stored> {
     ]
 }
 
-fn edge(name: &'static str, image: &[u8], picks: &[u8]) -> Edge {
-    let (image, picks) = (image.to_vec(), picks.to_vec());
+fn edge(name: &str, image: &[u8], picks: &[u8]) -> Edge {
+    let (name, image, picks) = (name.to_string(), image.to_vec(), picks.to_vec());
     Edge { name, image, picks }
 }
 
-fn net_edge(name: &'static str, net: Net, picks: &[u8]) -> Edge {
+fn net_edge(name: &str, net: Net, picks: &[u8]) -> Edge {
     edge(name, &write_image(&net), picks)
 }
 
@@ -87,13 +110,6 @@ fn net_edge(name: &'static str, net: Net, picks: &[u8]) -> Edge {
 fn images_without_star() -> Vec<Edge> {
     let stops = |name, addresses, length| edge(name, &stops_image(addresses, length), &[0xF0]);
     vec![
-        edge("one stop, last byte 01", &[0x10, 0x80, 0x20, 0, 1], &[]),
-        edge("one stop, sixth byte 00", &[0x10, 0x80, 0x20, 0, 0, 0], &[]),
-        edge(
-            "one stop, sixth byte FF",
-            &[0x10, 0x80, 0x20, 0, 0, 0xFF],
-            &[],
-        ),
         stops("16 addresses", 16, 1),
         stops("17 addresses", 17, 1),
         stops("0 addresses", 0, 1),
@@ -101,11 +117,6 @@ fn images_without_star() -> Vec<Edge> {
         stops("513 instructions", 1, 513),
         stops("0 instructions", 1, 0),
         stops("0 addresses and 0 instructions", 0, 0),
-        net_edge(
-            "reading with only the first bit set",
-            two_readings(i32::MIN),
-            &[0],
-        ),
     ]
 }
 
@@ -143,7 +154,6 @@ fn two_readings(reading: i32) -> Net {
 
 fn picks_without_star() -> Vec<Edge> {
     vec![
-        net_edge("out to 15 tuples", out_to_tuples(15), &[0]),
         net_edge(
             "eval to itself with four busy slots",
             eval_to_itself(&[0, 1, 0, 1]),
@@ -237,17 +247,39 @@ fn sent_creation() -> Net {
 
 // Those with a star.
 
-fn with_star() -> Vec<Edge> {
+/// The edges with a star, with all that stands beside it, in the order of the paper.
+pub fn starred() -> Vec<Edge> {
+    let mut edges = starred_images();
+    edges.extend(starred_picks());
+    edges
+}
+
+fn starred_images() -> Vec<Edge> {
     let mut barred = PAPER_IMAGE;
     barred[2] = 0x40;
+    let sixth = |name, byte| edge(name, &[&ONE_STOP[..], &[byte]].concat(), &[]);
     vec![
         edge("no bytes", &[], &[]),
         edge("one stop", &ONE_STOP, &[]),
+        edge("one stop, last byte 01", &[0x10, 0x80, 0x20, 0, 1], &[]),
+        sixth("one stop, sixth byte 00", 0x00),
+        sixth("one stop, sixth byte FF", 0xFF),
         edge("the register's image with third byte 40", &barred, &[]),
         edge("the register's run", &PAPER_IMAGE, &[0, 0, 0]),
         net_edge("reading with all bits set", two_readings(-1), &[0]),
+        net_edge(
+            "reading with only the first bit set",
+            two_readings(i32::MIN),
+            &[0],
+        ),
+    ]
+}
+
+fn starred_picks() -> Vec<Edge> {
+    vec![
         net_edge("in at self without a tuple", take_reading(&[]), &[0]),
         net_edge("out to 16 tuples", out_to_tuples(16), &[0]),
+        net_edge("out to 15 tuples", out_to_tuples(15), &[0]),
         net_edge(
             "read at a variable holding self, i but not r",
             read_without_right(),

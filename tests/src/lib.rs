@@ -15,5 +15,7 @@ pub mod random;
 pub mod register;
 pub mod replay;
 pub mod sound;
+pub mod stack;
+pub mod starred;
 pub mod step;
 pub mod stored;

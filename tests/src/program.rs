@@ -2,7 +2,7 @@
 
 use crate::stored::repository;
 use std::path::{Path, PathBuf};
-use std::process::{Child, Command, Stdio};
+use std::process::{Child, Command, Output, Stdio};
 use std::sync::atomic::{AtomicUsize, Ordering};
 use std::{fs, io};
 
@@ -35,15 +35,26 @@ pub fn printed_by(name: &str, directory: &Path) -> Vec<u8> {
 }
 
 /// What a command prints in a directory, without input. One that does not
-/// end well is a failure.
+/// end well, or that complains, is a failure.
 pub fn printed_in(directory: &Path, command: &mut Command) -> io::Result<Vec<u8>> {
     let output = command
         .current_dir(directory)
         .stdin(Stdio::null())
         .output()?;
     let (status, errors) = (output.status, String::from_utf8_lossy(&output.stderr));
-    assert!(status.success(), "{command:?}: {status} {errors}");
+    let well = status.success() && errors.is_empty();
+    assert!(well, "{command:?}: {status} {errors}");
     Ok(output.stdout)
+}
+
+/// Runs a program of the repository in a directory, on this input and
+/// output.
+pub fn run_on(name: &str, directory: &Path, input: Stdio, output: Stdio) -> Output {
+    let mut command = Command::new(program(name));
+    command.current_dir(directory).stdin(input).stdout(output);
+    let child = command.stderr(Stdio::piped()).spawn();
+    let ended = started(name, child).wait_with_output();
+    ended.expect("it can be waited for")
 }
 
 fn started<T>(name: &str, result: io::Result<T>) -> T {
@@ -59,17 +70,22 @@ pub struct TestDirectory {
 }
 
 impl TestDirectory {
-    /// A directory with these files; none is a missing file.
+    /// A directory with net.bin and picks.bin; none is a missing file.
     pub fn with(image: Option<&[u8]>, picks: Option<&[u8]>) -> TestDirectory {
+        let files = [("net.bin", image), ("picks.bin", picks)];
+        let there = files.map(|(name, content)| content.map(|content| (name, content)));
+        TestDirectory::holding(there.into_iter().flatten())
+    }
+
+    /// A directory with these files.
+    pub fn holding<'a>(files: impl IntoIterator<Item = (&'a str, &'a [u8])>) -> TestDirectory {
         static MADE: AtomicUsize = AtomicUsize::new(0);
         let number = MADE.fetch_add(1, Ordering::Relaxed);
         let name = format!("cavindorum-{}-{number}", std::process::id());
         let path = std::env::temp_dir().join(name);
         fs::create_dir_all(&path).expect("the directory can be made");
-        for (name, content) in [("net.bin", image), ("picks.bin", picks)] {
-            if let Some(content) = content {
-                fs::write(path.join(name), content).expect("the file can be written");
-            }
+        for (name, content) in files {
+            fs::write(path.join(name), content).expect("the file can be written");
         }
         TestDirectory { path }
     }

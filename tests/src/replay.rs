@@ -13,6 +13,31 @@ pub struct Run {
     pub picks: Vec<u8>,
 }
 
+impl Run {
+    /// The run as the program takes it: the net, the number of picks, the
+    /// picks.
+    pub fn framed(&self) -> Vec<u8> {
+        let mut bytes = dump(&self.net);
+        let count = u16::try_from(self.picks.len()).expect("at most 65,535 picks");
+        bytes.extend(count.to_le_bytes());
+        bytes.extend(&self.picks);
+        bytes
+    }
+}
+
+/// What the program writes of a run: for each pick the answer and the
+/// digest, and the net at the end.
+pub fn expected(run: &Run) -> Vec<u8> {
+    let mut net = run.net.clone();
+    let mut bytes = Vec::new();
+    for byte in &run.picks {
+        bytes.push(pick(&mut net, *byte));
+        bytes.extend(digest(&dump_state(&net)).to_le_bytes());
+    }
+    bytes.extend(dump(&net));
+    bytes
+}
+
 /// What the model makes of a run: the answers, and the net at the end.
 #[derive(Clone, Debug)]
 pub struct Made {
@@ -32,7 +57,7 @@ pub fn replay(runs: &[Run]) -> Vec<Made> {
         scope.spawn(move || {
             for run in runs {
                 // A program that ends too early is found out below.
-                let _ = input.write_all(&framed(run));
+                let _ = input.write_all(&run.framed());
             }
         });
         let made = runs.iter().map(|run| compare(run, &mut output)).collect();
@@ -42,15 +67,6 @@ pub fn replay(runs: &[Run]) -> Vec<Made> {
     let status = child.wait().expect("replay ends");
     assert!(status.success(), "replay: {status}");
     made
-}
-
-// A run as the program takes it: the net, the number of picks, the picks.
-fn framed(run: &Run) -> Vec<u8> {
-    let mut bytes = dump(&run.net);
-    let count = u16::try_from(run.picks.len()).expect("at most 65,535 picks");
-    bytes.extend(count.to_le_bytes());
-    bytes.extend(&run.picks);
-    bytes
 }
 
 fn compare(run: &Run, output: &mut impl Read) -> Made {

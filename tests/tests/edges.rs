@@ -2,31 +2,50 @@
 //! each edge has the answer the paper states.
 
 use cavindorum_tests::by_hand::{bits, net, new};
-use cavindorum_tests::edges::{edges, pack, stops_image, stored_files, Edge};
+use cavindorum_tests::edges::{
+    edges, entry, pack, starred, stops_image, stored_files, unpack, Edge,
+};
 use cavindorum_tests::image::write_image;
 use cavindorum_tests::register::{answers_in, register};
+use cavindorum_tests::starred::claims;
 use cavindorum_tests::step::pick;
-use cavindorum_tests::stored;
+use cavindorum_tests::stored::{self, repository};
 
 #[test]
 fn the_stored_files_are_the_model_s() {
     stored::compare(&stored_files(), "write_edges");
 }
 
-/// Reading the packed edges, part by part, gives the list again.
+/// Reading the packed edges gives the list again.
 #[test]
 fn packed_edges_are_read_back() {
-    let edges = edges();
-    let packed = pack(&edges);
-    let mut rest = &packed[..];
-    for edge in &edges {
-        for part in [edge.name.as_bytes(), &edge.image, &edge.picks] {
-            let length = u16::from_le_bytes([rest[0], rest[1]]) as usize;
-            assert_eq!(&rest[2..2 + length], part, "{}", edge.name);
-            rest = &rest[2 + length..];
+    assert_eq!(unpack(&pack(&edges())), edges());
+}
+
+/// Each claim of Starred.antt has the bytes of an edge that the program works
+/// through, and the register that the program prints for it; and each edge
+/// with a star has its claim.
+#[test]
+fn the_claims_are_those_of_the_starred_edges() {
+    let file = |name: &str| std::fs::read(repository().join("crates/edges").join(name));
+    let worked = unpack(&file("data/edges.bin").expect("the edges are there"));
+    let printed = file("stdout").expect("the output is there");
+    let printed = String::from_utf8(printed).expect("it is text");
+    let claims = claims();
+    for claim in &claims {
+        let mut met = worked.iter().filter(|edge| claim.is_of(edge)).peekable();
+        assert!(met.peek().is_some(), "{}: of no edge", claim.name);
+        for edge in met {
+            let entry = entry(&edge.name, &claim.register);
+            assert!(printed.contains(&entry), "{}: {entry}", claim.name);
         }
     }
-    assert!(rest.is_empty());
+    for edge in starred() {
+        assert!(worked.contains(&edge), "{}", edge.name);
+        let claimed = claims.iter().filter(|claim| claim.is_of(&edge)).count();
+        assert_eq!(claimed, 1, "{}", edge.name);
+    }
+    assert_eq!(claims.len(), 14);
 }
 
 /// What the paper states of an edge.
@@ -40,9 +59,6 @@ use Stated::{Answers, Refused};
 
 /// Each edge by its name, those without a star first, as in the paper.
 const STATED: [(&str, Stated); 29] = [
-    ("one stop, last byte 01", Refused(29)),
-    ("one stop, sixth byte 00", Refused(29)),
-    ("one stop, sixth byte FF", Refused(29)),
     ("16 addresses", Answers(&[7], &["node 15 0 0"])),
     ("17 addresses", Refused(22)),
     ("0 addresses", Refused(22)),
@@ -50,17 +66,6 @@ const STATED: [(&str, Stated); 29] = [
     ("513 instructions", Refused(22)),
     ("0 instructions", Refused(22)),
     ("0 addresses and 0 instructions", Refused(22)),
-    (
-        "reading with only the first bit set",
-        Answers(
-            &[0],
-            &["node 0 2 1", "tuple 0 -2147483648", "tuple 0 -2147483648"],
-        ),
-    ),
-    (
-        "out to 15 tuples",
-        Answers(&[0], &["tuple 0 15", "tuple 0 100"]),
-    ),
     (
         "eval to itself with four busy slots",
         Answers(&[3, 3], &["node 0 0 4"]),
@@ -88,6 +93,9 @@ const STATED: [(&str, Stated); 29] = [
     ),
     ("no bytes", Refused(28)),
     ("one stop", Answers(&[], &["net 1 1", "node 0 0 0"])),
+    ("one stop, last byte 01", Refused(29)),
+    ("one stop, sixth byte 00", Refused(29)),
+    ("one stop, sixth byte FF", Refused(29)),
     ("the register's image with third byte 40", Refused(30)),
     (
         "the register's run",
@@ -97,10 +105,21 @@ const STATED: [(&str, Stated); 29] = [
         "reading with all bits set",
         Answers(&[0], &["node 0 2 1", "tuple 0 -1", "tuple 0 -1"]),
     ),
+    (
+        "reading with only the first bit set",
+        Answers(
+            &[0],
+            &["node 0 2 1", "tuple 0 -2147483648", "tuple 0 -2147483648"],
+        ),
+    ),
     ("in at self without a tuple", Answers(&[2], &["node 0 0 1"])),
     (
         "out to 16 tuples",
         Answers(&[3], &["tuple 0 15", "tuple 0 16"]),
+    ),
+    (
+        "out to 15 tuples",
+        Answers(&[0], &["tuple 0 15", "tuple 0 100"]),
     ),
     (
         "read at a variable holding self, i but not r",
@@ -127,7 +146,7 @@ fn each_edge_has_the_stated_answer() {
 }
 
 fn check(edge: &Edge, stated: &Stated) {
-    let name = edge.name;
+    let name = &edge.name;
     let text = register(&edge.image, &edge.picks);
     match stated {
         Refused(number) => assert_eq!(text, format!("refused {number}\n"), "{name}"),

@@ -102,6 +102,39 @@ fn the_longest_image_has_14_749_bytes() {
     assert_eq!(number(&image), 29);
 }
 
+/// The reader looks at the first 16,384 bytes, which decide: images that end
+/// before that, there and beyond give what the model, which looks at all of
+/// them, says.
+#[test]
+fn images_around_what_the_reader_looks_at() {
+    let mut random = Random::new(104);
+    let longest = write_image(&longest());
+    let heads: [&[u8]; 3] = [&longest, &PAPER_IMAGE, &ONE_STOP];
+    let mut images = Vec::new();
+    for length in [16_383, 16_384, 16_385, 16_386, 32_768, 40_000, 65_535] {
+        for head in heads {
+            let mut image = head.to_vec();
+            image.resize(length, 0);
+            images.push(image.clone());
+            image[length - 1] = 1;
+            images.push(image.clone());
+            image.truncate(head.len());
+            image.resize_with(length, || random.byte());
+            images.push(image);
+        }
+    }
+    let found = numbers(&images);
+    assert!(found.iter().all(|number| *number == 29), "{found:?}");
+    // 16 addresses and 512 instructions, of any bits.
+    let noise = |length| {
+        let head = [0x18, 0x40, random.byte() & 0x1F];
+        let rest = (3..length).map(|_| random.byte());
+        head.into_iter().chain(rest).collect::<Vec<u8>>()
+    };
+    let lengths = [16_383, 16_384, 16_385, 40_000].into_iter().cycle();
+    numbers(&lengths.take(200).map(noise).collect::<Vec<_>>());
+}
+
 #[test]
 fn the_register_s_image() {
     assert_accepted(&PAPER_IMAGE, &paper_net());

@@ -1,6 +1,6 @@
 -- The claim of `specs/Starred.antt`, by computing. Assumes nothing.
 use Prim.Native.Nat.{ℕ}
-use mathlib.Core.Path.{_≡_, refl}
+use mathlib.Core.Path.{refl}
 use Rattle.net.specs.Choice as Choice
 use Rattle.net.specs.Records as Records
 use Rattle.net.specs.Matching as Matching
@@ -27,6 +27,8 @@ unfolding opened
 starredEdges = record {
   no-bytes = refl;
   one-stop = refl;
+  last-byte = refl;
+  sixth-byte = λ b. refl;
   no-put = refl;
   listing = refl;
   all-ones = refl;

@@ -1,5 +1,6 @@
 -- The starred edges of document 01 ("Edges, those with * to be proved") as one claim about the definitions: what the
--- register says of an image and its picks. The images are those of edges.bin, which the program works through as well.
+-- register says of an image and its picks. The bytes are those of edges.bin, which the program works through as well
+-- (compared in tests/tests/edges.rs).
 use Prim.Native.Nat.{ℕ}
 use Prim.Native.Char.{code}
 use Prim.Native.String.{String, [] as empty, _∷_ as _then_}
@@ -25,6 +26,19 @@ pub record StarredEdges : Type 0 where
       (16 ∷ 128 ∷ 32 ∷ 0 ∷ 0 ∷ [])
       ([])
       ≡ bytes "net 1 1\nnode 0 0 0\n"
+  -- The same with last byte 01: 29.
+  pub last-byte :
+      registerOf
+      (16 ∷ 128 ∷ 32 ∷ 0 ∷ 1 ∷ [])
+      ([])
+      ≡ bytes "refused 29\n"
+  -- The same with a sixth byte, whatever it is: 29.
+  pub sixth-byte :
+      (b : ℕ) →
+      registerOf
+      (16 ∷ 128 ∷ 32 ∷ 0 ∷ 0 ∷ b ∷ [])
+      ([])
+      ≡ bytes "refused 29\n"
   -- The register's image with third byte 40: 30.
   pub no-put :
       registerOf

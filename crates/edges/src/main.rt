@@ -1,10 +1,12 @@
 // Works through the edges of document 01 and prints what the machine answers. edges.bin holds for each edge
 // its name, an image and picks, each after its length in two bytes, lower first; creation.bin the image of the
-// one edge that no image shows. What is printed is compared with what the Rust model gives.
+// one edge that no image shows. What is printed is compared with what the Rust model gives. A missing file counts as
+// empty; where one cannot be read, nothing is printed.
+use files::print;
 use files::print_first;
 use files::read_file;
+use files::say;
 use image::reader::read_image;
-use libc::STDOUT_FILENO;
 use net::network::Net;
 use run::register::Registered;
 use run::register::register;
@@ -58,35 +60,45 @@ fn after(edges: &[u8], at: usize) -> usize {
     edges.len()
 }
 
-// Prints the register of an image and its picks.
-fn print_register(image: &[u8], picks: &[u8]) {
+// Prints the register of an image and its picks; false where that fails.
+fn print_register(image: &[u8], picks: &[u8]) -> bool {
     let mut out = [0u8; 65536];
     let written = register(image, picks, &mut out);
     match written {
         Registered::Written(n) => print_first(&out, n),
-        Registered::NoRoom => print_first(&out, 0),
+        Registered::NoRoom => {
+            say(b"no room for a register\n");
+            false
+        }
     }
 }
 
-// Prints the edge that starts at a place, and gives the place after it.
-fn print_edge(edges: &[u8], at: usize) -> usize {
-    io::write_all(STDOUT_FILENO, b"edge ");
-    io::write_all(STDOUT_FILENO, part_at(edges, at));
-    io::write_all(STDOUT_FILENO, b"\n");
+// Prints the edge that starts at a place; false where that fails.
+fn print_edge(edges: &[u8], at: usize) -> bool {
     let image = after(edges, at);
     let picks = after(edges, image);
-    print_register(part_at(edges, image), part_at(edges, picks));
+    print(b"edge ")
+        && print(part_at(edges, at))
+        && print(b"\n")
+        && print_register(part_at(edges, image), part_at(edges, picks))
+}
+
+// The place after the edge that starts at a place.
+fn after_edge(edges: &[u8], at: usize) -> usize {
+    let image = after(edges, at);
+    let picks = after(edges, image);
     after(edges, picks)
 }
 
-// Prints each edge. No list has so many that the turns run out.
-fn print_edges(edges: &[u8]) {
+// Prints each edge; false where that fails. No list has so many that the turns run out.
+fn print_edges(edges: &[u8]) -> bool {
     let mut at = 0;
     let mut turns = 1000usize;
-    while turns > 0 && at < edges.len() {
-        at = print_edge(edges, at);
+    while turns > 0 && at < edges.len() && print_edge(edges, at) {
+        at = after_edge(edges, at);
         turns -= 1;
     }
+    at >= edges.len()
 }
 
 // The net without the right to create at address 0, which no pick takes away.
@@ -100,30 +112,36 @@ fn without_creation(start: Net) -> Net {
     net
 }
 
-// Prints what a pick of address 0, slot 0 is answered in a net that no image gives.
-fn print_barred(image: &[u8]) {
+// Prints the line of a first pick of address 0, slot 0.
+fn print_answer(answer: Answer) -> bool {
+    match answer {
+        Answer::NoRight => print(b"pick 1 0 0 4\n"),
+        Answer::NoRoom => print(b"pick 1 0 0 3\n"),
+        _ => print(b"pick 1 0 0 other\n"),
+    }
+}
+
+// Prints what such a pick is answered in a net that no image gives.
+fn print_barred(image: &[u8]) -> bool {
     let opened = read_image(image);
     let net = without_creation(opened.net);
     let host = Host { net };
     let picked = host.pick(0);
     let answer = picked.answer;
-    match answer {
-        Answer::NoRight => io::write_all(STDOUT_FILENO, b"pick 1 0 0 4\n"),
-        Answer::NoRoom => io::write_all(STDOUT_FILENO, b"pick 1 0 0 3\n"),
-        _ => io::write_all(STDOUT_FILENO, b"pick 1 0 0 other\n"),
-    }
-    ;
+    print(b"edge creation at 16 addresses, n withdrawn\n") && print_answer(answer)
 }
 
 fn main() {
     let mut edges = [0u8; 65536];
-    let n = read_file(b"edges.bin", &mut edges);
-    print_edges(&edges[..n]);
     let mut image = [0u8; 14750];
-    let k = read_file(b"creation.bin", &mut image);
-    io::write_all(
-        STDOUT_FILENO,
-        b"edge creation at 16 addresses, n withdrawn\n",
-    );
-    print_barred(&image[..k]);
+    let list = read_file(b"edges.bin", &mut edges);
+    let barred = read_file(b"creation.bin", &mut image);
+    if list.failed || barred.failed {
+        return;
+    }
+    let n = list.count;
+    let k = barred.count;
+    if print_edges(&edges[..n]) {
+        print_barred(&image[..k]);
+    }
 }

@@ -1,4 +1,5 @@
-// The two public calls of `run` for programs in other languages, as the benchmark: numbers and byte slices alone.
+// The two public calls of `run` for programs in other languages: numbers and byte slices alone. include/cavindorum.h
+// declares them for C.
 use run::register::Registered;
 use run::register::register;
 use run::run::Finish;

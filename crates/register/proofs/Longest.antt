@@ -1,17 +1,13 @@
 -- The claim of `specs/Longest.antt`. Numbers have at most 20 digits; those of a `pick` line fewer.
 -- Assumes nothing.
 use Prim.Native.Nat.{ℕ, zero, suc, _+_, _*_, _/_, _%_, _^_, _<_, _≤_}
-use mathlib.Core.Path.{_≡_, refl, sym, ap, subst, _∙_}
-use mathlib.Core.Bool.{Bool, true, false}
+use mathlib.Core.Path.{_≡_, refl}
 use mathlib.Core.List.{List, [], _∷_, _++_, map}
 use native.Mathlib.Omega.{arith}
 use native.Mathlib.Nat.{pow-suc, suc-mul, mul-le-mul-right, le-trans}
-use native.Mathlib.Decide.{decLe}
 use lib.ListN.{length, getD, take, length-append, length-take}
 use lib.Dec.{ltb}
 use lib.IntN.{ℤ}
-use borrow.Author.Tests.{ltb-true, ltb-false}
-use Rattle.net.specs.Choice.{choose}
 use Rattle.net.specs.Records.{fieldAt, tupleAt, nodeAt}
 use Rattle.net.proofs.Every.{chosen, chosen-lt}
 use Rattle.net.specs.declared.tuple.Item.{Item}
@@ -22,7 +18,7 @@ use Rattle.image.specs.declared.reader.Fault.{Fault}
 use Rattle.step.specs.declared.answer.Answer.{Answer}
 use Rattle.step.specs.Answer.{numberOf}
 use Rattle.step.specs.Pick.{hostOf, slotOf}
-use Rattle.run.specs.Run.{Ran, Outcome, refused, ran, runOf}
+use Rattle.run.specs.Run.{Ran, Outcome, refused, ran}
 use Rattle.run.specs.Making.{numbers}
 use Rattle.run.specs.Register.{digit, digits, decimal, signedDecimal, itemText, field, newline, words, line, pieces, fewer}
 use Rattle.run.specs.Register.{refusedLine, netLine, pickLine, nodeLine, tupleFields, tupleLine, tupleLines, nodeLines}

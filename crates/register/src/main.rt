@@ -1,9 +1,9 @@
 // The program of document 01, "The register": reads net.bin and picks.bin and prints the register.
-// A missing file counts as empty. Of net.bin the first 14,750 bytes decide everything (proved:
-// `FirstBytesDecide`), and of picks.bin the first 65,536 picks count.
+// A missing file counts as empty; where one cannot be read, nothing is printed. Of net.bin the first 14,750 bytes
+// decide everything (proved: `FirstBytesDecide`), and of picks.bin the first 65,536 picks count.
 use files::print_first;
 use files::read_file;
-use libc::STDERR_FILENO;
+use files::say;
 use run::register::Registered;
 use run::register::register;
 ghost use mathlib.Core.Path.{_≡_};
@@ -20,18 +20,23 @@ fn room() -> [u8; 1300000]
 fn print_register(image: &[u8], picks: &[u8], out: &mut [u8]) {
     let written = register(image, picks, out);
     match written {
-        Registered::Written(n) => print_first(out, n),
-        Registered::NoRoom => {
-            io::write_all(STDERR_FILENO, b"register: no room\n");
+        Registered::Written(n) => {
+            print_first(out, n);
         }
+        Registered::NoRoom => say(b"no room for the register\n"),
     }
 }
 
 fn main() {
     let mut image = [0u8; 14750];
     let mut picks = [0u8; 65536];
-    let n = read_file(b"net.bin", &mut image);
-    let k = read_file(b"picks.bin", &mut picks);
+    let net = read_file(b"net.bin", &mut image);
+    let list = read_file(b"picks.bin", &mut picks);
+    if net.failed || list.failed {
+        return;
+    }
+    let n = net.count;
+    let k = list.count;
     let mut out = room();
     print_register(&image[..n], &picks[..k], &mut out);
 }

@@ -1,6 +1,8 @@
-// Reads net.bin and prints the image of its net, as the writer makes it: the same bytes. A refused image prints nothing.
+// Reads net.bin and prints the image of its net, as the writer makes it: the same bytes. A refused image prints nothing,
+// nor does a file that cannot be read; a missing file counts as empty.
 use files::print_first;
 use files::read_file;
+use files::say;
 use image::reader::read_image;
 use writer::pack::Packed;
 use writer::pack::write_image;
@@ -12,14 +14,20 @@ fn repack(image: &[u8]) {
     let mut out = [0u8; 14749];
     let packed = write_image(net, &mut out);
     match packed {
-        Packed::Written(n) => print_first(&out, n),
-        Packed::NotFresh => print_first(&out, 0),
-        Packed::NoRoom => print_first(&out, 0),
+        Packed::Written(n) => {
+            print_first(&out, n);
+        }
+        Packed::NotFresh => {}
+        Packed::NoRoom => say(b"no room for the image\n"),
     }
 }
 
 fn main() {
     let mut image = [0u8; 14750];
-    let n = read_file(b"net.bin", &mut image);
+    let net = read_file(b"net.bin", &mut image);
+    if net.failed {
+        return;
+    }
+    let n = net.count;
     repack(&image[..n]);
 }

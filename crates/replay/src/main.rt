@@ -4,12 +4,14 @@
 // last pick of a record the whole net. It ends where the input does.
 use dump::put_net;
 use dump::put_state;
-use libc::STDIN_FILENO;
-use libc::STDOUT_FILENO;
+use files::print;
+use files::read_first;
 use net::network::Net;
 use restore::net_of;
 use step::answer::Answer;
 use step::step::Host;
+ghost use mathlib.Core.Path.{_≡_};
+ghost use Rattle.step.specs.Answer.{numberOf};
 
 mod bytes;
 mod code;
@@ -17,7 +19,9 @@ mod nodes;
 mod restore;
 
 // The answer's number in document 01, "One pick".
-fn number_of(answer: Answer) -> u8 {
+fn number_of(answer: Answer) -> u8
+    ensures { λ r. ⌜ r ≡ numberOf answer ⌝ }
+{
     match answer {
         Answer::Performed => 0,
         Answer::Ended => 1,
@@ -68,73 +72,72 @@ fn put_number(out: &mut [u8], number: u64) {
     }
 }
 
+// Writes a pick's answer and the digest of the net after it; false where that fails.
 fn write_pick(answer: Answer, net: Net) -> bool {
     let mut out = [0u8; 9];
     out[0] = number_of(answer);
     put_number(&mut out, digest_state(net));
-    io::write_all(STDOUT_FILENO, &out)
+    print(&out)
 }
 
-// One pick, written; gives the net after it.
-fn make_pick(net: Net, b: u8) -> Net {
+// The net after picks, and whether all that was to be written of them is.
+struct Made {
+    net: Net,
+    written: bool,
+}
+
+// One pick, written.
+fn make_pick(net: Net, b: u8) -> Made {
     let host = Host { net };
     let picked = host.pick(b);
     let answer = picked.answer;
     let after = picked.net;
-    write_pick(answer, after);
-    after
+    let written = write_pick(answer, after);
+    Made {
+        net: after,
+        written,
+    }
 }
 
-fn make_picks(net: Net, picks: &[u8]) -> Net {
-    let mut after = net;
+// Picks one after another, until all are made or one cannot be written.
+fn make_picks(net: Net, picks: &[u8]) -> Made {
+    let mut made = Made { net, written: true };
     let mut i = 0;
-    while i < picks.len() {
-        after = make_pick(after, picks[i]);
+    while i < picks.len() && made.written {
+        let after = made.net;
+        made = make_pick(after, picks[i]);
         i += 1;
     }
-    after
+    made
 }
 
 fn write_net(net: Net) -> bool {
     let mut out = [0u8; 23267];
     put_net(&mut out, 0, net);
-    io::write_all(STDOUT_FILENO, &out)
+    print(&out)
 }
 
-// Reads so many bytes into a buffer, and gives how many came: none where there is no room.
-fn read_bytes(buffer: &mut [u8], length: usize) -> usize {
-    if length <= buffer.len() {
-        io::read_full(STDIN_FILENO, &mut buffer[..length])
-    } else {
-        0
-    }
-}
-
-// The first of the picks on a net, and the net after them.
+// Makes the first of the picks on a net and writes the net after them; false where that fails.
 fn run_first(net: Net, picks: &[u8], count: usize) -> bool {
     if count <= picks.len() {
-        write_net(make_picks(net, &picks[..count]))
+        let made = make_picks(net, &picks[..count]);
+        let after = made.net;
+        made.written && write_net(after)
     } else {
         false
     }
 }
 
-// Reads so many picks and makes them.
+// Reads so many picks and makes them; false where fewer come.
 fn run_next(net: Net, count: usize) -> bool {
     let mut picks = [0u8; 65535];
-    let got = read_bytes(&mut picks, count);
-    if got == count {
-        run_first(net, &picks, count)
-    } else {
-        false
-    }
+    read_first(&mut picks, count) && run_first(net, &picks, count)
 }
 
-// One record; false at the end of the input.
+// One record; false at the end of the input, or where something fails.
 fn take_turn() -> bool {
     let mut head = [0u8; 23269];
-    let got = read_bytes(&mut head, 23269);
-    if got == 23269 {
+    if read_first(&mut head, 23269) {
         let count = bytes::two_at(&head, 23267);
         run_next(net_of(&head), count as usize)
     } else {

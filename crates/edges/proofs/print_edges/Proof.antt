@@ -17,8 +17,8 @@ print-edges-spec =
     μ-loop
     (λ c. tt)
     (λ c κs. search needs)
+    (λ c κs. search needs)
     (λ c. search needs)
     (λ c. search needs)
     (λ c. tt)
-    (λ c. tt)
-    (λ c. tt))
+    (λ c. search needs))

@@ -1,0 +1,22 @@
+-- `inspect::number_of` meets its contract. Assumes nothing.
+use Prim.Native.Nat.{ℕ}
+use mathlib.Core.Path.{_≡_}
+use Rattle.image.specs.Image.{numberOf}
+use Rattle.image.specs.declared.reader.Answer.{Answer}
+use borrow.Author.Needs.{needs}
+use Rattle.inspect.proofs.number_of.Statement.{statement}
+use Rattle.inspect.proofs.number_of.Tie as tie
+
+-- the number in an arm, by what the arm knows of the answer
+by : (x y : Answer) (r : ℕ) → x ≡ y → r ≡ numberOf y → r ≡ numberOf x
+by x y r p q = rw p q
+
+pub number-of-spec : {M : Type 1} → statement M
+unfolding numberOf
+number-of-spec =
+    tie.close
+    (tie.spec
+    (λ c. search needs)
+    (λ c. search needs)
+    (λ c. search (needs, by))
+    (λ c. search (needs, by)))

@@ -1,0 +1,70 @@
+/*
+ * The public calls of Cavindorum for C, in target/staticlib/libexports.a
+ * (`rt staticlib exports` makes it, for x86-64 Linux). What each call gives
+ * and leaves in its buffer is proved (crates/exports/src/lib.rt).
+ *
+ * Pointers and lengths. Each buffer is a pointer and, next after it, the
+ * number of its bytes: first the image, then the picks, then the buffer that
+ * is written. A pointer leads to as many bytes as its length says. No pointer
+ * is null; through that of a buffer of no bytes nothing is read or written.
+ *
+ * Overlap. The buffer that is written shares no byte with the image or the
+ * picks, and no other thread writes to any of the three before the call
+ * returns. The image and the picks are only read, and may overlap.
+ *
+ * Stack. CAVINDORUM_STACK bytes below the caller's frame are enough for a
+ * call. This is measured and not proved; with too little the process ends at
+ * the guard page below the stack.
+ *
+ * Threads. No call uses the heap, keeps anything between calls or calls the
+ * C library but for memcpy, memmove and memset, so that calls may run in
+ * several threads at once, each on a buffer of its own to write.
+ */
+#ifndef CAVINDORUM_H
+#define CAVINDORUM_H
+
+#include <stddef.h>
+#include <stdint.h>
+
+#ifdef __cplusplus
+extern "C" {
+#endif
+
+/* Bytes of stack that are enough for a call. */
+#define CAVINDORUM_STACK ((size_t)1 << 20)
+
+/* No register is longer, so that a buffer of so many bytes holds any. */
+#define CAVINDORUM_LONGEST_REGISTER ((size_t)1300000)
+
+/*
+ * Makes a run: reads an image, and makes the picks one after another, each
+ * on the net that the last one left. Puts the answer to each pick, 0 to 10,
+ * at its place in answers.
+ *
+ * Gives 0; or the number of the image's first fault, 21 to 30; or 35 where
+ * there are fewer bytes for answers than picks. The image is judged first.
+ * Where it does not give 0, answers is as it was. Bytes of answers past the
+ * number of picks stay as they were.
+ */
+uint8_t cavindorum_run(const uint8_t *image, size_t image_length,
+                       const uint8_t *picks, size_t picks_length,
+                       uint8_t *answers, size_t answers_length);
+
+/*
+ * Writes the register of an image and picks, of which the first 65,536
+ * count, into out. It is text without a zero byte at its end. A refused image
+ * has the register `refused N`.
+ *
+ * Gives the register's length; or 0 where out is too short for it, and out
+ * then holds as much of it as fits. Bytes of out past the register stay as
+ * they were.
+ */
+size_t cavindorum_register(const uint8_t *image, size_t image_length,
+                           const uint8_t *picks, size_t picks_length,
+                           uint8_t *out, size_t out_length);
+
+#ifdef __cplusplus
+}
+#endif
+
+#endif

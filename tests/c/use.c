@@ -1,0 +1,62 @@
+/*
+ * The calls of cavindorum.h from C. Prints the register of document 01,
+ * and fails where a call gives anything else than the header says.
+ */
+#include "cavindorum.h"
+
+#include <stdio.h>
+#include <stdlib.h>
+#include <string.h>
+
+#define SIZE(array) (sizeof(array) / sizeof((array)[0]))
+
+/* The register's image and picks in document 01. */
+static const uint8_t image[] = {0x10, 0x80, 0x42, 0x20, 0x00, 0x14,
+                                0x00, 0x00, 0x00, 0x00, 0xA0, 0x10};
+static const uint8_t picks[] = {0x00, 0x00, 0x00};
+
+static uint8_t text[CAVINDORUM_LONGEST_REGISTER];
+
+static void expect(int holds, const char *what) {
+    if (!holds) {
+        fprintf(stderr, "use: %s\n", what);
+        exit(1);
+    }
+}
+
+static uint8_t run(size_t image_length, uint8_t *answers, size_t length) {
+    return cavindorum_run(image, image_length, picks, SIZE(picks), answers, length);
+}
+
+static void use_run(void) {
+    const uint8_t performed[] = {0, 1, 7, 99};
+    const uint8_t untouched[] = {99, 99, 99, 99};
+    uint8_t answers[] = {99, 99, 99, 99};
+    expect(run(0, answers, SIZE(answers)) == 28, "no bytes are 28");
+    expect(run(SIZE(image), answers, 2) == 35, "two bytes for three answers are 35");
+    expect(memcmp(answers, untouched, SIZE(answers)) == 0, "a refusal changes no answer");
+    expect(run(SIZE(image), answers, SIZE(answers)) == 0, "a run is made");
+    expect(memcmp(answers, performed, SIZE(answers)) == 0, "its answers are 0, 1 and 7");
+    expect(cavindorum_run(image, SIZE(image), picks, 0, answers, 0) == 0, "no picks are a run");
+}
+
+static size_t written(size_t image_length, size_t length) {
+    return cavindorum_register(image, image_length, picks, SIZE(picks), text, length);
+}
+
+static void use_register(void) {
+    const char refused[] = "refused 28\n";
+    size_t length;
+    expect(written(0, SIZE(text)) == strlen(refused), "no bytes have a register");
+    expect(memcmp(text, refused, strlen(refused)) == 0, "it says 28");
+    expect(written(SIZE(image), 10) == 0, "ten bytes are too short");
+    length = written(SIZE(image), SIZE(text));
+    expect(length > 0, "there is room for every register");
+    expect(fwrite(text, 1, length, stdout) == length, "it is printed");
+}
+
+int main(void) {
+    use_run();
+    use_register();
+    return 0;
+}

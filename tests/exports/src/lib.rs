@@ -1,0 +1,68 @@
+//! The exported calls of the proved code (include/cavindorum.h) as safe
+//! functions: slices bring their lengths, and what is written overlaps
+//! nothing.
+
+extern "C" {
+    fn cavindorum_run(
+        image: *const u8,
+        image_length: usize,
+        picks: *const u8,
+        picks_length: usize,
+        answers: *mut u8,
+        answers_length: usize,
+    ) -> u8;
+    fn cavindorum_register(
+        image: *const u8,
+        image_length: usize,
+        picks: *const u8,
+        picks_length: usize,
+        out: *mut u8,
+        out_length: usize,
+    ) -> usize;
+}
+
+/// Bytes of stack that are enough for a call, as the header says.
+pub const STACK: usize = 1 << 20;
+
+/// No register is longer, as the header says.
+pub const LONGEST_REGISTER: usize = 1_300_000;
+
+/// A call: two slices to read, one to write.
+type Exported<T> = unsafe extern "C" fn(*const u8, usize, *const u8, usize, *mut u8, usize) -> T;
+
+fn call<T>(function: Exported<T>, image: &[u8], picks: &[u8], out: &mut [u8]) -> T {
+    let (image, image_length) = (image.as_ptr(), image.len());
+    let (picks, picks_length) = (picks.as_ptr(), picks.len());
+    // SAFETY: each pointer goes with the length of its own slice, the
+    // slices outlive the call, and the one that is written is borrowed alone.
+    unsafe {
+        function(
+            image,
+            image_length,
+            picks,
+            picks_length,
+            out.as_mut_ptr(),
+            out.len(),
+        )
+    }
+}
+
+/// Reads an image and makes the picks. Gives 0 or the number of what kept
+/// the run from being made, and leaves the answer to each pick.
+pub fn run(image: &[u8], picks: &[u8], answers: &mut [u8]) -> u8 {
+    call(cavindorum_run, image, picks, answers)
+}
+
+/// Writes the register of an image and picks. Gives its length, or 0 where
+/// there is no room for it.
+pub fn register_in(image: &[u8], picks: &[u8], out: &mut [u8]) -> usize {
+    call(cavindorum_register, image, picks, out)
+}
+
+/// The whole register.
+pub fn register(image: &[u8], picks: &[u8]) -> Vec<u8> {
+    let mut out = vec![0; LONGEST_REGISTER];
+    let written = register_in(image, picks, &mut out);
+    out.truncate(written);
+    out
+}

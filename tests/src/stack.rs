@@ -1,0 +1,206 @@
+//! The stack that the proved code needs, which nothing proves: nets and
+//! picks that go by all of the code, and programs run with little of it.
+
+use crate::by_hand::*;
+use crate::dump::{dump, framed};
+use crate::image::write_image;
+use crate::net::*;
+use crate::program::{program, TestDirectory};
+use crate::random::Random;
+use crate::register::{register, MOST_PICKS};
+use crate::replay::{expected, Run};
+use crate::stored::repository;
+use std::fs::{self, File};
+use std::path::Path;
+use std::process::{Command, Output};
+
+/// A net, and as many picks as a register takes.
+pub struct Load {
+    pub net: Net,
+    pub picks: Vec<u8>,
+}
+
+impl Load {
+    pub fn image(&self) -> Vec<u8> {
+        write_image(&self.net)
+    }
+}
+
+/// The longest image, and a net in which every action is performed.
+pub fn loads() -> [Load; 2] {
+    let mut random = Random::new(501);
+    let mut picks = || (0..MOST_PICKS).map(|_| random.byte() & 0xFC).collect();
+    [longest(), busy()].map(|net| Load {
+        net,
+        picks: picks(),
+    })
+}
+
+/// Code of 512 instructions with every action, all rights, and four
+/// processes at each of 15 addresses.
+pub fn busy() -> Net {
+    let mut net = stops(15, 512);
+    for at in 0..15 {
+        let node = &mut net.nodes[at];
+        node.row.create = true;
+        node.row.rights[..15].fill(Rights::ALL);
+        let places = [0, 8, 16, 24].map(|place| (place + 32 * at as u16) % 504);
+        node.processes = places.map(|place| Process::starting(Place(place)));
+    }
+    for first in (0..504).step_by(8) {
+        net.code[first as usize..][..8].copy_from_slice(&round(first));
+    }
+    net.code[504] = new(7, 511);
+    net.nodes[0].processes[3] = Process::starting(Place(504));
+    net
+}
+
+/// Eight instructions from a place on, and then the next eight.
+fn round(at: u16) -> [Instruction; 8] {
+    let any = [
+        TemplateField::FormalReading(0),
+        TemplateField::FormalAddress(1),
+    ];
+    let held = [TemplateField::Variable(0), TemplateField::Variable(1)];
+    let put = [TemplateField::Reading(at.into()), TemplateField::Own];
+    let (far, stop) = (written((at / 8 % 15) as u8), 511);
+    [
+        out(OWN, &put, at + 1),
+        read(OWN, &any, at + 2),
+        out(Target::Variable(1), &held, at + 3),
+        take(OWN, &any, at + 4),
+        eval(Target::Variable(1), stop, at + 5),
+        fork(at + 6, stop),
+        eval(far, stop, at + 7),
+        take(OWN, &any, (at + 8) % 504),
+    ]
+}
+
+/// A directory for a program, with the bytes of its standard input, and
+/// what it prints there.
+pub struct Job {
+    directory: TestDirectory,
+    printed: Vec<u8>,
+}
+
+const INPUT: &str = "input";
+
+impl Job {
+    fn new(files: &[(&str, &[u8])], input: &[u8], printed: Vec<u8>) -> Job {
+        let files = files.iter().copied().chain([(INPUT, input)]);
+        let directory = TestDirectory::holding(files);
+        Job { directory, printed }
+    }
+
+    /// Whether a program does the job with so many kilobytes of stack.
+    pub fn done_by(&self, name: &str, kilobytes: usize) -> bool {
+        let output = run_with_stack(name, &self.directory.path, kilobytes);
+        output.status.success() && output.stdout == self.printed
+    }
+}
+
+// Runs a program of the repository with so many kilobytes of stack.
+fn run_with_stack(name: &str, directory: &Path, kilobytes: usize) -> Output {
+    let script = "ulimit -s \"$1\" && exec \"$0\"";
+    let input = File::open(directory.join(INPUT)).expect("it is there");
+    let mut command = Command::new("sh");
+    command.arg("-c").arg(script).arg(program(name));
+    command.arg(kilobytes.to_string()).stdin(input);
+    command.current_dir(directory).output().expect("sh runs")
+}
+
+/// The jobs of a program that go by all of its code.
+pub fn jobs(name: &str) -> Vec<Job> {
+    match name {
+        "register" => loads().map(|load| registering(&load)).into(),
+        "repack" => loads().map(|load| repacking(&load)).into(),
+        "edges" => vec![edging()],
+        "inspect" => vec![inspecting()],
+        "replay" => loads().map(replaying).into(),
+        _ => panic!("{name} is no program"),
+    }
+}
+
+fn registering(load: &Load) -> Job {
+    let (image, picks) = (load.image(), &load.picks);
+    let printed = register(&image, picks).into_bytes();
+    Job::new(&[("net.bin", &image), ("picks.bin", picks)], &[], printed)
+}
+
+fn repacking(load: &Load) -> Job {
+    let image = load.image();
+    Job::new(&[("net.bin", &image)], &[], image.clone())
+}
+
+fn edging() -> Job {
+    let file = |path| fs::read(repository().join("crates/edges").join(path));
+    let file = |path| file(path).expect("it is stored");
+    let (edges, creation) = (file("data/edges.bin"), file("data/creation.bin"));
+    let files: [(&str, &[u8]); 2] = [("edges.bin", &edges), ("creation.bin", &creation)];
+    Job::new(&files, &[], file("stdout"))
+}
+
+fn inspecting() -> Job {
+    let input = loads().map(|load| framed(&load.image())).concat();
+    let printed = loads().map(|load| [vec![0], dump(&load.net)].concat());
+    Job::new(&[], &input, printed.concat())
+}
+
+// Fewer picks: of each the whole net is compared.
+fn replaying(load: Load) -> Job {
+    let (net, picks) = (load.net, load.picks[..2_000].to_vec());
+    let run = Run { net, picks };
+    Job::new(&[], &run.framed(), expected(&run))
+}
+
+/// The least number of kilobytes, to within 4 and at most 65,536, that is
+/// enough.
+pub fn least(enough: impl Fn(usize) -> bool) -> usize {
+    let (mut short, mut least) = (0, 65_536);
+    assert!(enough(least), "65,536 KB are not enough");
+    while least - short > 4 {
+        let middle = (short + least) / 2;
+        if enough(middle) {
+            least = middle;
+        } else {
+            short = middle;
+        }
+    }
+    least
+}
+
+#[cfg(test)]
+mod tests {
+    use super::*;
+    use crate::step::{pick_address, pick_slot, step};
+
+    /// Each action is performed in the busy net, all seven.
+    #[test]
+    fn every_action_is_performed() {
+        let [_, busy] = loads();
+        let mut net = busy.net.clone();
+        let mut performed = [0; 7];
+        for pick in &busy.picks {
+            let node = &net.nodes[usize::from(pick_address(*pick).0)];
+            let process = node.processes[usize::from(pick_slot(*pick))];
+            let action = net.code[usize::from(process.at.0)].action;
+            if step(&mut net, *pick) <= 1 {
+                performed[number(&action)] += 1;
+            }
+        }
+        assert_eq!(performed[5], 1);
+        assert!(performed.iter().all(|count| *count > 0), "{performed:?}");
+    }
+
+    fn number(action: &Action) -> usize {
+        match action {
+            Action::Stop => 0,
+            Action::Out { .. } => 1,
+            Action::In { .. } => 2,
+            Action::Read { .. } => 3,
+            Action::Eval { .. } => 4,
+            Action::New { .. } => 5,
+            Action::Fork { .. } => 6,
+        }
+    }
+}

@@ -1,0 +1,32 @@
+//! Each program within a stack of a stated size, which nothing proves.
+
+use cavindorum_tests::stack::jobs;
+
+/// Kilobytes of stack that each program has to do with. What it needs is
+/// less: `cargo run --bin measure_stack` says how much.
+const BOUNDS: [(&str, usize); 5] = [
+    ("register", 2_048),
+    ("repack", 1_024),
+    ("edges", 1_024),
+    ("inspect", 1_024),
+    ("replay", 1_024),
+];
+
+#[test]
+fn each_program_runs_within_its_bound() {
+    for (name, kilobytes) in BOUNDS {
+        for job in jobs(name) {
+            let done = job.done_by(name, kilobytes);
+            assert!(done, "{name} in {kilobytes} KB");
+        }
+    }
+}
+
+/// With too little the programs do not run, so that the bounds are tried.
+#[test]
+fn no_program_runs_with_next_to_nothing() {
+    for (name, _) in BOUNDS {
+        let jobs = jobs(name);
+        assert!(jobs.iter().all(|job| !job.done_by(name, 64)), "{name}");
+    }
+}
