@@ -16,7 +16,7 @@ use borrow.Author.Tests.{lt-ltb, le-ltb}
 use Rattle.net.specs.Choice.{choose, both}
 use Rattle.net.specs.Records.{Place, Action, Instruction, instructionAt}
 use Rattle.net.specs.Reaching.{Search, meet, meetAll, followers, visitFirst, visit, visits, startedAt, reachedOf}
-use Rattle.net.specs.Worklist.{Worklist, tops, searchOf, blank, unmarked, left, Stands}
+use Rattle.net.specs.Worklist.{Worklist, tops, searchOf, blank, unmarked, left, Represents}
 use Rattle.net.proofs.Laws.{choose-true, choose-false, both-i, both-false-l, both-false-r}
 use Rattle.net.proofs.Unmarked.{unmarked-set, unmarked-replicate}
 
@@ -36,11 +36,11 @@ both-no true c e = rw e
 both-no false c e = refl
 
 module _ (w : Worklist) (p : Place) where
-  pub met-far : 512 ≤ p .0 → Stands w (meet (searchOf w) p) w
+  pub met-far : 512 ≤ p .0 → Represents w (meet (searchOf w) p) w
   unfolding meet
   met-far h = record { search = sym (choose-false _ _ _ (sym (both-false-l _ _ (le-ltb (p .0) 512 h)))); same = refl }
 
-  pub met-old : getD (w .marks) (p .0) false ≡ true → Stands w (meet (searchOf w) p) w
+  pub met-old : getD (w .marks) (p .0) false ≡ true → Represents w (meet (searchOf w) p) w
   unfolding meet searchOf
   met-old e = record { search = sym (choose-false _ _ _ (both-no _ _ e)); same = refl }
 
@@ -73,7 +73,7 @@ module _ (w : Worklist) (p : Place) (room : left w ≤ 512) (near : p .0 < 512) 
   meet-new = choose-true _ _ _ (both-i _ _ (lt-ltb (p .0) 512 near) (ap not new))
 
   pub met-new : length (w .marks) ≡ 512 → length (w .waiting) ≡ 512
-      → Stands w (meet (searchOf w) p) (record { marks = set (w .marks) (p .0) true; waiting = set (w .waiting) (w .count) p; count = w .count + 1 })
+      → Represents w (meet (searchOf w) p) (record { marks = set (w .marks) (p .0) true; waiting = set (w .waiting) (w .count) p; count = w .count + 1 })
   unfolding searchOf left
   met-new l l′ = record {
     search =
@@ -82,30 +82,30 @@ module _ (w : Worklist) (p : Place) (room : left w ≤ 512) (near : p .0 < 512) 
     same = omega (arith, unmarked-set (w .marks) (p .0) (omega arith) new);
   }
 
-pub met-twice : (w v r : Worklist) (p q : Place) → Stands w (meet (searchOf w) p) v → Stands v (meet (searchOf v) q) r → Stands w (meet (meet (searchOf w) p) q) r
+pub met-twice : (w v r : Worklist) (p q : Place) → Represents w (meet (searchOf w) p) v → Represents v (meet (searchOf v) q) r → Represents w (meet (meet (searchOf w) p) q) r
 met-twice w v r p q a b = record { search = b .search ∙ ap (λ (s : Search). meet s q) (a .search); same = b .same ∙ a .same }
 
-pub room-kept : (w v : Worklist) (s : Search) → left w ≤ 512 → Stands w s v → left v ≤ 512
+pub room-kept : (w v : Worklist) (s : Search) → left w ≤ 512 → Represents w s v → left v ≤ 512
 room-kept w v s h a = omega (arith, a .same)
 
 -- ---- what follows an action
 module _ (w r : Worklist) where
-  pub follow-none : Stands w (meetAll (searchOf w) []) w
+  pub follow-none : Represents w (meetAll (searchOf w) []) w
   unfolding meetAll
   follow-none = record { search = refl; same = refl }
 
-  pub follow-one : (p : Place) → Stands w (meet (searchOf w) p) r → Stands w (meetAll (searchOf w) (p ∷ [])) r
+  pub follow-one : (p : Place) → Represents w (meet (searchOf w) p) r → Represents w (meetAll (searchOf w) (p ∷ [])) r
   unfolding meetAll
   follow-one p a = a
 
-  pub follow-two : (p q : Place) → Stands w (meet (meet (searchOf w) p) q) r → Stands w (meetAll (searchOf w) (p ∷ q ∷ [])) r
+  pub follow-two : (p q : Place) → Represents w (meet (meet (searchOf w) p) q) r → Represents w (meetAll (searchOf w) (p ∷ q ∷ [])) r
   unfolding meetAll
   follow-two p q a = a
 
-pub follow-as : (w r : Worklist) (action known : Action) → action ≡ known → Stands w (meetAll (searchOf w) (followers known)) r → Stands w (meetAll (searchOf w) (followers action)) r
+pub follow-as : (w r : Worklist) (action known : Action) → action ≡ known → Represents w (meetAll (searchOf w) (followers known)) r → Represents w (meetAll (searchOf w) (followers action)) r
 follow-as w r action known e a = rw e a
 
-pub started-is : (v r : Worklist) (p : Place) → searchOf v ≡ blank → left v ≡ 512 → Stands v (meet (searchOf v) p) r → (searchOf r ≡ startedAt p) × (left r ≡ 512)
+pub started-is : (v r : Worklist) (p : Place) → searchOf v ≡ blank → left v ≡ 512 → Represents v (meet (searchOf v) p) r → (searchOf r ≡ startedAt p) × (left r ≡ 512)
 unfolding startedAt blank
 started-is v r p e l a = (a .search ∙ ap (λ (s : Search). meet s p) e, a .same ∙ l)
 
@@ -148,11 +148,11 @@ module _ (code : List Instruction) (v w : Worklist) (k : ℕ) (g : Going code v 
   pub lower-less : left (lower w (k - 1)) < left w
   lower-less = omega (arith, lower-left)
 
-  pub visited-less : (s : Search) (r : Worklist) → Stands (lower w (k - 1)) s r → left r < left w
+  pub visited-less : (s : Search) (r : Worklist) → Represents (lower w (k - 1)) s r → left r < left w
   visited-less s r a = omega (arith, lower-left, a .same)
 
   pub visited : (r : Worklist)
-      → Stands (lower w (k - 1)) (meetAll (searchOf (lower w (k - 1))) (followers (instructionAt code (getD (w .waiting) (k - 1) (record { 0 = 0 }) .0) .action))) r
+      → Represents (lower w (k - 1)) (meetAll (searchOf (lower w (k - 1))) (followers (instructionAt code (getD (w .waiting) (k - 1) (record { 0 = 0 }) .0) .action))) r
       → Going code v r
   visited r a = record {
     room = omega (arith, a .same, lower-room);

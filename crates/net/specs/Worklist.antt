@@ -32,6 +32,6 @@ unfoldable pub left : Worklist → ℕ
 left w = w .count + unmarked (w .marks)
 
 -- the worklist r stands for the search s, with as many places left as w
-pub record Stands (w : Worklist) (s : Search) (r : Worklist) : Type 0 where
+pub record Represents (w : Worklist) (s : Search) (r : Worklist) : Type 0 where
   pub search : searchOf r ≡ s
   pub same : left r ≡ left w
