@@ -1,8 +1,7 @@
 -- The claims of `specs/AdmissionClaims.antt`: the computed check of starting processes is what it means, and an image is
 -- answered 30 exactly where it is the check that fails. Assumes nothing.
 use Prim.Native.Nat.{ℕ}
-use mathlib.Core.Path.{_≡_, refl, sym, subst}
-use mathlib.Core.Logic.{_↔_}
+use mathlib.Core.Path.{_≡_, refl, subst}
 use mathlib.Core.Bool.{Bool, true, false}
 use mathlib.Core.List.{List}
 use native.Mathlib.Omega.{arith}
@@ -12,8 +11,8 @@ use Rattle.net.specs.ReachingClaims.{KeepsIsEvery}
 use Rattle.net.proofs.Laws.{implies-i, implies-e, all-i, all-e, choose-true}
 use Rattle.net.proofs.Reached.{keepsIsEvery}
 use Rattle.image.specs.Types.{Net}
-use Rattle.image.specs.BitReader.{Outcome, got, fault, numbered}
-use Rattle.image.specs.Image.{Opened, layout, admitsProcess, admitsNode, admits, refused, accepted, judgedNet}
+use Rattle.image.specs.BitReader.{Outcome, got, numbered}
+use Rattle.image.specs.Image.{layout, admitsProcess, admitsNode, admits, refused, accepted, judgedNet}
 use Rattle.image.specs.Image.{openedOf, numberOf}
 use Rattle.image.specs.AdmissionClaims.{StartsWithin, AdmitsIsWithin, AcceptedIsWithin, Beyond, beyond}
 use Rattle.image.specs.AdmissionClaims.{ThirtyIsBeyond}

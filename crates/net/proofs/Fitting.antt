@@ -3,14 +3,14 @@
 use Prim.Native.Nat.{ℕ, suc, _<_, _≤_}
 use mathlib.Core.Path.{_≡_, refl, sym, ap, subst, _∙_}
 use mathlib.Core.Logic.{_↔_}
-use mathlib.Core.Bool.{Bool, true, false}
+use mathlib.Core.Bool.{true, false}
 use mathlib.Core.List.{List}
 use native.Mathlib.Omega.{arith}
-use lib.Dec.{ltb, eqb}
+use lib.Dec.{eqb}
 use lib.IntN.{ℤ}
 use borrow.Author.Tests.{ltb-true, lt-ltb, eq-eqb, eqb-true}
 use Rattle.net.specs.Records.{Locality, Value, Item, Tuple, Process, Pattern, Instruction}
-use Rattle.net.specs.Records.{fieldAt, variableAt, patternAt}
+use Rattle.net.specs.Records.{variableAt, patternAt}
 use Rattle.net.specs.Matching.{Want, Wanted, Evaluated, isSet, heldItem, definedField, wantOf, zeroWanted}
 use Rattle.net.specs.Matching.{wantsOf, evaluatedOf, wantAt, sameReading, sameItem, isReading, isAddress}
 use Rattle.net.specs.Matching.{fitsField, fitsOf}

@@ -4,7 +4,7 @@ use Prim.Native.Nat.{ℕ, zero, suc, _+_, _-_, _*_, _<_, _≤_}
 use mathlib.Core.Path.{_≡_, refl, sym, ap, _∙_}
 use mathlib.Core.Bool.{Bool, true, false, not}
 use mathlib.Core.List.{List, [], _∷_}
-use native.Mathlib.Nat.{suc-add, zero-add}
+use native.Mathlib.Nat.{suc-add}
 use native.Mathlib.Numerals.{add-one}
 use native.Mathlib.Omega.{arith}
 use lib.ListN.{length, getD, set, replicate, List·getD-eq-default}
@@ -12,12 +12,12 @@ use lib.Seq.{getD-set-same, getD-set-other}
 use lib.Dec.{ltb}
 use mir.Syntax.{w64}
 use mir.Val.{Fits}
-use borrow.Author.Tests.{lt-ltb, le-ltb}
-use Rattle.net.specs.Choice.{choose, both}
+use borrow.Author.Tests.{ltb-true, lt-ltb, le-ltb}
+use Rattle.net.specs.Choice.{both}
 use Rattle.net.specs.Records.{Place, Action, Instruction, instructionAt}
 use Rattle.net.specs.Reaching.{Search, meet, meetAll, followers, visitFirst, visit, visits, startedAt, reachedOf}
 use Rattle.net.specs.Worklist.{Worklist, tops, searchOf, blank, unmarked, left, Represents}
-use Rattle.net.proofs.Laws.{choose-true, choose-false, both-i, both-false-l, both-false-r}
+use Rattle.net.proofs.Laws.{choose-true, choose-false, both-i, both-l, both-false-l}
 use Rattle.net.proofs.Unmarked.{unmarked-set, unmarked-replicate}
 
 -- ---- the blank worklist
@@ -88,6 +88,18 @@ met-twice w v r p q a b = record { search = b .search ∙ ap (λ (s : Search). m
 pub room-kept : (w v : Worklist) (s : Search) → left w ≤ 512 → Represents w s v → left v ≤ 512
 room-kept w v s h a = omega (arith, a .same)
 
+-- ---- meeting a place that is met already
+module _ (s : Search) (p : Place) where
+  marked-again : (b : Bool) → both (ltb (p .0) 512) (not (getD (s .marks) (p .0) false)) ≡ b → length (s .marks) ≡ 512 → meet (meet s p) p ≡ meet s p
+  unfolding meet
+  marked-again true e l =
+      let near : p .0 < 512 = ltb-true (p .0) 512 (both-l _ _ e) in
+      let met : meet s p ≡ record { marks = set (s .marks) (p .0) true; waiting = p ∷ s .waiting } = choose-true _ _ _ e in
+      ap (λ (t : Search). meet t p) met
+      ∙ choose-false _ _ _ (both-no _ _ (getD-set-same (s .marks) (p .0) true false (omega arith)))
+      ∙ sym met
+  marked-again false e l = ap (λ (t : Search). meet t p) (choose-false _ _ _ e)
+
 -- ---- what follows an action
 module _ (w r : Worklist) where
   pub follow-none : Represents w (meetAll (searchOf w) []) w
@@ -102,8 +114,14 @@ module _ (w r : Worklist) where
   unfolding meetAll
   follow-two p q a = a
 
+  pub follow-again : (p : Place) → length (w .marks) ≡ 512 → Represents w (meet (meet (searchOf w) p) p) r → Represents w (meetAll (searchOf w) (p ∷ [])) r
+  unfolding meetAll searchOf
+  follow-again p l a = record { search = a .search ∙ marked-again (searchOf w) p _ refl l; same = a .same }
+
 pub follow-as : (w r : Worklist) (action known : Action) → action ≡ known → Represents w (meetAll (searchOf w) (followers known)) r → Represents w (meetAll (searchOf w) (followers action)) r
 follow-as w r action known e a = rw e a
+
+pub ruleset following = (follow-as, follow-none, follow-one, follow-two, follow-again)
 
 pub started-is : (v r : Worklist) (p : Place) → searchOf v ≡ blank → left v ≡ 512 → Represents v (meet (searchOf v) p) r → (searchOf r ≡ startedAt p) × (left r ≡ 512)
 unfolding startedAt blank

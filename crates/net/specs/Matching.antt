@@ -5,7 +5,7 @@ pub use Rattle.net.specs.declared.matching.Wanted.{Wanted}
 pub use Rattle.net.specs.declared.matching.Evaluated.{Evaluated}
 pub use Rattle.net.specs.declared.matching.Found.{Found}
 pub use Rattle.net.specs.declared.matching.Matched.{Matched}
-use Prim.Native.Nat.{ℕ, zero, suc}
+use Prim.Native.Nat.{ℕ}
 use mathlib.Core.Bool.{Bool, true, false}
 use mathlib.Core.List.{List}
 use lib.ListN.{getD, set, replicate}

@@ -1,7 +1,7 @@
 -- The worklist of the code that fills the marks: how it stands for a search of `Reaching.antt`, and the number that
 -- falls with each visit.
 pub use Rattle.net.specs.declared.reaching.Worklist.{Worklist}
-use Prim.Native.Nat.{ℕ, zero, suc, _+_, _≤_}
+use Prim.Native.Nat.{ℕ, zero, suc, _+_}
 use mathlib.Core.Path.{_≡_}
 use mathlib.Core.Bool.{Bool, true, false}
 use mathlib.Core.List.{List, [], _∷_}
