@@ -1,11 +1,12 @@
 -- An accepted net is sound, and a refused image gives the empty net and a number from 21 to 30: the claims of
 -- `specs/ImageClaims.antt`. The net under construction is sound at all times, since zero records are.
 -- Assumes nothing.
-use Prim.Native.Nat.{ℕ, _<_}
+use Prim.Native.Nat.{ℕ, _<_, _≤_}
 use mathlib.Core.Path.{_≡_, refl, sym, subst, subst₂}
 use mathlib.Core.Bool.{true}
 use mathlib.Core.List.{List}
 use native.Mathlib.Omega.{arith}
+use lib.ListN.{length}
 use Rattle.image.specs.Types.{Node, Instruction, Net}
 use Rattle.net.specs.Records.{zeroNode, zeroInstruction, emptyNet, nodeAt, instructionAt}
 use Rattle.net.specs.Records.{withNode, withInstruction, withCounts}
@@ -14,11 +15,11 @@ use Rattle.net.specs.Soundness.{nodesSound, codeSound, soundOf}
 use Rattle.image.specs.BitReader.{Fault, Outcome, Reader, each, numbered}
 use Rattle.image.specs.Image.{Answer, Opened, header, row, rowOf, rows, processes, processesOf, allProcesses}
 use Rattle.image.specs.Image.{tuples, tuplesOf, allTuples, instruction, instructionOf, code, endsAt, ending}
-use Rattle.image.specs.Image.{layout, admits, refused, accepted, judgedNet, openedOf}
-use Rattle.image.specs.ImageClaims.{AcceptedIsSound, RefusedIsEmpty, RefusedIsNumbered}
+use Rattle.image.specs.Image.{layout, admits, refused, accepted, judgedNet, openedOf, numberOf}
+use Rattle.image.specs.ImageClaims.{AcceptedIsSound, RefusedIsEmpty, Numbered, RefusedIsNumbered}
 use Rattle.net.proofs.Laws.{both-i}
 use Rattle.net.proofs.Every.{chosen, Every, every-replicate, every-weaken, Filled, filled-set, filled-all}
-use Rattle.image.proofs.Gives.{Listed, Fine, value, stopped, Gives, gives-done, gives-weaken, gives-then, gives-and}
+use Rattle.image.proofs.Gives.{Fine, value, stopped, Gives, gives-done, gives-weaken, gives-then, gives-and}
 use Rattle.image.proofs.Gives.{gives-each, gives-require, Between, gives-field}
 use Rattle.net.proofs.Past.{in-range}
 use Rattle.image.proofs.PastRecords.{pastNode, pastInstruction}
@@ -50,9 +51,18 @@ ok-sound s ok =
     (every-weaken (ok .nodes-ok) (λ j x e. record { used = λ l. node-sound n k x (e .used l); unused = e .unused })))
     (filled-all (instructionSound n k) isZeroInstruction pastInstruction 512 k (s .code) (ok .code-ok)))
 
-net-sound : (n k : ℕ) (s : Net) → NetOk n k s → soundOf s ≡ true
-net-sound n k s ok =
-    ok-sound s (subst₂ (λ (a b : ℕ). NetOk a b s) (sym (ok .addresses-are)) (sym (ok .length-is)) ok)
+-- what the whole layout gives: a sound net, with room for no more than a net has
+pub record Laid (s : Net) : Type 0 where
+  pub sound : soundOf s ≡ true
+  pub few : s .addresses ≤ 16
+  pub short : length (s .code) ≤ 512
+
+net-laid : (n k : ℕ) (s : Net) → NetOk n k s → Laid s
+net-laid n k s ok = record {
+  sound = ok-sound s (subst₂ (λ (a b : ℕ). NetOk a b s) (sym (ok .addresses-are)) (sym (ok .length-is)) ok);
+  few = omega (arith, ok .addresses-are, ok .addresses-in .below);
+  short = omega (arith, ok .code-ok .size-is);
+}
 
 -- a reader over a number, at an equal number
 gives-at : {A : Type 0} {P : A → Type 0} {m n : ℕ} (f : ℕ → Reader A) → m ≡ n → Gives (f n) P → Gives (f m) P
@@ -175,7 +185,7 @@ gives-ending =
     record { run = λ s p. gives-weaken (gives-require (endsAt s p) 29 (omega arith)) (λ _ _. tt) .run s p }
 
 -- ---- the whole
-gives-layout : Gives layout (λ s. soundOf s ≡ true)
+pub gives-layout : Gives layout Laid
 unfolding layout
 gives-layout =
     gives-then gives-header
@@ -184,41 +194,39 @@ gives-layout =
     (λ s₂ ok₂. gives-then (gives-allProcesses n k s₂ ok₂)
     (λ s₃ ok₃. gives-then (gives-allTuples n k s₃ ok₃)
     (λ s₄ ok₄. gives-then (gives-code n k s₄ ok₄)
-    (λ s₅ ok₅. gives-and gives-ending (λ _ _. gives-done _ _ (net-sound n k s₅ ok₅)))))))
+    (λ s₅ ok₅. gives-and gives-ending (λ _ _. gives-done _ _ (net-laid n k s₅ ok₅)))))))
 
 -- ---- the claims, of what is opened
 record Claimed (r : Opened) : Type 0 where
   when-accepted : r .answer ≡ Answer.Accepted → soundOf (r .net) ≡ true
   when-refused : (f : Fault) → r .answer ≡ Answer.Refused f → r .net ≡ emptyNet
-  refused-listed : (f : Fault) → r .answer ≡ Answer.Refused f → Listed (f .number)
+  is-numbered : Numbered (r .answer)
 
-never : {P : Type 0} (f : Fault) → Answer.Refused f ≡ Answer.Accepted → P
+pub never : {P : Type 0} (f : Fault) → Answer.Refused f ≡ Answer.Accepted → P
 never f e = let z : _≡_ {A = ℕ} 0 1 = cc in absurd (omega arith)
 
-same-fault : (f g : Fault) → Answer.Refused f ≡ Answer.Refused g → f ≡ g
-same-fault f g e = cc
-
-claimed-refused : (f : Fault) → Listed (f .number) → Claimed (refused f)
-unfolding refused
-claimed-refused f l = record {
+claimed-refused : (f : Fault) → 21 ≤ f .number → f .number ≤ 30 → Claimed (refused f)
+unfolding refused numberOf
+claimed-refused f l m = record {
   when-accepted = never f;
   when-refused = λ g e. refl;
-  refused-listed = λ g e. subst (λ (x : Fault). Listed (x .number)) (same-fault f g e) l;
+  is-numbered = record { when-accepted = (λ e. absurd (omega arith), never f); when-refused = λ g e. (l, m) };
 }
 
 claimed-accepted : (s : Net) → soundOf s ≡ true → Claimed (accepted s)
-unfolding accepted
+unfolding accepted numberOf
 claimed-accepted s h = record {
   when-accepted = λ e. h;
   when-refused = λ f e. never f (sym e);
-  refused-listed = λ f e. never f (sym e);
+  is-numbered = record { when-accepted = (λ e. refl, λ e. refl); when-refused = λ f e. never f (sym e) };
 }
 
-claimed : (o : Outcome Net) → Fine (λ s. soundOf s ≡ true) o → Claimed (judgedNet o)
+claimed : (o : Outcome Net) → Fine Laid o → Claimed (judgedNet o)
 unfolding judgedNet numbered
 claimed _ (value {a = s} h) =
-    chosen Claimed (admits s) _ _ (λ e. claimed-accepted s h) (λ e. claimed-refused (numbered 30) (omega arith))
-claimed _ (stopped {f} l) = claimed-refused f l
+    chosen Claimed (admits s) _ _ (λ e. claimed-accepted s (h .sound))
+    (λ e. claimed-refused (numbered 30) (omega arith) (omega arith))
+claimed _ (stopped {f} l) = claimed-refused f (l .least) (omega (arith, l .most))
 
 opened-claimed : (s : List ℕ) → Claimed (openedOf s)
 unfolding openedOf
@@ -234,4 +242,4 @@ refused-is-empty s f e = opened-claimed s .when-refused f e
 
 pub refused-is-numbered : RefusedIsNumbered
 unfolding RefusedIsNumbered
-refused-is-numbered s f e = let l = opened-claimed s .refused-listed f e in (l .least, l .most)
+refused-is-numbered s = opened-claimed s .is-numbered

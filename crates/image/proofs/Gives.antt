@@ -1,5 +1,5 @@
 -- The logic of readers (`specs/BitReader.antt`): what holds of every value that a reader gives, and that its faults
--- have numbers of the paper's table, 21 to 30. One law for each way to make a reader.
+-- have numbers of the paper's table that a reader gives, 21 to 29. One law for each way to make a reader.
 -- Assumes nothing.
 use Prim.Native.Nat.{ℕ, zero, suc, _+_, _*_, _^_, _<_, _≤_}
 use mathlib.Core.Path.{_≡_, refl, subst}
@@ -16,7 +16,7 @@ use Rattle.net.proofs.Laws.{both-l, both-r}
 
 pub record Listed (n : ℕ) : Type 0 where
   pub least : 21 ≤ n
-  pub most : n ≤ 30
+  pub most : n ≤ 29
 
 -- an outcome is good: P holds of the value, or the fault has a number of the table
 pub data Fine {A : Type 0} (P : A → Type 0) : Outcome A → Type 0 where

@@ -1,6 +1,7 @@
 pub mod AcceptedCode
 pub mod AcceptedNode
 pub mod AcceptedSound
+pub mod AdmissionClaims
 pub mod BitLaws
 pub mod Budget
 pub mod FirstBytes

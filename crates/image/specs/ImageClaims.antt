@@ -1,12 +1,13 @@
 -- What is claimed of an opened image (document 01, "Numbers for an image", "One pick").
 use Prim.Native.Nat.{ℕ, _≤_}
 use mathlib.Core.Path.{_≡_}
+use mathlib.Core.Logic.{_↔_}
 use mathlib.Core.Bool.{true}
 use mathlib.Core.List.{List}
 use Rattle.net.specs.Records.{emptyNet}
 use Rattle.net.specs.Soundness.{soundOf}
 use Rattle.image.specs.BitReader.{Fault}
-use Rattle.image.specs.Image.{Answer, openedOf}
+use Rattle.image.specs.Image.{Answer, openedOf, numberOf}
 
 -- document 01, "One pick": accepted nets are sound
 unfoldable pub AcceptedIsSound : Type 0
@@ -16,7 +17,11 @@ AcceptedIsSound = (s : List ℕ) → openedOf s .answer ≡ Answer.Accepted → 
 unfoldable pub RefusedIsEmpty : Type 0
 RefusedIsEmpty = (s : List ℕ) (f : Fault) → openedOf s .answer ≡ Answer.Refused f → openedOf s .net ≡ emptyNet
 
--- document 01, "Numbers for an image": each refusal returns a number of the table, 21 to 30
+-- the number of an answer is 0 exactly when the image is accepted, and that of a refusal is one of the table, 21 to 30
+pub record Numbered (x : Answer) : Type 0 where
+  pub when-accepted : (numberOf x ≡ 0) ↔ (x ≡ Answer.Accepted)
+  pub when-refused : (f : Fault) → x ≡ Answer.Refused f → (21 ≤ numberOf x) × (numberOf x ≤ 30)
+
+-- document 01, "Numbers for an image": the number that each image is answered with
 unfoldable pub RefusedIsNumbered : Type 0
-RefusedIsNumbered =
-    (s : List ℕ) (f : Fault) → openedOf s .answer ≡ Answer.Refused f → (21 ≤ f .number) × (f .number ≤ 30)
+RefusedIsNumbered = (s : List ℕ) → Numbered (openedOf s .answer)

@@ -1,3 +1,4 @@
+pub mod AdmissionClaims
 pub mod BitReader
 pub mod Image
 pub mod ImageClaims

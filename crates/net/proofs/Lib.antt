@@ -1,6 +1,7 @@
 pub mod AllLaws
 pub mod Every
 pub mod FirstLaws
+pub mod Fitting
 pub mod FoldLaws
 pub mod KeepingLaws
 pub mod KeepingPromise
@@ -14,3 +15,4 @@ pub mod Reached
 pub mod ReadingLaws
 pub mod Unmarked
 pub mod WorklistLaws
+pub mod ZeroClaims

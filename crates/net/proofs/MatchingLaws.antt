@@ -15,7 +15,7 @@ use mir.ValLaws.{toZ-ofZ}
 use Rattle.net.specs.Choice.{both, implies, all, fold}
 use Rattle.net.specs.Records.{Locality, Value, Variable, Item, Tuple, Pattern, Process, Node, Instruction}
 use Rattle.net.specs.Records.{fieldAt, variableAt, tupleAt, patternAt, zeroField, zeroTuple, withVariable}
-use Rattle.net.specs.Matching.{Want, Wanted, Evaluated, Found, zeroWanted, itemOf, valueOf, wantOf}
+use Rattle.net.specs.Matching.{Want, Wanted, Evaluated, Found, zeroWanted, heldItem, valueOf, wantOf}
 use Rattle.net.specs.Matching.{definedField, wantsOf, evaluatedOf, sameReading, sameItem, oldestOf}
 use Rattle.net.specs.Matching.{boundOf, boundAt, matchedOf}
 
@@ -24,8 +24,8 @@ module _ (z : ℤ) (fits : SFits w32 z) where
   back : toZ w32 (ofZ w32 z) ≡ z
   back = toZ-ofZ w32 z fits
 
-  pub item-reading : (x : Value) → x ≡ Value.Reading z → Item.Reading (toZ w32 (ofZ w32 z)) ≡ itemOf x
-  unfolding itemOf
+  pub item-reading : (x : Value) → x ≡ Value.Reading z → Item.Reading (toZ w32 (ofZ w32 z)) ≡ heldItem x
+  unfolding heldItem
   item-reading x e = rw (e, back)
 
   pub value-reading : (x : Item) → x ≡ Item.Reading z → Value.Reading (toZ w32 (ofZ w32 z)) ≡ valueOf x

@@ -10,12 +10,12 @@ use lib.Dec.{ltb, eqb}
 use lib.IntN.{ℤ}
 use lib.ListN.{length, length-set}
 use lib.Seq.{getD-set-same, getD-set-other}
-use borrow.Author.Tests.{ltb-true, lt-ltb, eq-eqb, eqb-true}
+use borrow.Author.Tests.{ltb-true, lt-ltb, eqb-true}
 use Rattle.net.specs.Choice.{both}
 use Rattle.net.specs.Records.{Locality, Value, Variable, Item, Tuple, Process, Node, Pattern, Instruction}
 use Rattle.net.specs.Records.{fieldAt, variableAt, tupleAt, patternAt, withVariable}
-use Rattle.net.specs.Matching.{Want, Wanted, Evaluated, Found, itemOf, wantOf, zeroWanted, wantsOf, evaluatedOf}
-use Rattle.net.specs.Matching.{wantAt, sameReading, fitsField, fitsOf}
+use Rattle.net.specs.Matching.{Want, Wanted, Evaluated, Found, heldItem, wantOf, zeroWanted, wantsOf, evaluatedOf}
+use Rattle.net.specs.Matching.{wantAt, fitsField, fitsOf}
 use Rattle.net.specs.Matching.{isReading, isAddress, oldestOf, valueOf, boundField, boundOf, boundAt, matchedOf}
 use Rattle.net.specs.MatchingPromise.{OldestThatFits, Holds, reading-met, address-met, as-before}
 use Rattle.net.specs.MatchingPromise.{Binding, MatchingPromise}
@@ -24,6 +24,7 @@ use Rattle.net.proofs.Laws.{both-i, both-l, both-r, both-false-r, impli
 use Rattle.net.proofs.Every.{chosen-lt, Every, every-replicate, every-set}
 use Rattle.net.proofs.Lowest.{Lowest, first-is, first-cases}
 use Rattle.net.proofs.FoldLaws.{fold-keeps}
+use Rattle.net.proofs.Fitting.{same-reading, fits-is, defined-is, wants-is}
 
 -- ---- the oldest tuple that fits
 fit-test : Node → Evaluated → ℕ → Bool
@@ -178,8 +179,8 @@ module _ (p : Process) (t : Tuple) (e : Evaluated) where
       (λ u. as-many _ _ q (omega arith) b)))
 
 -- ---- what a template wants exactly is within the net
-held-sound : (n : ℕ) (x : Value) → valueSound n x ≡ true → itemSound n (itemOf x) ≡ true
-unfolding valueSound itemOf itemSound
+held-sound : (n : ℕ) (x : Value) → valueSound n x ≡ true → itemSound n (heldItem x) ≡ true
+unfolding valueSound heldItem itemSound
 held-sound n Value.Unset h = refl
 held-sound n (Value.Reading x) h = refl
 held-sound n (Value.Address l) h = h
@@ -233,17 +234,15 @@ module _
     unfolding wantAt evaluatedOf WantSound
     wants-in-range c h i x l = wants-sound c h .holds i l x
 
--- ---- readings
-same-reading : (x : ℤ) → sameReading x x ≡ true
-unfolding sameReading
-same-reading (ℤ.pos m) = eq-eqb m m refl
-same-reading (ℤ.negsuc m) = eq-eqb m m refl
-
 pub matchingPromise : MatchingPromise
 unfolding matchedOf boundAt evaluatedOf wantAt
 matchingPromise = record {
+  defines = defined-is;
+  wants = wants-is;
+  fits = fits-is;
   finds = λ p x e i. found-is-oldest x e i;
   binds = λ p x e i d. ap (λ (f : Found). boundAt f p x e) d;
+  leaves = λ p x e d. ap (λ (f : Found). boundAt f p x e) d;
   sets = bound-sets;
   counts = λ a p c. refl;
   ranges = λ n a p c hosted values. wants-in-range n a p hosted values c;

@@ -4,7 +4,7 @@ use Prim.Native.Nat.{ℕ, zero, suc, _+_, _-_, _*_, _<_, _≤_}
 use mathlib.Core.Path.{_≡_, refl, sym, ap, _∙_}
 use mathlib.Core.Bool.{Bool, true, false, not}
 use mathlib.Core.List.{List, [], _∷_}
-use native.Mathlib.Nat.{suc-add, zero-add}
+use native.Mathlib.Nat.{suc-add}
 use native.Mathlib.Numerals.{add-one}
 use native.Mathlib.Omega.{arith}
 use lib.ListN.{length, getD, set, replicate, List·getD-eq-default}
@@ -12,12 +12,12 @@ use lib.Seq.{getD-set-same, getD-set-other}
 use lib.Dec.{ltb}
 use mir.Syntax.{w64}
 use mir.Val.{Fits}
-use borrow.Author.Tests.{lt-ltb, le-ltb}
-use Rattle.net.specs.Choice.{choose, both}
+use borrow.Author.Tests.{ltb-true, lt-ltb, le-ltb}
+use Rattle.net.specs.Choice.{both}
 use Rattle.net.specs.Records.{Place, Action, Instruction, instructionAt}
 use Rattle.net.specs.Reaching.{Search, meet, meetAll, followers, visitFirst, visit, visits, startedAt, reachedOf}
-use Rattle.net.specs.Worklist.{Worklist, tops, searchOf, blank, unmarked, left, Stands}
-use Rattle.net.proofs.Laws.{choose-true, choose-false, both-i, both-false-l, both-false-r}
+use Rattle.net.specs.Worklist.{Worklist, tops, searchOf, blank, unmarked, left, Represents}
+use Rattle.net.proofs.Laws.{choose-true, choose-false, both-i, both-l, both-false-l}
 use Rattle.net.proofs.Unmarked.{unmarked-set, unmarked-replicate}
 
 -- ---- the blank worklist
@@ -36,11 +36,11 @@ both-no true c e = rw e
 both-no false c e = refl
 
 module _ (w : Worklist) (p : Place) where
-  pub met-far : 512 ≤ p .0 → Stands w (meet (searchOf w) p) w
+  pub met-far : 512 ≤ p .0 → Represents w (meet (searchOf w) p) w
   unfolding meet
   met-far h = record { search = sym (choose-false _ _ _ (sym (both-false-l _ _ (le-ltb (p .0) 512 h)))); same = refl }
 
-  pub met-old : getD (w .marks) (p .0) false ≡ true → Stands w (meet (searchOf w) p) w
+  pub met-old : getD (w .marks) (p .0) false ≡ true → Represents w (meet (searchOf w) p) w
   unfolding meet searchOf
   met-old e = record { search = sym (choose-false _ _ _ (both-no _ _ e)); same = refl }
 
@@ -73,7 +73,7 @@ module _ (w : Worklist) (p : Place) (room : left w ≤ 512) (near : p .0 < 512) 
   meet-new = choose-true _ _ _ (both-i _ _ (lt-ltb (p .0) 512 near) (ap not new))
 
   pub met-new : length (w .marks) ≡ 512 → length (w .waiting) ≡ 512
-      → Stands w (meet (searchOf w) p) (record { marks = set (w .marks) (p .0) true; waiting = set (w .waiting) (w .count) p; count = w .count + 1 })
+      → Represents w (meet (searchOf w) p) (record { marks = set (w .marks) (p .0) true; waiting = set (w .waiting) (w .count) p; count = w .count + 1 })
   unfolding searchOf left
   met-new l l′ = record {
     search =
@@ -82,30 +82,48 @@ module _ (w : Worklist) (p : Place) (room : left w ≤ 512) (near : p .0 < 512) 
     same = omega (arith, unmarked-set (w .marks) (p .0) (omega arith) new);
   }
 
-pub met-twice : (w v r : Worklist) (p q : Place) → Stands w (meet (searchOf w) p) v → Stands v (meet (searchOf v) q) r → Stands w (meet (meet (searchOf w) p) q) r
+pub met-twice : (w v r : Worklist) (p q : Place) → Represents w (meet (searchOf w) p) v → Represents v (meet (searchOf v) q) r → Represents w (meet (meet (searchOf w) p) q) r
 met-twice w v r p q a b = record { search = b .search ∙ ap (λ (s : Search). meet s q) (a .search); same = b .same ∙ a .same }
 
-pub room-kept : (w v : Worklist) (s : Search) → left w ≤ 512 → Stands w s v → left v ≤ 512
+pub room-kept : (w v : Worklist) (s : Search) → left w ≤ 512 → Represents w s v → left v ≤ 512
 room-kept w v s h a = omega (arith, a .same)
+
+-- ---- meeting a place that is met already
+module _ (s : Search) (p : Place) where
+  marked-again : (b : Bool) → both (ltb (p .0) 512) (not (getD (s .marks) (p .0) false)) ≡ b → length (s .marks) ≡ 512 → meet (meet s p) p ≡ meet s p
+  unfolding meet
+  marked-again true e l =
+      let near : p .0 < 512 = ltb-true (p .0) 512 (both-l _ _ e) in
+      let met : meet s p ≡ record { marks = set (s .marks) (p .0) true; waiting = p ∷ s .waiting } = choose-true _ _ _ e in
+      ap (λ (t : Search). meet t p) met
+      ∙ choose-false _ _ _ (both-no _ _ (getD-set-same (s .marks) (p .0) true false (omega arith)))
+      ∙ sym met
+  marked-again false e l = ap (λ (t : Search). meet t p) (choose-false _ _ _ e)
 
 -- ---- what follows an action
 module _ (w r : Worklist) where
-  pub follow-none : Stands w (meetAll (searchOf w) []) w
+  pub follow-none : Represents w (meetAll (searchOf w) []) w
   unfolding meetAll
   follow-none = record { search = refl; same = refl }
 
-  pub follow-one : (p : Place) → Stands w (meet (searchOf w) p) r → Stands w (meetAll (searchOf w) (p ∷ [])) r
+  pub follow-one : (p : Place) → Represents w (meet (searchOf w) p) r → Represents w (meetAll (searchOf w) (p ∷ [])) r
   unfolding meetAll
   follow-one p a = a
 
-  pub follow-two : (p q : Place) → Stands w (meet (meet (searchOf w) p) q) r → Stands w (meetAll (searchOf w) (p ∷ q ∷ [])) r
+  pub follow-two : (p q : Place) → Represents w (meet (meet (searchOf w) p) q) r → Represents w (meetAll (searchOf w) (p ∷ q ∷ [])) r
   unfolding meetAll
   follow-two p q a = a
 
-pub follow-as : (w r : Worklist) (action known : Action) → action ≡ known → Stands w (meetAll (searchOf w) (followers known)) r → Stands w (meetAll (searchOf w) (followers action)) r
+  pub follow-again : (p : Place) → length (w .marks) ≡ 512 → Represents w (meet (meet (searchOf w) p) p) r → Represents w (meetAll (searchOf w) (p ∷ [])) r
+  unfolding meetAll searchOf
+  follow-again p l a = record { search = a .search ∙ marked-again (searchOf w) p _ refl l; same = a .same }
+
+pub follow-as : (w r : Worklist) (action known : Action) → action ≡ known → Represents w (meetAll (searchOf w) (followers known)) r → Represents w (meetAll (searchOf w) (followers action)) r
 follow-as w r action known e a = rw e a
 
-pub started-is : (v r : Worklist) (p : Place) → searchOf v ≡ blank → left v ≡ 512 → Stands v (meet (searchOf v) p) r → (searchOf r ≡ startedAt p) × (left r ≡ 512)
+pub ruleset following = (follow-as, follow-none, follow-one, follow-two, follow-again)
+
+pub started-is : (v r : Worklist) (p : Place) → searchOf v ≡ blank → left v ≡ 512 → Represents v (meet (searchOf v) p) r → (searchOf r ≡ startedAt p) × (left r ≡ 512)
 unfolding startedAt blank
 started-is v r p e l a = (a .search ∙ ap (λ (s : Search). meet s p) e, a .same ∙ l)
 
@@ -148,11 +166,11 @@ module _ (code : List Instruction) (v w : Worklist) (k : ℕ) (g : Going code v 
   pub lower-less : left (lower w (k - 1)) < left w
   lower-less = omega (arith, lower-left)
 
-  pub visited-less : (s : Search) (r : Worklist) → Stands (lower w (k - 1)) s r → left r < left w
+  pub visited-less : (s : Search) (r : Worklist) → Represents (lower w (k - 1)) s r → left r < left w
   visited-less s r a = omega (arith, lower-left, a .same)
 
   pub visited : (r : Worklist)
-      → Stands (lower w (k - 1)) (meetAll (searchOf (lower w (k - 1))) (followers (instructionAt code (getD (w .waiting) (k - 1) (record { 0 = 0 }) .0) .action))) r
+      → Represents (lower w (k - 1)) (meetAll (searchOf (lower w (k - 1))) (followers (instructionAt code (getD (w .waiting) (k - 1) (record { 0 = 0 }) .0) .action))) r
       → Going code v r
   visited r a = record {
     room = omega (arith, a .same, lower-room);

@@ -1,4 +1,5 @@
 pub mod Choice
+pub mod Fitting
 pub mod Judged
 pub mod Keeping
 pub mod KeepingPromise
@@ -7,5 +8,7 @@ pub mod MatchingPromise
 pub mod Reaching
 pub mod ReachingClaims
 pub mod Records
+pub mod Shape
 pub mod Soundness
 pub mod Worklist
+pub mod ZeroClaims

@@ -5,7 +5,7 @@ pub use Rattle.net.specs.declared.matching.Wanted.{Wanted}
 pub use Rattle.net.specs.declared.matching.Evaluated.{Evaluated}
 pub use Rattle.net.specs.declared.matching.Found.{Found}
 pub use Rattle.net.specs.declared.matching.Matched.{Matched}
-use Prim.Native.Nat.{ℕ, zero, suc}
+use Prim.Native.Nat.{ℕ}
 use mathlib.Core.Bool.{Bool, true, false}
 use mathlib.Core.List.{List}
 use lib.ListN.{getD, set, replicate}
@@ -24,10 +24,10 @@ isSet (Value.Reading x) = true
 isSet (Value.Address l) = true
 
 -- the item that a variable holds; an unset variable, whose template is not defined, counts as nought
-unfoldable pub itemOf : Value → Item
-itemOf Value.Unset = Item.Reading (ℤ.pos 0)
-itemOf (Value.Reading x) = Item.Reading x
-itemOf (Value.Address l) = Item.Address l
+unfoldable pub heldItem : Value → Item
+heldItem Value.Unset = Item.Reading (ℤ.pos 0)
+heldItem (Value.Reading x) = Item.Reading x
+heldItem (Value.Address l) = Item.Address l
 
 unfoldable pub definedField : Process → Pattern → Bool
 definedField p (Pattern.Reading x) = true
@@ -41,7 +41,7 @@ unfoldable pub wantOf : Locality → Process → Pattern → Want
 wantOf host p (Pattern.Reading x) = Want.Exactly (Item.Reading x)
 wantOf host p (Pattern.Address l) = Want.Exactly (Item.Address l)
 wantOf host p Pattern.Own = Want.Exactly (Item.Address host)
-wantOf host p (Pattern.Held v) = Want.Exactly (itemOf (variableAt p v))
+wantOf host p (Pattern.Held v) = Want.Exactly (heldItem (variableAt p v))
 wantOf host p (Pattern.FormalReading v) = Want.AnyReading v
 wantOf host p (Pattern.FormalAddress v) = Want.AnyAddress v
 

@@ -1,6 +1,7 @@
 -- What matching promises to the crates above it (document 01, "One pick": "the stepping part rests on the written
--- promise of the fitting part and on none of its inner text"). Their proofs cite these clauses, and open no definition
--- of `Matching.antt`.
+-- promise of the fitting part and on none of its inner text"). The proofs of `step`, and those of `run` and `tenant` over
+-- it, cite these clauses and open no definition of `Matching.antt`. Of the crates that make no step, `image` and `writer`
+-- open the comparison of readings, and `edges` opens all, to compute the starred edges.
 use Prim.Native.Nat.{ℕ, _<_, _≤_}
 use mathlib.Core.Path.{_≡_}
 use mathlib.Core.Logic.{_↔_, _⊎_}
@@ -8,9 +9,10 @@ use mathlib.Core.Bool.{true, false}
 use lib.ListN.{length, getD}
 use lib.IntN.{ℤ}
 use Rattle.net.specs.Records.{Locality, Value, Item, Tuple, Process, Node, Instruction}
-use Rattle.net.specs.Records.{fieldAt, variableAt, tupleAt}
+use Rattle.net.specs.Records.{fieldAt, variableAt, tupleAt, patternAt}
 use Rattle.net.specs.Matching.{Want, Evaluated, Found}
 use Rattle.net.specs.Matching.{evaluatedOf, wantAt, sameReading, fitsOf, boundOf, matchedOf}
+use Rattle.net.specs.Fitting.{Wants, AllSet, Fits}
 use Rattle.net.specs.Soundness.{itemSound, valueSound, templateSound}
 
 -- the tuple at place i of the node fits, and no older one does
@@ -46,6 +48,21 @@ pub record Binding (p : Process) (t : Tuple) (e : Evaluated) (n : ℕ) (q : Proc
   pub holds : (v : ℕ) → v < length (p .variables) → Holds p t e n v (variableAt q v)
 
 pub record MatchingPromise : Type 0 where
+  -- a template is defined exactly when each variable whose value it takes is set
+  pub defines :
+      (a : Locality) (p : Process) (c : Instruction)
+      → c .count ≤ 4
+      → (evaluatedOf a p c .defined ≡ true) ↔ AllSet p c
+  -- each field of a defined template wants what its kind says, and nothing else
+  pub wants :
+      (a : Locality) (p : Process) (c : Instruction)
+      → c .count ≤ 4
+      → evaluatedOf a p c .defined ≡ true
+      → (i : ℕ) (w : Want)
+      → i < c .count
+      → (wantAt (evaluatedOf a p c) i ≡ w) ↔ Wants a p (patternAt c i) w
+  -- a tuple fits exactly when it has as many fields and each of them fits
+  pub fits : (t : Tuple) (e : Evaluated) → e .count ≤ 4 → (fitsOf t e ≡ true) ↔ Fits t e
   -- "the oldest tuple that fits" is found, and nothing else
   pub finds :
       (p : Process) (x : Node) (e : Evaluated) (i : ℕ)
@@ -56,6 +73,11 @@ pub record MatchingPromise : Type 0 where
       (p : Process) (x : Node) (e : Evaluated) (i : ℕ)
       → matchedOf p x e .found ≡ Found.At i
       → matchedOf p x e .process ≡ boundOf p (tupleAt x i) e
+  -- and where no tuple fits it is unchanged: no formal is bound before the whole template fits
+  pub leaves :
+      (p : Process) (x : Node) (e : Evaluated)
+      → matchedOf p x e .found ≡ Found.Nothing
+      → matchedOf p x e .process ≡ p
   -- "Formals are then set"
   pub sets :
       (p : Process) (t : Tuple) (e : Evaluated)

@@ -1,7 +1,7 @@
 -- The worklist of the code that fills the marks: how it stands for a search of `Reaching.antt`, and the number that
 -- falls with each visit.
 pub use Rattle.net.specs.declared.reaching.Worklist.{Worklist}
-use Prim.Native.Nat.{ℕ, zero, suc, _+_, _≤_}
+use Prim.Native.Nat.{ℕ, zero, suc, _+_}
 use mathlib.Core.Path.{_≡_}
 use mathlib.Core.Bool.{Bool, true, false}
 use mathlib.Core.List.{List, [], _∷_}
@@ -32,6 +32,6 @@ unfoldable pub left : Worklist → ℕ
 left w = w .count + unmarked (w .marks)
 
 -- the worklist r stands for the search s, with as many places left as w
-pub record Stands (w : Worklist) (s : Search) (r : Worklist) : Type 0 where
+pub record Represents (w : Worklist) (s : Search) (r : Worklist) : Type 0 where
   pub search : searchOf r ≡ s
   pub same : left r ≡ left w

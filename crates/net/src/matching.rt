@@ -14,7 +14,7 @@ ghost use lib.Dec.{ltb};
 ghost use lib.ListN.{set};
 ghost use Rattle.net.specs.Choice.{choose, both, implies, all};
 ghost use Rattle.net.specs.Records.{fieldAt, variableAt, tupleAt, patternAt, withVariable};
-ghost use Rattle.net.specs.Matching.{isSet, itemOf, definedField, wantOf, zeroWanted, wantsOf};
+ghost use Rattle.net.specs.Matching.{isSet, heldItem, definedField, wantOf, zeroWanted, wantsOf};
 ghost use Rattle.net.specs.Matching.{evaluatedOf, wantAt, sameItem, isReading, isAddress, fitsField};
 ghost use Rattle.net.specs.Matching.{fitsOf, oldestOf, valueOf, boundField, boundOf, boundAt, matchedOf};
 
@@ -76,8 +76,8 @@ fn is_set(x: Value) -> bool
 }
 
 // The item that a value holds; an unset one counts as nought.
-fn item_of(x: Value) -> Item
-    ensures { λ r. ⌜ r ≡ itemOf x ⌝ }
+fn held_item(x: Value) -> Item
+    ensures { λ r. ⌜ r ≡ heldItem x ⌝ }
 {
     match x {
         Value::Unset => Item::Reading(0),
@@ -138,10 +138,10 @@ fn all_defined(p: Process, c: Instruction) -> bool
 
 // The value that a variable holds, as an actual.
 fn exactly_held(p: Process, v: u8) -> Want
-    ensures { λ r. ⌜ r ≡ Want.Exactly (itemOf (variableAt p v)) ⌝ }
+    ensures { λ r. ⌜ r ≡ Want.Exactly (heldItem (variableAt p v)) ⌝ }
 {
     let x = variable(p, v);
-    let item = item_of(x);
+    let item = held_item(x);
     Want::Exactly(item)
 }
 
@@ -326,7 +326,7 @@ fn fields_fit(t: Tuple, e: Evaluated) -> bool
 }
 
 // The tuple fits: as many fields, and each as the template asks for.
-pub fn fits(t: Tuple, e: Evaluated) -> bool
+fn fits(t: Tuple, e: Evaluated) -> bool
     ensures { λ r. ⌜ r ≡ fitsOf t e ⌝ }
 {
     if t.count == e.count {
@@ -344,7 +344,7 @@ fn fits_stored(i: usize, stored: usize, t: Tuple, e: Evaluated) -> bool
 }
 
 // The oldest tuple of the node that fits: tuples stand oldest first.
-pub fn oldest(n: Node, e: Evaluated) -> Found
+fn oldest(n: Node, e: Evaluated) -> Found
     ensures { λ r. ⌜ r ≡ oldestOf n e ⌝ }
 {
     let mut i = 0;
@@ -407,7 +407,7 @@ fn bound_at(p: Process, t: Tuple, e: Evaluated, i: usize) -> Process
 }
 
 // The process with every formal bound to the field of the tuple that it met.
-pub fn bound(p: Process, t: Tuple, e: Evaluated) -> Process
+fn bound(p: Process, t: Tuple, e: Evaluated) -> Process
     ensures { λ r. ⌜ r ≡ boundOf p t e ⌝ }
 {
     let mut q = p;

@@ -7,7 +7,7 @@ ghost use mathlib.Core.Path.{_≡_};
 ghost use mathlib.Core.Bool.{false};
 ghost use lib.ListN.{getD};
 ghost use Rattle.net.specs.Reaching.{meet, meetAll, followers, startedAt, reachedOf};
-ghost use Rattle.net.specs.Worklist.{searchOf, blank, left, Stands};
+ghost use Rattle.net.specs.Worklist.{searchOf, blank, left, Represents};
 
 // One mark for each instruction, and the marked places that are still to be visited. A place is marked
 // when it is put to wait, so it waits once at most, and 512 places are room enough.
@@ -32,7 +32,7 @@ fn blank_worklist() -> Worklist
 // A place that is not marked yet is marked, and waits.
 fn put_to_wait(mut w: Worklist, p: Place) -> Worklist
     requires { ⌜ (left w ≤ 512) × ((p .0 < 512) × (getD (w .marks) (p .0) false ≡ false)) ⌝ }
-    ensures { λ r. ⌜ Stands w (meet (searchOf w) p) r ⌝ }
+    ensures { λ r. ⌜ Represents w (meet (searchOf w) p) r ⌝ }
 {
     let at = p.0 as usize;
     let count = w.count;
@@ -45,7 +45,7 @@ fn put_to_wait(mut w: Worklist, p: Place) -> Worklist
 // A place is met: where it is new, it is marked and waits.
 fn met(w: Worklist, p: Place) -> Worklist
     requires { ⌜ left w ≤ 512 ⌝ }
-    ensures { λ r. ⌜ Stands w (meet (searchOf w) p) r ⌝ }
+    ensures { λ r. ⌜ Represents w (meet (searchOf w) p) r ⌝ }
 {
     let at = p.0 as usize;
     if 512 <= at {
@@ -56,7 +56,7 @@ fn met(w: Worklist, p: Place) -> Worklist
 
 fn met_both(w: Worklist, p: Place, q: Place) -> Worklist
     requires { ⌜ left w ≤ 512 ⌝ }
-    ensures { λ r. ⌜ Stands w (meet (meet (searchOf w) p) q) r ⌝ }
+    ensures { λ r. ⌜ Represents w (meet (meet (searchOf w) p) q) r ⌝ }
 {
     let first = met(w, p);
     met(first, q)
@@ -65,7 +65,7 @@ fn met_both(w: Worklist, p: Place, q: Place) -> Worklist
 // The places that follow an action are met. The sent place of an eval is not followed.
 fn follow(w: Worklist, action: Action) -> Worklist
     requires { ⌜ left w ≤ 512 ⌝ }
-    ensures { λ r. ⌜ Stands w (meetAll (searchOf w) (followers action)) r ⌝ }
+    ensures { λ r. ⌜ Represents w (meetAll (searchOf w) (followers action)) r ⌝ }
 {
     match action {
         Action::Stop => w,

@@ -1,8 +1,8 @@
 -- The claims of `specs/DemandOne.antt`: a step that is performed is one that a rule allows, and each rule has its right
 -- among its premises; a pick that is refused hands back the net that it was given.
 -- Assumes nothing.
-use Prim.Native.Nat.{ℕ, _<_}
-use mathlib.Core.Path.{_≡_, refl}
+use Prim.Native.Nat.{ℕ}
+use mathlib.Core.Path.{_≡_, refl, ap}
 use mathlib.Core.Bool.{Bool}
 use native.Mathlib.Omega.{arith}
 use Rattle.net.specs.Choice.{choose}
@@ -53,22 +53,42 @@ onlyWithRight s b h =
     (picked-step s b (pickOf s b .net)
     (record { is = λ i. record { answer = is-performed (pickOf s b .answer) h i; net = pickOf s b .net } }))
 
--- ---- refused changes nothing
-Kept : Net → Picked → Type 0
-Kept s r = 1 < numberOf (r .answer) → r .net ≡ s
+-- ---- refused changes nothing: a pick performs a step, or ends its process, or leaves the net as it was
+data Left (s : Net) (r : Picked) : Type 0 where
+  was-performed : r .answer ≡ Answer.Performed → Left s r
+  was-ended : r .answer ≡ Answer.Ended → Left s r
+  as-it-was : r .net ≡ s → Left s r
 
-kept : (s : Net) (a k : ℕ) (x : Action) (r : Picked) → Outcome s a k x r → Kept s r
-unfolding Kept performed unchanged stopped numberOf
-kept s a k _ _ (performs n) l = absurd (omega arith)
-kept s a k _ _ (refuses n l′) l = refl
-kept s a k _ _ ends l = absurd (omega arith)
+left : (s : Net) (a k : ℕ) (x : Action) (r : Picked) → Outcome s a k x r → Left s r
+unfolding performed unchanged stopped
+left s a k _ _ (performs n) = was-performed refl
+left s a k _ _ (refuses n l) = as-it-was refl
+left s a k _ _ ends = was-ended refl
 
-or-refused : (s : Net) (b : Bool) (r : Picked) (n : Answer) → Kept s r → Kept s (choose b r (unchanged n s))
-unfolding Kept unchanged
-or-refused s b r n h = chosen (Kept s) b r _ (λ _. h) (λ _ _. refl)
+or-refused : (s : Net) (b : Bool) (r : Picked) (n : Answer) → Left s r → Left s (choose b r (unchanged n s))
+unfolding unchanged
+or-refused s b r n h = chosen (Left s) b r _ (λ _. h) (λ _. as-it-was refl)
 
-pub refusedChangesNothing : RefusedChangesNothing
-unfolding RefusedChangesNothing Kept pickOf stepOf slotStep processStep requestOf
-refusedChangesNothing s b =
+picked-left : (s : Net) (b : ℕ) → Left s (pickOf s b)
+unfolding pickOf stepOf slotStep processStep requestOf
+picked-left s b =
     or-refused s _ _ _ (or-refused s _ _ _ (or-refused s _ _ _ (or-refused s _ _ _
-    (kept s (hostOf b) (slotOf b) _ _ (outcome s (record { 0 = hostOf b }) (slotOf b) _ _ _)))))
+    (left s (hostOf b) (slotOf b) _ _ (outcome s (record { 0 = hostOf b }) (slotOf b) _ _ _)))))
+
+number-performed : numberOf Answer.Performed ≡ 0
+unfolding numberOf
+number-performed = refl
+
+number-ended : numberOf Answer.Ended ≡ 1
+unfolding numberOf
+number-ended = refl
+
+-- what the claim's bound leaves out is a step performed and a process ended, whose nets do change
+pub refusedChangesNothing : RefusedChangesNothing
+unfolding RefusedChangesNothing
+refusedChangesNothing s b l = go (picked-left s b)
+  where
+    go : Left s (pickOf s b) → pickOf s b .net ≡ s
+    go (was-performed e) = absurd (omega (arith, ap numberOf e, number-performed))
+    go (was-ended e) = absurd (omega (arith, ap numberOf e, number-ended))
+    go (as-it-was e) = e

@@ -1,26 +1,11 @@
--- The lengths that every net of a running program has (`proofs/Lengths.antt`). Array types fix these lengths in the
--- code, lists do not: a claim about nets that a program holds takes them from here.
+-- The lengths that every net of a running program has (`proofs/Lengths.antt`), over those of its records, which `net`
+-- has (`specs/Shape.antt` there).
+pub use Rattle.net.specs.Shape.{ShapedTuple, ShapedProcess, ShapedNode, ShapedInstruction}
 use Prim.Native.Nat.{ℕ, _<_}
 use mathlib.Core.Path.{_≡_}
 use lib.ListN.{length}
-use Rattle.net.specs.Records.{processAt, tupleAt, nodeAt, instructionAt}
-use Rattle.step.specs.Types.{Tuple, Process, Node, Instruction, Net}
-
-pub record ShapedTuple (t : Tuple) : Type 0 where
-  pub fields-are : length (t .fields) ≡ 4
-
-pub record ShapedProcess (p : Process) : Type 0 where
-  pub variables-are : length (p .variables) ≡ 8
-
-pub record ShapedNode (x : Node) : Type 0 where
-  pub rights-are : length (x .row .rights) ≡ 16
-  pub processes-are : length (x .processes) ≡ 4
-  pub tuples-are : length (x .tuples) ≡ 16
-  pub each-process : (i : ℕ) → i < 4 → ShapedProcess (processAt x i)
-  pub each-tuple : (i : ℕ) → i < 16 → ShapedTuple (tupleAt x i)
-
-pub record ShapedInstruction (c : Instruction) : Type 0 where
-  pub template-is : length (c .template) ≡ 4
+use Rattle.net.specs.Records.{nodeAt, instructionAt}
+use Rattle.step.specs.Types.{Net}
 
 pub record Shaped (s : Net) : Type 0 where
   pub nodes-are : length (s .nodes) ≡ 16

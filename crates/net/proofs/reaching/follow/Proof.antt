@@ -1,5 +1,5 @@
 -- `net::reaching::follow` meets its contract. Assumes nothing.
-use Rattle.net.proofs.WorklistLaws.{follow-as, follow-none, follow-one, follow-two}
+use Rattle.net.proofs.WorklistLaws.{following}
 use Rattle.net.specs.Reaching.{followers}
 use borrow.Author.Needs.{needs}
 use Rattle.net.proofs.reaching.follow.Statement.{statement}
@@ -23,10 +23,10 @@ follow-spec =
     (λ c κs. search needs)
     (λ c. search needs)
     (λ c κs. search needs)
-    (λ c. search (needs, follow-as, follow-none))
-    (λ c. search (needs, follow-as, follow-one))
-    (λ c. search (needs, follow-as, follow-one))
-    (λ c. search (needs, follow-as, follow-one))
-    (λ c. search (needs, follow-as, follow-one))
-    (λ c. search (needs, follow-as, follow-one))
-    (λ c. search (needs, follow-as, follow-two)))
+    (λ c. search (needs, following))
+    (λ c. search (needs, following))
+    (λ c. search (needs, following))
+    (λ c. search (needs, following))
+    (λ c. search (needs, following))
+    (λ c. search (needs, following))
+    (λ c. search (needs, following)))

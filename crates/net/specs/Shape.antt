@@ -1,0 +1,22 @@
+-- The lengths that the records of every running program have. Array types fix these lengths in the code, lists do not:
+-- a claim about records that a program holds takes them from here.
+use Prim.Native.Nat.{ℕ, _<_}
+use mathlib.Core.Path.{_≡_}
+use lib.ListN.{length}
+use Rattle.net.specs.Records.{Tuple, Process, Node, Instruction, processAt, tupleAt}
+
+pub record ShapedTuple (t : Tuple) : Type 0 where
+  pub fields-are : length (t .fields) ≡ 4
+
+pub record ShapedProcess (p : Process) : Type 0 where
+  pub variables-are : length (p .variables) ≡ 8
+
+pub record ShapedNode (x : Node) : Type 0 where
+  pub rights-are : length (x .row .rights) ≡ 16
+  pub processes-are : length (x .processes) ≡ 4
+  pub tuples-are : length (x .tuples) ≡ 16
+  pub each-process : (i : ℕ) → i < 4 → ShapedProcess (processAt x i)
+  pub each-tuple : (i : ℕ) → i < 16 → ShapedTuple (tupleAt x i)
+
+pub record ShapedInstruction (c : Instruction) : Type 0 where
+  pub template-is : length (c .template) ≡ 4
