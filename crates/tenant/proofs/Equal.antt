@@ -3,17 +3,15 @@
 -- Assumes nothing.
 use Prim.Native.Nat.{ℕ, zero, suc, _<_, _≤_}
 use mathlib.Core.Path.{_≡_, refl, sym, ap, subst, _∙_}
-use mathlib.Core.Bool.{Bool, true, false}
-use mathlib.Core.List.{List, [], _∷_}
-use mathlib.Core.Logic.{_⊎_, inl, inr}
+use mathlib.Core.Bool.{Bool, false}
+use mathlib.Core.List.{List}
 use native.Mathlib.Omega.{arith}
 use native.Mathlib.Decide.{decLe}
 use lib.ListN.{getD, List·getD-eq-default}
 use lib.Seq.{ext-getD}
 use Rattle.net.specs.Choice.{choose}
-use Rattle.net.specs.Records.{zeroField, zeroTuple, freeProcess, startingAt, noRights, zeroNode, zeroTemplateField}
-use Rattle.net.specs.Records.{zeroInstruction, fieldAt, rightsAt, processAt, tupleAt, patternAt, nodeAt, instructionAt}
-use Rattle.net.specs.Records.{withAction}
+use Rattle.net.specs.Records.{freeProcess, startingAt, zeroTemplateField, zeroInstruction, withAction}
+use Rattle.net.specs.Records.{fieldAt, rightsAt, processAt, tupleAt, patternAt, nodeAt, instructionAt}
 use Rattle.net.proofs.Every.{Every, every-replicate, Filled}
 use Rattle.net.proofs.Past.{pastProcess, pastTuple}
 use Rattle.image.proofs.PastRecords.{pastField, pastRights, pastTemplate, pastNode, pastInstruction}
@@ -25,7 +23,7 @@ use Rattle.writer.proofs.WrittenStages.{NodeOk}
 use Rattle.writer.proofs.WrittenTemplate.{TemplateOk}
 use Rattle.writer.proofs.WrittenCode.{Spoken, Evaluated, Created, Forked, Acting, InstructionOk}
 use Rattle.writer.proofs.WrittenWhole.{NetOk}
-use Rattle.tenant.specs.Types.{Place, Tuple, Row, Process, Node, Action, Instruction, Net}
+use Rattle.tenant.specs.Types.{Tuple, Row, Process, Node, Action, Instruction, Net}
 use Rattle.tenant.specs.TenantRule.{SameInstruction, SameCode, SamePolicy, SameTuple, SameTuples, SameStart, SameNode}
 use Rattle.tenant.proofs.Fence.{choose-both}
 

@@ -4,7 +4,6 @@
 use Prim.Native.Nat.{ℕ}
 use mathlib.Core.Path.{_≡_, refl, ap, _∙_}
 use mathlib.Core.Bool.{Bool, true, false}
-use Rattle.net.specs.Choice.{choose}
 use Rattle.net.specs.Records.{nodeAt, rightsAt, noRights}
 use Rattle.net.specs.Keeping.{mayTake, mayRead, mayPut, maySend, mayCreate}
 use Rattle.net.proofs.Every.{chosen}

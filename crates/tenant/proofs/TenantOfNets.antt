@@ -82,12 +82,12 @@ module _ (tenant : ℕ → Bool) where
 
   -- ---- two nets
   same-view :
-      (s t : Net) → Shaped s → Shaped t → s .addresses ≡ t .addresses → s .length ≡ t .length → s .code ≡ t .code
+      (s t : Net) → Shaped s → Shaped t → s .addresses ≡ t .addresses → s .code ≡ t .code
       → ((a : ℕ) → tenant a ≡ false → nodeAt s a ≡ nodeAt t a) → view tenant s ≡ view tenant t
   unfolding view nodeAt
-  same-view s t g g′ n k c f =
+  same-view s t g g′ n c f =
       let e = blanked-same tenant (s .nodes) (t .nodes) _ (g .nodes-are ∙ sym (g′ .nodes-are)) f in
-      λ i. record { addresses = n i; length = k i; nodes = e i; code = c i }
+      λ i. record { addresses = n i; length = 0; nodes = e i; code = c i }
 
   equal-node : (x y : Node) → x ≡ y → Equal x y
   equal-node x y e = record {
@@ -114,12 +114,12 @@ module _ (tenant : ℕ → Bool) where
 
   pub tenant-of-nets :
       (s t : Net) (bs bs′ : List ℕ) → soundOf s ≡ true → soundOf t ≡ true → Shaped s → Shaped t
-      → s .addresses ≡ t .addresses → s .length ≡ t .length → s .code ≡ t .code
-      → ((a : ℕ) → tenant a ≡ false → nodeAt s a ≡ nodeAt t a) → Fence tenant s → Fence tenant t
+      → s .addresses ≡ t .addresses → s .code ≡ t .code → ((a : ℕ) → tenant a ≡ false → nodeAt s a ≡ nodeAt t a)
+      → Fence tenant s → Fence tenant t
       → struck tenant bs ≡ struck tenant bs′ → Agree tenant bs bs′ (ranFrom s bs) (ranFrom t bs′)
-  tenant-of-nets s t bs bs′ h h′ g g′ n k c nodes f f′ e =
+  tenant-of-nets s t bs bs′ h h′ g g′ n c nodes f f′ e =
       agree bs bs′ _ _
       (ap (viewed bs) (same-run s bs g h) ∙ run-viewed s bs f
       ∙ ap (stepped (view tenant s)) e
-      ∙ ap (λ x. stepped x (struck tenant bs′)) (same-view s t g g′ n k c nodes)
+      ∙ ap (λ x. stepped x (struck tenant bs′)) (same-view s t g g′ n c nodes)
       ∙ sym (run-viewed t bs′ f′) ∙ sym (ap (viewed bs′) (same-run t bs′ g′ h′)))

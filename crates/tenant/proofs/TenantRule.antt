@@ -9,9 +9,8 @@ use mathlib.Core.List.{List}
 use mathlib.Core.Logic.{_⊎_, inl, inr}
 use native.Mathlib.Omega.{arith}
 use lib.ListN.{getD-replicate, List·getD-eq-default}
-use Rattle.net.specs.Choice.{both}
 use Rattle.net.specs.Records.{nodeAt, rightsAt, noRights, zeroNode, zeroRow, emptyNet}
-use Rattle.net.specs.Soundness.{inRange, soundOf}
+use Rattle.net.specs.Soundness.{soundOf}
 use Rattle.image.specs.Image.{openedOf}
 use Rattle.image.specs.ImageClaims.{AcceptedIsSound}
 use Rattle.net.proofs.Laws.{both-l}
@@ -112,7 +111,7 @@ tenantRule tenant image image′ picks picks′ r r′ e e′ alike same =
     let ok′ = written image′ sound′ in
     subst₂ (Agree tenant picks picks′) (b .ran-is) (b′ .ran-is)
     (tenant-of-nets tenant s t picks picks′ sound sound′ (whole-shaped s (opened-whole image))
-    (whole-shaped t (opened-whole image′)) (alike .addresses) (alike .code .length) (code-same s t ok ok′ (alike .code))
+    (whole-shaped t (opened-whole image′)) (alike .addresses) (code-same s t ok ok′ (alike .code))
     (nodes-same s t ok ok′ tenant (alike .addresses) (alike .nodes))
     (fence s ok tenant (alike .below) (alike .fenced))
     (fence t ok′ tenant (λ a h. omega (arith, alike .below a h, alike .addresses)) (alike .fenced′)) same)

@@ -99,11 +99,11 @@ pub record Alike (tenant : ℕ → Bool) (s t : Net) : Type 0 where
 
 -- ---- what follows: "policies in every right", "tuples in order and whole", "processes at the end slot by slot, free or
 -- busy, each record whole", so each of a node's parts as a whole
-pub record Equal (x x′ : Node) : Type 0 where
-  pub policy : x .row ≡ x′ .row
-  pub count : x .stored ≡ x′ .stored
-  pub tuples : x .tuples ≡ x′ .tuples
-  pub processes : x .processes ≡ x′ .processes
+pub record Equal (x y : Node) : Type 0 where
+  pub policy : x .row ≡ y .row
+  pub count : x .stored ≡ y .stored
+  pub tuples : x .tuples ≡ y .tuples
+  pub processes : x .processes ≡ y .processes
 
 -- "the remaining answers are equal in order, as are the final count of addresses and, at each outside address, policy,
 -- tuples and processes with their variables"; "all others, opened ones too, are outside"
