@@ -33,7 +33,7 @@ pub record SameInstruction (c c′ : Instruction) : Type 0 where
   pub count : c .count ≡ c′ .count
   pub fields : (i : ℕ) → i < c .count → patternAt c i ≡ patternAt c′ i
 
--- "equal .. code": as long, and equal in every instruction
+-- "equal .. code": codes of one length, equal in every instruction below it
 pub record SameCode (s t : Net) : Type 0 where
   pub length : s .length ≡ t .length
   pub instructions : (p : ℕ) → p < s .length → SameInstruction (instructionAt (s .code) p) (instructionAt (t .code) p)
@@ -53,12 +53,13 @@ pub record SameTuples (x x′ : Node) : Type 0 where
   pub count : x .stored ≡ x′ .stored
   pub tuples : (i : ℕ) → i < x .stored → SameTuple (tupleAt x i) (tupleAt x′ i)
 
--- a slot and its starting process "in their places": free in both or busy in both, and where it is busy at one place
+-- a starting process in its slot and place: the slot is free in both or busy in both, and where it is busy the process
+-- stands at one place
 pub record SameStart (p p′ : Process) : Type 0 where
   pub busy : p .busy ≡ p′ .busy
   pub place : p .busy ≡ true → p .at ≡ p′ .at
 
--- "equal policies, tuples and starting processes", the processes "slot by slot"
+-- "equal policies, tuples and starting processes", "starting processes slot by slot in their places"
 pub record SameNode (addresses : ℕ) (x x′ : Node) : Type 0 where
   pub policy : SamePolicy addresses (x .row) (x′ .row)
   pub tuples : SameTuples x x′
