@@ -4,7 +4,6 @@
 use Prim.Native.Nat.{ℕ}
 use mathlib.Core.Path.{_≡_, refl, ap, _∙_}
 use mathlib.Core.Bool.{Bool, true, false}
-use Rattle.net.specs.Choice.{choose}
 use Rattle.net.specs.Records.{nodeAt, rightsAt, noRights}
 use Rattle.net.specs.Keeping.{mayTake, mayRead, mayPut, maySend, mayCreate}
 use Rattle.net.proofs.Every.{chosen}
@@ -16,13 +15,7 @@ use Rattle.tenant.specs.Types.{Place, Tuple, Process, Slot, Net, Evaluat
 use Rattle.tenant.specs.Types.{Rights, Picked}
 use Rattle.tenant.proofs.View.{view, view-addresses, view-code, view-node, view-out, view-in, view-opened}
 use Rattle.tenant.proofs.View.{seen, seen-choose, seen-unchanged, seen-performed}
-use Rattle.tenant.proofs.Fence.{Fence, tested, never, new-outside}
-
--- the sides of a choice may be equal under its test only
-choose-both : {A : Type 0} (b : Bool) (x x′ y y′ : A) → (b ≡ true → x ≡ x′) → y ≡ y′ → choose b x y ≡ choose b x′ y′
-unfolding choose
-choose-both true x x′ y y′ f e = f refl
-choose-both false x x′ y y′ f e = e
+use Rattle.tenant.proofs.Fence.{Fence, tested, never, choose-both, new-outside}
 
 module _ (tenant : ℕ → Bool) where
   -- ---- changes outside the tenant

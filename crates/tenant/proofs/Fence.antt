@@ -7,6 +7,7 @@ use mathlib.Core.List.{List, [], _∷_}
 use native.Mathlib.Omega.{arith}
 use lib.ListN.{getD, set}
 use lib.Seq.{getD-set-other}
+use Rattle.net.specs.Choice.{choose}
 use Rattle.net.specs.Records.{nodeAt, rightsAt, noRights}
 use Rattle.net.specs.Records.{withNode, withProcess, withTuple, withoutTuple, withRow, withRights}
 use Rattle.net.specs.Keeping.{mayCreate}
@@ -25,6 +26,12 @@ tested false f g = g refl
 
 pub never : {A : Type 0} (b : Bool) → b ≡ true → b ≡ false → A
 never b p q = let z : _≡_ {A = ℕ} 0 1 = cc in absurd (omega arith)
+
+-- the sides of a choice may be equal under its test only
+pub choose-both : {A : Type 0} (b : Bool) (x x′ y y′ : A) → (b ≡ true → x ≡ x′) → y ≡ y′ → choose b x y ≡ choose b x′ y′
+unfolding choose
+choose-both true x x′ y y′ f e = f refl
+choose-both false x x′ y y′ f e = e
 
 -- an element after one is set
 pub at-set :

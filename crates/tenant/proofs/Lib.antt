@@ -1,3 +1,4 @@
+pub mod Equal
 pub mod Erasure
 pub mod Fence
 pub mod TenantOfNets

@@ -13,7 +13,7 @@ use Rattle.step.specs.Shape.{Shaped}
 use Rattle.step.proofs.SoundKept.{step-sound-kept}
 use Rattle.tenant.specs.Types.{Node, Net, Answer, Picked}
 use Rattle.run.specs.Run.{Ran, answered, ranFrom}
-use Rattle.tenant.specs.TenantRule.{struck, remaining, Same, Agree}
+use Rattle.tenant.specs.TenantRule.{struck, remaining, Equal, Agree}
 use Rattle.tenant.proofs.View.{blanked-same, view, view-node, seen}
 use Rattle.tenant.proofs.Fence.{Fence, tested, fence-kept}
 use Rattle.tenant.proofs.Erasure.{step-out, step-in}
@@ -82,17 +82,15 @@ module _ (tenant : ℕ → Bool) where
 
   -- ---- two nets
   same-view :
-      (s t : Net) → Shaped s → Shaped t → s .addresses ≡ t .addresses → s .length ≡ t .length → s .code ≡ t .code
-      → ((a : ℕ) → tenant a ≡ false → Same (nodeAt s a) (nodeAt t a)) → view tenant s ≡ view tenant t
+      (s t : Net) → Shaped s → Shaped t → s .addresses ≡ t .addresses → s .code ≡ t .code
+      → ((a : ℕ) → tenant a ≡ false → nodeAt s a ≡ nodeAt t a) → view tenant s ≡ view tenant t
   unfolding view nodeAt
-  same-view s t g g′ n k c f =
-      let e = blanked-same tenant (s .nodes) (t .nodes) _ (g .nodes-are ∙ sym (g′ .nodes-are))
-      (λ a o i. let x = f a o in
-      record { row = x .policy i; processes = x .processes i; stored = x .count i; tuples = x .tuples i }) in
-      λ i. record { addresses = n i; length = k i; nodes = e i; code = c i }
+  same-view s t g g′ n c f =
+      let e = blanked-same tenant (s .nodes) (t .nodes) _ (g .nodes-are ∙ sym (g′ .nodes-are)) f in
+      λ i. record { addresses = n i; length = 0; nodes = e i; code = c i }
 
-  pub same-node : (x y : Node) → x ≡ y → Same x y
-  same-node x y e = record {
+  equal-node : (x y : Node) → x ≡ y → Equal x y
+  equal-node x y e = record {
     policy = ap (λ (z : Node). z .row) e;
     count = ap (λ (z : Node). z .stored) e;
     tuples = ap (λ (z : Node). z .tuples) e;
@@ -110,18 +108,18 @@ module _ (tenant : ℕ → Bool) where
       record {
         answers = ap (λ (x : Ran). x .answers) e;
         count = same-count (r .net) (r′ .net) one;
-        nodes = λ a o. same-node _ _
+        nodes = λ a o. equal-node _ _
             (sym (view-node tenant (r .net) a o) ∙ ap (λ x. nodeAt x a) one ∙ view-node tenant (r′ .net) a o);
       }
 
   pub tenant-of-nets :
       (s t : Net) (bs bs′ : List ℕ) → soundOf s ≡ true → soundOf t ≡ true → Shaped s → Shaped t
-      → s .addresses ≡ t .addresses → s .length ≡ t .length → s .code ≡ t .code
-      → ((a : ℕ) → tenant a ≡ false → Same (nodeAt s a) (nodeAt t a)) → Fence tenant s → Fence tenant t
+      → s .addresses ≡ t .addresses → s .code ≡ t .code → ((a : ℕ) → tenant a ≡ false → nodeAt s a ≡ nodeAt t a)
+      → Fence tenant s → Fence tenant t
       → struck tenant bs ≡ struck tenant bs′ → Agree tenant bs bs′ (ranFrom s bs) (ranFrom t bs′)
-  tenant-of-nets s t bs bs′ h h′ g g′ n k c nodes f f′ e =
+  tenant-of-nets s t bs bs′ h h′ g g′ n c nodes f f′ e =
       agree bs bs′ _ _
       (ap (viewed bs) (same-run s bs g h) ∙ run-viewed s bs f
       ∙ ap (stepped (view tenant s)) e
-      ∙ ap (λ x. stepped x (struck tenant bs′)) (same-view s t g g′ n k c nodes)
+      ∙ ap (λ x. stepped x (struck tenant bs′)) (same-view s t g g′ n c nodes)
       ∙ sym (run-viewed t bs′ f′) ∙ sym (ap (viewed bs′) (same-run t bs′ g′ h′)))

@@ -1,116 +1,76 @@
--- The claim of `specs/TenantRule.antt`: accepted nets are sound, have a program's lengths and hold nothing at unused
--- addresses, so that the rule of two nets (`TenantOfNets.antt`) speaks of them.
+-- The claim of `specs/TenantRule.antt`: the net of an accepted image is sound, has a program's lengths and is zero past
+-- its counts, so that two that agree below the counts are equal outside the tenant (`Equal.antt`), their fences speak of
+-- all numbers, and the rule of two nets (`TenantOfNets.antt`) speaks of them.
 -- Assumes nothing.
-use Prim.Native.Nat.{ℕ, zero, suc, _<_, _≤_}
+use Prim.Native.Nat.{ℕ, _<_, _≤_}
 use mathlib.Core.Path.{_≡_, refl, sym, ap, subst₂, _∙_}
-use mathlib.Core.Bool.{Bool, true, false, not}
-use mathlib.Core.List.{List, [], _∷_}
+use mathlib.Core.Bool.{Bool, true, false}
+use mathlib.Core.List.{List}
+use mathlib.Core.Logic.{_⊎_, inl, inr}
 use native.Mathlib.Omega.{arith}
-use native.Mathlib.Decide.{decLe}
-use lib.ListN.{length, getD, getD-replicate}
-use Rattle.net.specs.Choice.{both}
-use Rattle.net.specs.Records.{nodeAt, rightsAt, noRights, zeroNode, zeroRow}
-use Rattle.net.specs.Soundness.{isNone, soundOf}
+use lib.ListN.{getD-replicate, List·getD-eq-default}
+use Rattle.net.specs.Records.{nodeAt, rightsAt, noRights, zeroNode, zeroRow, emptyNet}
+use Rattle.net.specs.Soundness.{soundOf}
 use Rattle.image.specs.Image.{openedOf}
 use Rattle.image.specs.ImageClaims.{AcceptedIsSound}
-use Rattle.net.proofs.Laws.{both-l, both-r}
+use Rattle.net.proofs.Laws.{both-l}
 use Rattle.image.proofs.AcceptedSound.{accepted-is-sound}
-use Rattle.step.proofs.SoundFacts.{pastRights, sound-apart}
-use Rattle.step.proofs.SoundChanges.{node-at}
+use Rattle.image.proofs.PastRecords.{pastRights, pastNode}
+use Rattle.writer.proofs.WrittenWhole.{NetOk}
+use Rattle.writer.proofs.AcceptedWritten.{opened-ok}
+use Rattle.step.proofs.SoundFacts.{in-range-low}
 use Rattle.tenant.specs.Types.{Rights, Node, Net, Reading}
 use Rattle.run.specs.Run.{Ran, ran, ranFrom, runIn, runOf}
-use Rattle.tenant.specs.TenantRule.{Fenced, Agree, TenantRule}
+use Rattle.tenant.specs.TenantRule.{grants, creates, Fenced, Agree, TenantRule}
+use Rattle.run.proofs.Whole.{whole-shaped, opened-whole}
 use Rattle.tenant.proofs.Fence.{Fence}
-use Rattle.run.proofs.Whole.{Whole, whole-shaped, opened-whole}
-use Rattle.tenant.proofs.TenantOfNets.{same-node, tenant-of-nets}
+use Rattle.tenant.proofs.Equal.{under, code-same, nodes-same}
+use Rattle.tenant.proofs.TenantOfNets.{tenant-of-nets}
 
--- ---- what stands past the end, and where there is no right
-past : {A : Type 0} (xs : List A) (i : ℕ) (d : A) → length xs ≤ i → getD xs i d ≡ d
-past [] i d h = refl
-past (x ∷ xs) zero d h = absurd (omega arith)
-past (x ∷ xs) (suc i) d h = past xs i d (omega arith)
+module _ (s : Net) (ok : NetOk s) where
+  -- ---- no policy grants a right over an unused address
+  over-unused : (a l : ℕ) → a < s .addresses → s .addresses ≤ l → grants s a l ≡ noRights
+  unfolding grants rightsAt nodeAt noRights
+  over-unused a l h g =
+      let rights = ok .nodes-ok .holds a (omega (arith, ok .addresses-ok .below)) .used h .row-ok .rights-ok in
+      under l 16 (λ u. sym (rights .holds l u .unused g))
+      (λ u. List·getD-eq-default (nodeAt s a .row .rights) pastRights (omega (arith, rights .size-is)))
 
-not-true : (b : Bool) → not b ≡ true → b ≡ false
-not-true true e = sym e
-not-true false e = refl
-
-none : (r : Rights) → isNone r ≡ true → r ≡ noRights
-unfolding isNone noRights
-none r h =
-    let first = both-l _ _ h in
-    let second = both-r (both (not (r .take)) (not (r .read))) _ h in
-    let no-take = not-true (r .take) (both-l _ _ first) in
-    let no-read = not-true (r .read) (both-r (not (r .take)) _ first) in
-    let no-put = not-true (r .put) (both-l _ _ second) in
-    let no-send = not-true (r .send) (both-r (not (r .put)) _ second) in
-    λ i. record { take = no-take i; read = no-read i; put = no-put i; send = no-send i }
-
--- of numbers, below or not
-under : {A : Type 0} (i n : ℕ) → (i < n → A) → (n ≤ i → A) → A
-under {A} i n f g = go (decLe n i)
-  where
-    go : Dec (n ≤ i) → A
-    go (yes p) = g p
-    go (no p) = f (omega arith)
-
--- ---- an unused address
-module _ (s : Net) (ok : Whole s) where
-  zero-node : (a : ℕ) → s .addresses ≤ a → a < 16 → nodeAt s a ≡ zeroNode
-  unfolding nodeAt
-  zero-node a h l = ok .nodes-ok .holds a l .rest h
-
-  past-row : (a l : ℕ) → 16 ≤ a → rightsAt (nodeAt s a .row) l ≡ noRights
-  unfolding nodeAt rightsAt noRights
-  past-row a l h =
-      ap (λ (x : Node). getD (x .row .rights) l pastRights) (past (s .nodes) a _ (omega (arith, ok .nodes-ok .size-is)))
-
-  zero-rights : (l : ℕ) → l < 16 → rightsAt (zeroNode .row) l ≡ noRights
+  -- ---- and an unused address grants none
+  zero-grants : (l : ℕ) → l < 16 → rightsAt (zeroNode .row) l ≡ noRights
   unfolding rightsAt zeroNode zeroRow
-  zero-rights l h = getD-replicate 16 l noRights _ h
+  zero-grants l h = getD-replicate 16 l noRights _ h
 
-  unused-row : (a l : ℕ) → s .addresses ≤ a → l < 16 → rightsAt (nodeAt s a .row) l ≡ noRights
-  unused-row a l h g =
-      under a 16 (λ u. ap (λ (x : Node). rightsAt (x .row) l) (zero-node a h u) ∙ zero-rights l g) (past-row a l)
+  of-unused : (a l : ℕ) → s .addresses ≤ a → l < 16 → grants s a l ≡ noRights
+  unfolding grants rightsAt nodeAt noRights
+  of-unused a l h g =
+      under a 16
+      (λ u. ap (λ (x : Node). rightsAt (x .row) l) (sym (ok .nodes-ok .holds a u .unused h)) ∙ zero-grants l g)
+      (λ u. ap (λ (x : Node). rightsAt (x .row) l)
+      (List·getD-eq-default (s .nodes) pastNode (omega (arith, ok .nodes-ok .size-is))))
 
-  -- no row has a right over an unused address
-  unused-right :
-      soundOf s ≡ true → (a l : ℕ) → a < s .addresses → s .addresses ≤ l → rightsAt (nodeAt s a .row) l ≡ noRights
-  unfolding rightsAt noRights
-  unused-right sound a l h g =
-      let x = node-at s (sound-apart s (whole-shaped s ok) sound) a h in
-      under l 16 (λ u. none _ (x .row-ok .holds l u g))
-      (λ u. past (nodeAt s a .row .rights) l _ (omega (arith, x .row-ok .size-is)))
+  -- ---- the fence over all numbers
+  module _ (tenant : ℕ → Bool) (below : (a : ℕ) → tenant a ≡ true → a < s .addresses) (f : Fenced tenant s) where
+    no-right :
+        (right : Rights → Bool) → right noRights ≡ false
+        → ((a l : ℕ) → tenant a ≡ true → l < s .addresses → tenant l ≡ false → right (grants s a l) ≡ false)
+        → (a l : ℕ) → tenant a ≡ true → tenant l ≡ false → right (grants s a l) ≡ false
+    no-right right n g a l t o =
+        under l (s .addresses) (λ h. g a l t h o) (λ h. ap right (over-unused a l (below a t) h) ∙ n)
 
--- two nets of one address count agree at unused addresses
-unused-same :
-    (s t : Net) → Whole s → Whole t → s .addresses ≡ t .addresses → (a : ℕ) → s .addresses ≤ a → nodeAt s a ≡ nodeAt t a
-unfolding nodeAt
-unused-same s t ok ok′ e a h =
-    under a 16
-    (λ u. ok .nodes-ok .holds a u .rest h ∙ sym (ok′ .nodes-ok .holds a u .rest (omega arith)))
-    (λ u. past (s .nodes) a _ (omega (arith, ok .nodes-ok .size-is))
-    ∙ sym (past (t .nodes) a _ (omega (arith, ok′ .nodes-ok .size-is))))
-
--- ---- the fence over all numbers
-module _ (tenant : ℕ → Bool) (s : Net) (ok : Whole s) (sound : soundOf s ≡ true) where
-  no-right :
-      (right : Rights → Bool) → right noRights ≡ false → (a l : ℕ) → a < s .addresses
-      → (l < s .addresses → right (rightsAt (nodeAt s a .row) l) ≡ false) → right (rightsAt (nodeAt s a .row) l) ≡ false
-  no-right right n a l h f = under l (s .addresses) f (λ g. ap right (unused-right s ok sound a l h g) ∙ n)
-
-  fence : ((a : ℕ) → tenant a ≡ true → a < s .addresses) → Fenced tenant s → Fence tenant s
-  unfolding noRights
-  fence below f = record {
-    below = below;
-    rows = λ a. record {
-      outside = λ l o t. under a (s .addresses) (λ h. f .outside a l h o t)
-          (λ h. unused-row s ok a l h (omega (arith, below l t, ok .few)));
-      no-creation = f .no-creation a;
-      no-take = λ l t o. no-right (λ x. x .take) refl a l (below a t) (λ h. f .no-take a l t h o);
-      no-put = λ l t o. no-right (λ x. x .put) refl a l (below a t) (λ h. f .no-put a l t h o);
-      no-send = λ l t o. no-right (λ x. x .send) refl a l (below a t) (λ h. f .no-send a l t h o);
-    };
-  }
+    fence : Fence tenant s
+    unfolding grants creates noRights
+    fence = record {
+      below = below;
+      rows = λ a. record {
+        outside = λ l o t. under a (s .addresses) (λ h. f .outside a l h o t)
+            (λ h. of-unused a l h (omega (arith, below l t, ok .addresses-ok .below)));
+        no-creation = f .no-creation a;
+        no-take = no-right (λ r. r .take) refl (λ b m t h o. f .at-most-read b m t h o .no-take) a;
+        no-put = no-right (λ r. r .put) refl (λ b m t h o. f .at-most-read b m t h o .no-put) a;
+        no-send = no-right (λ r. r .send) refl (λ b m t h o. f .at-most-read b m t h o .no-send) a;
+      };
+    }
 
 -- ---- a run is of an accepted image
 record Began (x : Reading) (s : Net) (picks : List ℕ) (r : Ran) : Type 0 where
@@ -122,25 +82,36 @@ unfolding runIn
 began Reading.Accepted s picks r e = record { is-accepted = refl; ran-is = cc }
 began (Reading.Refused f) s picks r e = let z : _≡_ {A = ℕ} 0 1 = cc in absurd (omega arith)
 
+-- the net of an accepted image is sound, and one that an image can write: the empty net is not sound
 sound-opened : (image : List ℕ) → openedOf image .answer ≡ Reading.Accepted → soundOf (openedOf image .net) ≡ true
 unfolding AcceptedIsSound
 sound-opened image e = accepted-is-sound image e
+
+empty-unsound : soundOf emptyNet ≡ true → 1 ≤ 0
+unfolding soundOf emptyNet
+empty-unsound h = in-range-low 1 0 16 (both-l _ _ (both-l _ _ h))
+
+written : (image : List ℕ) → soundOf (openedOf image .net) ≡ true → NetOk (openedOf image .net)
+written image h = go (opened-ok image)
+  where
+    go : NetOk (openedOf image .net) ⊎ (emptyNet ≡ openedOf image .net) → NetOk (openedOf image .net)
+    go (inl ok) = ok
+    go (inr e) = absurd (omega (arith, empty-unsound (ap soundOf e ∙ h)))
 
 pub tenantRule : TenantRule
 unfolding TenantRule runOf
 tenantRule tenant image image′ picks picks′ r r′ e e′ alike same =
     let b = began _ _ picks r e in
     let b′ = began _ _ picks′ r′ e′ in
-    let ok = opened-whole image in
-    let ok′ = opened-whole image′ in
     let sound = sound-opened image (b .is-accepted) in
     let sound′ = sound-opened image′ (b′ .is-accepted) in
     let s = openedOf image .net in
     let t = openedOf image′ .net in
+    let ok = written image sound in
+    let ok′ = written image′ sound′ in
     subst₂ (Agree tenant picks picks′) (b .ran-is) (b′ .ran-is)
-    (tenant-of-nets tenant s t picks picks′ sound sound′ (whole-shaped s ok) (whole-shaped t ok′) (alike .addresses)
-    (alike .length) (alike .code)
-    (λ a o. under a (s .addresses) (λ h. alike .nodes a h o)
-    (λ h. same-node tenant _ _ (unused-same s t ok ok′ (alike .addresses) a h)))
-    (fence tenant s ok sound (alike .below) (alike .fenced))
-    (fence tenant t ok′ sound′ (λ a h. omega (arith, alike .below a h, alike .addresses)) (alike .fenced′)) same)
+    (tenant-of-nets tenant s t picks picks′ sound sound′ (whole-shaped s (opened-whole image))
+    (whole-shaped t (opened-whole image′)) (alike .addresses) (code-same s t ok ok′ (alike .code))
+    (nodes-same s t ok ok′ tenant (alike .addresses) (alike .nodes))
+    (fence s ok tenant (alike .below) (alike .fenced))
+    (fence t ok′ tenant (λ a h. omega (arith, alike .below a h, alike .addresses)) (alike .fenced′)) same)

@@ -1,5 +1,5 @@
--- The view of a net from outside a tenant: the nodes at the tenant's addresses are blanked. How the view passes through
--- reads and changes of a net.
+-- The view of a net from outside a tenant: the nodes at the tenant's addresses are blanked, and so is the code length,
+-- which no step looks at. How the view passes through reads and changes of a net.
 -- Assumes nothing.
 use Prim.Native.Nat.{ℕ, zero, suc}
 use mathlib.Core.Path.{_≡_, refl, sym, ap, ap₂, _∙_}
@@ -69,7 +69,7 @@ blanked-same tenant (x ∷ xs) (y ∷ ys) d e f =
 -- ---- the net
 module _ (tenant : ℕ → Bool) where
   unfoldable pub view : Net → Net
-  view s = record { addresses = s .addresses; length = s .length; nodes = blanked tenant (s .nodes); code = s .code }
+  view s = record { addresses = s .addresses; length = 0; nodes = blanked tenant (s .nodes); code = s .code }
 
   pub view-addresses : (s : Net) → view s .addresses ≡ s .addresses
   unfolding view
@@ -87,13 +87,13 @@ module _ (tenant : ℕ → Bool) where
   unfolding view withNode
   view-out s a x h i =
       let ns = blanked-out tenant (s .nodes) a x h in
-      record { addresses = s .addresses; length = s .length; nodes = ns i; code = s .code }
+      record { addresses = s .addresses; length = 0; nodes = ns i; code = s .code }
 
   pub view-in : (s : Net) (a : ℕ) (x : Node) → tenant a ≡ true → view (withNode s a x) ≡ view s
   unfolding view withNode
   view-in s a x h i =
       let ns = blanked-in tenant (s .nodes) a x h in
-      record { addresses = s .addresses; length = s .length; nodes = ns i; code = s .code }
+      record { addresses = s .addresses; length = 0; nodes = ns i; code = s .code }
 
   pub view-opened : (s : Net) → view (opened s) ≡ opened (view s)
   unfolding view opened

@@ -1,64 +1,120 @@
--- Demand 3, the tenant rule (document 01, "The tenant rule"), as one claim about two whole runs.
+-- Demand 3, the tenant rule (document 01, "The tenant rule"), as one claim about two whole runs. What stands in quotes is
+-- the words of the two papers, demand 3 (00) and document 01.
 use Prim.Native.Nat.{ℕ, _<_}
 use mathlib.Core.Path.{_≡_}
 use mathlib.Core.Bool.{Bool, true, false}
 use mathlib.Core.List.{List, [], _∷_}
 use Rattle.net.specs.Choice.{choose}
-use Rattle.net.specs.Records.{nodeAt, rightsAt, noRights}
+use Rattle.net.specs.Records.{nodeAt, rightsAt, processAt, tupleAt, fieldAt, instructionAt, patternAt, noRights}
 use Rattle.image.specs.Image.{openedOf}
 use Rattle.step.specs.Pick.{hostOf}
-use Rattle.tenant.specs.Types.{Row, Node, Net, Reading, Answer}
-use Rattle.run.specs.Run.{Ran, Outcome, ran, runOf}
+use Rattle.tenant.specs.Types.{Tuple, Rights, Row, Process, Node, Instruction, Net, Answer}
+use Rattle.run.specs.Run.{Ran, ran, runOf}
 
--- the picks that are not of a tenant's address, in use or not, well formed or not
+-- ---- "picks of tenant addresses are struck out, whether or not a pick performs a step"; "a pick is of the address in its
+-- first 4 bits, in use or not"
 unfoldable pub struck : (ℕ → Bool) → List ℕ → List ℕ
 struck tenant [] = []
 struck tenant (b ∷ bs) = choose (tenant (hostOf b)) (struck tenant bs) (b ∷ struck tenant bs)
 
--- the answers to those picks, in order
+-- "the remaining answers", in order
 unfoldable pub remaining : (ℕ → Bool) → List ℕ → List Answer → List Answer
 remaining tenant [] xs = []
 remaining tenant (b ∷ bs) [] = []
 remaining tenant (b ∷ bs) (x ∷ xs) =
     choose (tenant (hostOf b)) (remaining tenant bs xs) (x ∷ remaining tenant bs xs)
 
--- two nodes are equal: policies in every right, tuples in order and whole, processes slot by slot, each record whole
-pub record Same (x y : Node) : Type 0 where
+-- ---- what the two images have equal: of every array what stands below its count, and of starting processes their slots
+-- and places
+
+-- "code in every instruction": the action, with its target and its places, and each field of the template
+pub record SameInstruction (c c′ : Instruction) : Type 0 where
+  pub action : c .action ≡ c′ .action
+  pub count : c .count ≡ c′ .count
+  pub fields : (i : ℕ) → i < c .count → patternAt c i ≡ patternAt c′ i
+
+-- "equal .. code": codes of one length, equal in every instruction below it
+pub record SameCode (s t : Net) : Type 0 where
+  pub length : s .length ≡ t .length
+  pub instructions : (p : ℕ) → p < s .length → SameInstruction (instructionAt (s .code) p) (instructionAt (t .code) p)
+
+-- "policies in every right": n, and the rights over each address below the address count
+pub record SamePolicy (addresses : ℕ) (r r′ : Row) : Type 0 where
+  pub creation : r .create ≡ r′ .create
+  pub rights : (l : ℕ) → l < addresses → rightsAt r l ≡ rightsAt r′ l
+
+-- a tuple "whole": each of its fields
+pub record SameTuple (u u′ : Tuple) : Type 0 where
+  pub count : u .count ≡ u′ .count
+  pub fields : (i : ℕ) → i < u .count → fieldAt u i ≡ fieldAt u′ i
+
+-- "tuples in order and whole"
+pub record SameTuples (x x′ : Node) : Type 0 where
+  pub count : x .stored ≡ x′ .stored
+  pub tuples : (i : ℕ) → i < x .stored → SameTuple (tupleAt x i) (tupleAt x′ i)
+
+-- a starting process in its slot and place: the slot is free in both or busy in both, and where it is busy the process
+-- stands at one place
+pub record SameStart (p p′ : Process) : Type 0 where
+  pub busy : p .busy ≡ p′ .busy
+  pub place : p .busy ≡ true → p .at ≡ p′ .at
+
+-- "equal policies, tuples and starting processes", "starting processes slot by slot in their places"
+pub record SameNode (addresses : ℕ) (x x′ : Node) : Type 0 where
+  pub policy : SamePolicy addresses (x .row) (x′ .row)
+  pub tuples : SameTuples x x′
+  pub processes : (k : ℕ) → k < 4 → SameStart (processAt x k) (processAt x′ k)
+
+-- ---- what is asked of each image. "A policy grants what its row holds": the rights of address a's policy over address l,
+-- and its right to create
+unfoldable pub grants : Net → ℕ → ℕ → Rights
+grants s a l = rightsAt (nodeAt s a .row) l
+
+unfoldable pub creates : Net → ℕ → Bool
+creates s a = nodeAt s a .row .create
+
+-- "at most read means no i, o or e"
+pub record AtMostRead (r : Rights) : Type 0 where
+  pub no-take : r .take ≡ false
+  pub no-put : r .put ≡ false
+  pub no-send : r .send ≡ false
+
+-- "no outside policy grants a right over a tenant's address; a tenant's policy grants no creation and, outside, at most
+-- read"
+pub record Fenced (tenant : ℕ → Bool) (s : Net) : Type 0 where
+  pub outside : (a l : ℕ) → a < s .addresses → tenant a ≡ false → tenant l ≡ true → grants s a l ≡ noRights
+  pub no-creation : (a : ℕ) → tenant a ≡ true → creates s a ≡ false
+  pub at-most-read :
+      (a l : ℕ) → tenant a ≡ true → l < s .addresses → tenant l ≡ false → AtMostRead (grants s a l)
+
+-- ---- the premises on the nets of the two images. "The tenant's addresses are any set of those below the image's count, the
+-- empty and the full one among them"; "equal address counts and code and, at addresses outside the tenant's, equal
+-- policies, tuples and starting processes"; and the fence "in each image"
+pub record Alike (tenant : ℕ → Bool) (s t : Net) : Type 0 where
+  pub below : (a : ℕ) → tenant a ≡ true → a < s .addresses
+  pub addresses : s .addresses ≡ t .addresses
+  pub code : SameCode s t
+  pub nodes : (a : ℕ) → a < s .addresses → tenant a ≡ false → SameNode (s .addresses) (nodeAt s a) (nodeAt t a)
+  pub fenced : Fenced tenant s
+  pub fenced′ : Fenced tenant t
+
+-- ---- what follows: "policies in every right", "tuples in order and whole", "processes at the end slot by slot, free or
+-- busy, each record whole", so each of a node's parts as a whole
+pub record Equal (x y : Node) : Type 0 where
   pub policy : x .row ≡ y .row
   pub count : x .stored ≡ y .stored
   pub tuples : x .tuples ≡ y .tuples
   pub processes : x .processes ≡ y .processes
 
--- what is asked of the policies of one image: no outside row holds any right over a tenant's address; a tenant's row has no
--- n and, over outside addresses, no i, o or e
-pub record Fenced (tenant : ℕ → Bool) (s : Net) : Type 0 where
-  pub outside :
-      (a l : ℕ) → a < s .addresses → tenant a ≡ false → tenant l ≡ true → rightsAt (nodeAt s a .row) l ≡ noRights
-  pub no-creation : (a : ℕ) → tenant a ≡ true → nodeAt s a .row .create ≡ false
-  pub no-take :
-      (a l : ℕ) → tenant a ≡ true → l < s .addresses → tenant l ≡ false → rightsAt (nodeAt s a .row) l .take ≡ false
-  pub no-put :
-      (a l : ℕ) → tenant a ≡ true → l < s .addresses → tenant l ≡ false → rightsAt (nodeAt s a .row) l .put ≡ false
-  pub no-send :
-      (a l : ℕ) → tenant a ≡ true → l < s .addresses → tenant l ≡ false → rightsAt (nodeAt s a .row) l .send ≡ false
-
--- what is asked of the two images' nets together: the tenant's addresses are any set of those below the address count
-pub record Alike (tenant : ℕ → Bool) (s t : Net) : Type 0 where
-  pub below : (a : ℕ) → tenant a ≡ true → a < s .addresses
-  pub addresses : s .addresses ≡ t .addresses
-  pub length : s .length ≡ t .length
-  pub code : s .code ≡ t .code
-  pub nodes : (a : ℕ) → a < s .addresses → tenant a ≡ false → Same (nodeAt s a) (nodeAt t a)
-  pub fenced : Fenced tenant s
-  pub fenced′ : Fenced tenant t
-
--- what follows of the two runs
+-- "the remaining answers are equal in order, as are the final count of addresses and, at each outside address, policy,
+-- tuples and processes with their variables"; "all others, opened ones too, are outside"
 pub record Agree (tenant : ℕ → Bool) (picks picks′ : List ℕ) (r r′ : Ran) : Type 0 where
   pub answers : remaining tenant picks (r .answers) ≡ remaining tenant picks′ (r′ .answers)
   pub count : r .net .addresses ≡ r′ .net .addresses
-  pub nodes : (a : ℕ) → tenant a ≡ false → Same (nodeAt (r .net) a) (nodeAt (r′ .net) a)
+  pub nodes : (a : ℕ) → tenant a ≡ false → Equal (nodeAt (r .net) a) (nodeAt (r′ .net) a)
 
--- the rule
+-- the rule: of every two runs, each of an accepted image (a refused one makes none) and a list of picks, "for every two
+-- lists of picks that agree once picks of tenant addresses are struck out"
 unfoldable pub TenantRule : Type 0
 TenantRule =
     (tenant : ℕ → Bool) (image image′ picks picks′ : List ℕ) (r r′ : Ran)

@@ -6,6 +6,8 @@ pub use Rattle.net.specs.declared.policy.Row.{Row}
 pub use Rattle.net.specs.declared.process.Process.{Process}
 pub use Rattle.net.specs.declared.node.Node.{Node}
 pub use Rattle.net.specs.declared.node.Slot.{Slot}
+pub use Rattle.net.specs.declared.instruction.Action.{Action}
+pub use Rattle.net.specs.declared.instruction.Instruction.{Instruction}
 pub use Rattle.net.specs.declared.network.Net.{Net}
 pub use Rattle.net.specs.declared.matching.Evaluated.{Evaluated}
 pub use Rattle.net.specs.declared.matching.Found.{Found}

@@ -1,0 +1,180 @@
+-- Two nets that an image can write and that agree below their counts (`specs/TenantRule.antt`) have one code, and one node
+-- at each outside address: what stands past a count is zero in both, and every variable is unset.
+-- Assumes nothing.
+use Prim.Native.Nat.{ℕ, zero, suc, _<_, _≤_}
+use mathlib.Core.Path.{_≡_, refl, sym, ap, subst, _∙_}
+use mathlib.Core.Bool.{Bool, false}
+use mathlib.Core.List.{List}
+use native.Mathlib.Omega.{arith}
+use native.Mathlib.Decide.{decLe}
+use lib.ListN.{getD, List·getD-eq-default}
+use lib.Seq.{ext-getD}
+use Rattle.net.specs.Choice.{choose}
+use Rattle.net.specs.Records.{freeProcess, startingAt, zeroTemplateField, zeroInstruction, withAction}
+use Rattle.net.specs.Records.{fieldAt, rightsAt, processAt, tupleAt, patternAt, nodeAt, instructionAt}
+use Rattle.net.proofs.Every.{Every, every-replicate, Filled}
+use Rattle.net.proofs.Past.{pastProcess, pastTuple}
+use Rattle.image.proofs.PastRecords.{pastField, pastRights, pastTemplate, pastNode, pastInstruction}
+use Rattle.writer.proofs.WrittenRow.{RowOk}
+use Rattle.writer.proofs.WrittenProcesses.{Starts, ProcessesOk, node-is}
+use Rattle.writer.proofs.WrittenTuples.{TupleOk}
+use Rattle.writer.proofs.WrittenStore.{TuplesOk}
+use Rattle.writer.proofs.WrittenStages.{NodeOk}
+use Rattle.writer.proofs.WrittenTemplate.{TemplateOk}
+use Rattle.writer.proofs.WrittenCode.{Spoken, Evaluated, Created, Forked, Acting, InstructionOk}
+use Rattle.writer.proofs.WrittenWhole.{NetOk}
+use Rattle.tenant.specs.Types.{Tuple, Row, Process, Node, Action, Instruction, Net}
+use Rattle.tenant.specs.TenantRule.{SameInstruction, SameCode, SamePolicy, SameTuple, SameTuples, SameStart, SameNode}
+use Rattle.tenant.proofs.Fence.{choose-both}
+
+-- ---- a number is below a bound or not
+pub under : {A : Type 0} (i n : ℕ) → (i < n → A) → (n ≤ i → A) → A
+under {A} i n f g = go (decLe n i)
+  where
+    go : Dec (n ≤ i) → A
+    go (yes p) = g p
+    go (no p) = f (omega arith)
+
+-- ---- two arrays of one size are equal where they agree at each place
+every-same :
+    {A : Type 0} {P Q : ℕ → A → Type 0} (d : A) (size : ℕ) (xs ys : List A) → Every P d size xs → Every Q d size ys
+    → ((j : ℕ) → j < size → P j (getD xs j d) → Q j (getD ys j d) → getD xs j d ≡ getD ys j d) → xs ≡ ys
+every-same d size xs ys e e′ f =
+    let l = e .size-is in
+    ext-getD d xs ys (l ∙ sym (e′ .size-is))
+    (λ j h. let g : j < size = omega arith in f j g (e .holds j g) (e′ .holds j g))
+
+-- and, filled up to one count with one record past it, where they agree below the count
+filled-same :
+    {A : Type 0} {U W : A → Type 0} {z : A} (d : A) (size n m : ℕ) (xs ys : List A) → n ≡ m
+    → Every (Filled U (λ x. z ≡ x) n) d size xs → Every (Filled W (λ x. z ≡ x) m) d size ys
+    → ((j : ℕ) → j < n → U (getD xs j d) → W (getD ys j d) → getD xs j d ≡ getD ys j d) → xs ≡ ys
+filled-same d size n m xs ys c e e′ f =
+    every-same d size xs ys e e′
+    (λ j h a b. under j n (λ l. f j l (a .used l) (b .used (omega arith)))
+    (λ l. sym (a .unused l) ∙ b .unused (omega arith)))
+
+-- ---- policies
+row-same : (n m : ℕ) (r r′ : Row) → n ≡ m → RowOk n r → RowOk m r′ → SamePolicy n r r′ → r ≡ r′
+unfolding rightsAt
+row-same n m r r′ e ok ok′ same =
+    let rights = filled-same pastRights 16 n m (r .rights) (r′ .rights) e (ok .rights-ok) (ok′ .rights-ok)
+    (λ l h _ _. same .rights l h) in
+    λ i. record { create = same .creation i; rights = rights i }
+
+-- ---- tuples
+tuple-same : (n m : ℕ) (u u′ : Tuple) → TupleOk n u → TupleOk m u′ → SameTuple u u′ → u ≡ u′
+unfolding fieldAt
+tuple-same n m u u′ ok ok′ same =
+    let fields = filled-same pastField 4 (u .count) (u′ .count) (u .fields) (u′ .fields) (same .count) (ok .fields-ok)
+    (ok′ .fields-ok) (λ j h _ _ i. record { item = same .fields j h i }) in
+    λ i. record { count = same .count i; fields = fields i }
+
+tuples-same : (n m : ℕ) (x x′ : Node) → TuplesOk n x → TuplesOk m x′ → SameTuples x x′ → x .tuples ≡ x′ .tuples
+unfolding tupleAt
+tuples-same n m x x′ ok ok′ same =
+    filled-same pastTuple 16 (x .stored) (x′ .stored) (x .tuples) (x′ .tuples) (same .count) (ok .tuples-ok)
+    (ok′ .tuples-ok) (λ j h a b. tuple-same n m _ _ a b (same .tuples j h))
+
+-- ---- starting processes: a slot is free, or its process stands at its first place with every variable unset
+unfoldable begun : Process → Process
+begun p = choose (p .busy) (startingAt (p .at)) freeProcess
+
+slot-begun :
+    (k c j : ℕ) (p : Process) → Filled (Starts k) (λ y. freeProcess ≡ y) c j p → begun p ≡ p
+unfolding begun startingAt freeProcess choose
+slot-begun k c j p f =
+    under j c (λ l. subst (λ (y : Process). begun y ≡ y) (f .used l .is) refl)
+    (λ l. subst (λ (y : Process). begun y ≡ y) (f .unused l) refl)
+
+start-same : (p p′ : Process) → SameStart p p′ → begun p ≡ begun p′
+unfolding begun
+start-same p p′ same =
+    choose-both (p .busy) _ _ _ _ (λ h. ap startingAt (same .place h)) refl
+    ∙ ap (λ (b : Bool). choose b (startingAt (p′ .at)) freeProcess) (same .busy)
+
+slots-same :
+    (k c k′ c′ : ℕ) (x x′ : Node) → ProcessesOk k c x → ProcessesOk k′ c′ x′
+    → ((j : ℕ) → j < 4 → SameStart (processAt x j) (processAt x′ j)) → x .processes ≡ x′ .processes
+unfolding processAt
+slots-same k c k′ c′ x x′ ok ok′ same =
+    every-same pastProcess 4 (x .processes) (x′ .processes) (ok .slots-ok) (ok′ .slots-ok)
+    (λ j h a b. sym (slot-begun k c j _ a) ∙ start-same _ _ (same j h) ∙ slot-begun k′ c′ j _ b)
+
+-- ---- nodes
+node-same :
+    (n k m l : ℕ) (x x′ : Node) → n ≡ m → NodeOk n k x → NodeOk m l x′ → SameNode n x x′ → x ≡ x′
+node-same n k m l x x′ e ok ok′ same =
+    node-is x′ _ _ _ _
+    (row-same n m (x .row) (x′ .row) e (ok .row-ok) (ok′ .row-ok) (same .policy))
+    (slots-same k _ l _ x x′ (ok .slots-ok .slots) (ok′ .slots-ok .slots) (same .processes))
+    (same .tuples .count)
+    (tuples-same n m x x′ (ok .store-ok) (ok′ .store-ok) (same .tuples))
+
+-- ---- instructions: the template is zero past its count, whatever the action
+record Templated (c : Instruction) : Type 0 where
+  template-ok : Every (Filled (λ f. Unit {0}) (λ f. zeroTemplateField ≡ f) (c .count)) pastTemplate 4 (c .template)
+
+zero-templated : Templated zeroInstruction
+unfolding zeroInstruction
+zero-templated = record {
+  template-ok = every-replicate _ pastTemplate 4 zeroTemplateField
+      (λ j _. record { used = λ _. tt; unused = λ _. refl });
+}
+
+templated-with : (c b : Instruction) (a : Action) → withAction c a ≡ b → Templated c → Templated b
+unfolding withAction
+templated-with c b a e t = subst Templated e (record { template-ok = t .template-ok })
+
+spoken-templated : (formals : Bool) (n : ℕ) (c : Instruction) → TemplateOk formals n c → Templated c
+spoken-templated formals n c ok = record {
+  template-ok = record {
+    size-is = ok .patterns-ok .size-is;
+    holds = λ j h. record { used = λ _. tt; unused = ok .patterns-ok .holds j h .unused };
+  };
+}
+
+module _ (n k : ℕ) (c : Instruction) where
+  acting-templated : (v : ℕ) → Acting n k v c → Templated c
+  unfolding Acting Spoken Evaluated Created Forked
+  acting-templated zero a = subst Templated a zero-templated
+  acting-templated (suc zero) (t, _, (b, ok, (p, _, e))) = templated-with b c _ e (spoken-templated _ n b ok)
+  acting-templated (suc (suc zero)) (t, _, (b, ok, (p, _, e))) = templated-with b c _ e (spoken-templated _ n b ok)
+  acting-templated (suc (suc (suc zero))) (t, _, (b, ok, (p, _, e))) = templated-with b c _ e (spoken-templated _ n b ok)
+  acting-templated (suc (suc (suc (suc zero)))) a = templated-with zeroInstruction c _ (a .2 .2 .2) zero-templated
+  acting-templated (suc (suc (suc (suc (suc zero))))) a = templated-with zeroInstruction c _ (a .2 .2) zero-templated
+  acting-templated (suc (suc (suc (suc (suc (suc v)))))) a = templated-with zeroInstruction c _ (a .2 .2) zero-templated
+
+  templated : InstructionOk n k c → Templated c
+  unfolding InstructionOk
+  templated a = acting-templated (a .0) (a .2)
+
+instruction-same : (c c′ : Instruction) → Templated c → Templated c′ → SameInstruction c c′ → c ≡ c′
+unfolding patternAt
+instruction-same c c′ ok ok′ same =
+    let template = filled-same pastTemplate 4 (c .count) (c′ .count) (c .template) (c′ .template) (same .count)
+    (ok .template-ok) (ok′ .template-ok) (λ j h _ _ i. record { pattern = same .fields j h i }) in
+    λ i. record { action = same .action i; count = same .count i; template = template i }
+
+-- ---- nets
+module _ (s t : Net) (ok : NetOk s) (ok′ : NetOk t) where
+  pub code-same : SameCode s t → s .code ≡ t .code
+  unfolding instructionAt
+  code-same same =
+      filled-same pastInstruction 512 (s .length) (t .length) (s .code) (t .code) (same .length) (ok .code-ok)
+      (ok′ .code-ok)
+      (λ p h a b. instruction-same _ _ (templated _ _ _ a) (templated _ _ _ b) (same .instructions p h))
+
+  pub nodes-same :
+      (tenant : ℕ → Bool) → s .addresses ≡ t .addresses
+      → ((a : ℕ) → a < s .addresses → tenant a ≡ false → SameNode (s .addresses) (nodeAt s a) (nodeAt t a))
+      → (a : ℕ) → tenant a ≡ false → nodeAt s a ≡ nodeAt t a
+  unfolding nodeAt
+  nodes-same tenant e f a o =
+      under a 16
+      (λ u. let x = ok .nodes-ok .holds a u in let y = ok′ .nodes-ok .holds a u in
+      under a (s .addresses)
+      (λ h. node-same _ _ _ _ _ _ e (x .used h) (y .used (omega arith)) (f a h o))
+      (λ h. sym (x .unused h) ∙ y .unused (omega arith)))
+      (λ u. List·getD-eq-default (s .nodes) pastNode (omega (arith, ok .nodes-ok .size-is))
+      ∙ sym (List·getD-eq-default (t .nodes) pastNode (omega (arith, ok′ .nodes-ok .size-is))))
