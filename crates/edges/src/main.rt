@@ -11,7 +11,7 @@ use net::network::Net;
 use run::register::Registered;
 use run::register::register;
 use step::answer::Answer;
-use step::step::Host;
+use step::machine::Machine;
 ghost use Prim.Native.Nat.{_≤_};
 
 // The number that two bytes write, lower first.
@@ -125,8 +125,8 @@ fn print_answer(answer: Answer) -> bool {
 fn print_barred(image: &[u8]) -> bool {
     let opened = read_image(image);
     let net = without_creation(opened.net);
-    let host = Host { net };
-    let picked = host.pick(0);
+    let machine = Machine { net };
+    let picked = machine.pick(0);
     let answer = picked.answer;
     print(b"edge creation at 16 addresses, n withdrawn\n") && print_answer(answer)
 }

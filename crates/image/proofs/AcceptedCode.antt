@@ -22,7 +22,7 @@ use Rattle.image.specs.Image.{fresh, formalReading, formalAddress, kind,
 use Rattle.image.specs.Image.{communication, evaluation, creation, forking, instruction}
 use Rattle.net.proofs.Laws.{both-i, implies-i, implies-e, all-i, all-e, split}
 use Rattle.net.proofs.Every.{chosen-lt, Every, every-replicate, every-weaken, Filled, filled-add, filled-all}
-use Rattle.image.proofs.Gives.{Gives, gives-done, gives-weaken, gives-then, gives-and, gives-each, gives-last}
+use Rattle.image.proofs.Gives.{Gives, gives-pure, gives-weaken, gives-then, gives-and, gives-each, gives-last}
 use Rattle.image.proofs.Gives.{gives-first, gives-require, gives-field, gives-bits}
 use Rattle.net.proofs.Past.{in-range}
 use Rattle.image.proofs.PastRecords.{pastTemplate}
@@ -32,9 +32,9 @@ gives-target : (n : ℕ) → Gives (target n) (λ t. targetSound n t ≡ true)
 unfolding target writtenTarget heldTarget targetSound
 gives-target n =
     gives-then (gives-field 2 0 3 25 (omega arith))
-    (λ v _. gives-first _ _ _ _ v (gives-then (gives-address n) (λ l h. gives-done _ _ (lt-ltb (l .0) n h)))
-    (λ j₁ _. gives-first _ _ _ _ j₁ (gives-done _ _ refl)
-    (λ j₂ _. gives-last _ _ j₂ (gives-then gives-variable (λ w h. gives-done _ _ (lt-ltb w 8 h))))))
+    (λ v _. gives-first _ _ _ _ v (gives-then (gives-address n) (λ l h. gives-pure _ _ (lt-ltb (l .0) n h)))
+    (λ j₁ _. gives-first _ _ _ _ j₁ (gives-pure _ _ refl)
+    (λ j₂ _. gives-last _ _ j₂ (gives-then gives-variable (λ w h. gives-pure _ _ (lt-ltb w 8 h))))))
 
 -- ---- a field of a template
 
@@ -57,7 +57,7 @@ gives-fresh : (c : Instruction) → Gives (fresh c) (FreshOk c)
 unfolding fresh
 gives-fresh c =
     gives-then gives-variable
-    (λ v h. gives-and (gives-require _ 27 (omega arith)) (λ _ e. gives-done _ _ (record { small = h; unbound = e })))
+    (λ v h. gives-and (gives-require _ 27 (omega arith)) (λ _ e. gives-pure _ _ (record { small = h; unbound = e })))
 
 kind-below : (formals : Bool) (v : ℕ) → implies (not formals) (ltb v 4) ≡ true → formals ≡ false → v < 4
 kind-below formals v e f = ltb-true v 4 (implies-e (not formals) (ltb v 4) e (ap not f))
@@ -66,7 +66,7 @@ gives-kind : (formals : Bool) → Gives (kind formals) (λ v. formals ≡ false 
 unfolding kind
 gives-kind formals =
     gives-then (gives-field 3 0 6 25 (omega arith))
-    (λ v h. gives-and (gives-require _ 26 (omega arith)) (λ _ e. gives-done _ _ (kind-below formals v e)))
+    (λ v h. gives-and (gives-require _ 26 (omega arith)) (λ _ e. gives-pure _ _ (kind-below formals v e)))
 
 module _ (formals : Bool) (n : ℕ) (c : Instruction) where
   suited :
@@ -78,25 +78,25 @@ module _ (formals : Bool) (n : ℕ) (c : Instruction) where
   unfolding formalReading patternSound bindsAnew
   gives-formalReading f =
       gives-then (gives-fresh c)
-      (λ v h. gives-done _ _ (suited _ (lt-ltb v 8 (h .small)) (λ e. absurd (f e)) (h .unbound)))
+      (λ v h. gives-pure _ _ (suited _ (lt-ltb v 8 (h .small)) (λ e. absurd (f e)) (h .unbound)))
 
   gives-formalAddress : (formals ≡ false → ⊥) → Gives (formalAddress c) (SuitsNext formals n c)
   unfolding formalAddress patternSound bindsAnew
   gives-formalAddress f =
       gives-then (gives-fresh c)
-      (λ v h. gives-done _ _ (suited _ (lt-ltb v 8 (h .small)) (λ e. absurd (f e)) (h .unbound)))
+      (λ v h. gives-pure _ _ (suited _ (lt-ltb v 8 (h .small)) (λ e. absurd (f e)) (h .unbound)))
 
   gives-pattern : Gives (pattern formals n c) (SuitsNext formals n c)
   unfolding pattern readingPattern addressPattern heldPattern patternSound isActual bindsAnew
   gives-pattern =
       gives-then (gives-kind formals)
       (λ v h. gives-first _ _ _ _ v
-      (gives-then gives-reading (λ x _. gives-done _ _ (suited _ refl (λ _. refl) refl)))
+      (gives-then gives-reading (λ x _. gives-pure _ _ (suited _ refl (λ _. refl) refl)))
       (λ j₁ e₁. gives-first _ _ _ _ j₁
-      (gives-then (gives-address n) (λ l g. gives-done _ _ (suited _ (lt-ltb (l .0) n g) (λ _. refl) refl)))
-      (λ j₂ e₂. gives-first _ _ _ _ j₂ (gives-done _ _ (suited _ refl (λ _. refl) refl))
+      (gives-then (gives-address n) (λ l g. gives-pure _ _ (suited _ (lt-ltb (l .0) n g) (λ _. refl) refl)))
+      (λ j₂ e₂. gives-first _ _ _ _ j₂ (gives-pure _ _ (suited _ refl (λ _. refl) refl))
       (λ j₃ e₃. gives-first _ _ _ _ j₃
-      (gives-then gives-variable (λ w g. gives-done _ _ (suited _ (lt-ltb w 8 g) (λ _. refl) refl)))
+      (gives-then gives-variable (λ w g. gives-pure _ _ (suited _ (lt-ltb w 8 g) (λ _. refl) refl)))
       (λ j₄ e₄. gives-first _ _ _ _ j₄ (gives-formalReading (λ e. omega (arith, h e)))
       (λ j₅ e₅. gives-last _ _ j₅ (gives-formalAddress (λ e. omega (arith, h e)))))))))
 
@@ -182,7 +182,7 @@ module _ (formals : Bool) (n i : ℕ) (c : Instruction) where
   gives-templateField :
       i < 4 → TemplateOk formals n i c → Gives (templateField formals n i c) (TemplateOk formals n (suc i))
   unfolding templateField
-  gives-templateField h ok = gives-then (gives-pattern formals n c) (λ x s. gives-done _ _ (add-pattern _ h ok s))
+  gives-templateField h ok = gives-then (gives-pattern formals n c) (λ x s. gives-pure _ _ (add-pattern _ h ok s))
 
   with-action-ok : (a : Action) → TemplateOk formals n i c → TemplateOk formals n i (withAction c a)
   unfolding withAction patternAt
@@ -264,7 +264,7 @@ module _ (n k : ℕ) where
   gives-communication make formals f =
       gives-then (gives-target n)
       (λ t e. gives-then (gives-template formals n)
-      (λ c ok. gives-then (gives-place k) (λ p h. gives-done _ _ (f t p c e h (ok (make t p))))))
+      (λ c ok. gives-then (gives-place k) (λ p h. gives-pure _ _ (f t p c e h (ok (make t p))))))
 
   gives-evaluation : Gives (evaluation n k) (λ c. instructionSound n k c ≡ true)
   unfolding evaluation instructionSound withAction actionSound templateFor
@@ -272,7 +272,7 @@ module _ (n k : ℕ) where
       gives-then (gives-target n)
       (λ t e. gives-then (gives-place k)
       (λ p h. gives-then (gives-place k)
-      (λ q g. gives-done _ _
+      (λ q g. gives-pure _ _
       (both-i _ _ (both-i _ _ e (both-i _ _ (lt-ltb (p .0) k h) (lt-ltb (q .0) k g))) (no-template _)))))
 
   gives-creation : Gives (creation k) (λ c. instructionSound n k c ≡ true)
@@ -280,20 +280,20 @@ module _ (n k : ℕ) where
   gives-creation =
       gives-then gives-variable
       (λ v e. gives-then (gives-place k)
-      (λ p h. gives-done _ _ (both-i _ _ (both-i _ _ (lt-ltb v 8 e) (lt-ltb (p .0) k h)) (no-template _))))
+      (λ p h. gives-pure _ _ (both-i _ _ (both-i _ _ (lt-ltb v 8 e) (lt-ltb (p .0) k h)) (no-template _))))
 
   gives-forking : Gives (forking k) (λ c. instructionSound n k c ≡ true)
   unfolding forking instructionSound withAction actionSound templateFor
   gives-forking =
       gives-then (gives-place k)
       (λ p h. gives-then (gives-place k)
-      (λ q g. gives-done _ _ (both-i _ _ (both-i _ _ (lt-ltb (p .0) k h) (lt-ltb (q .0) k g)) (no-template _))))
+      (λ q g. gives-pure _ _ (both-i _ _ (both-i _ _ (lt-ltb (p .0) k h) (lt-ltb (q .0) k g)) (no-template _))))
 
   pub gives-instruction : Gives (instruction n k) (λ c. instructionSound n k c ≡ true)
   unfolding instruction
   gives-instruction =
       gives-then (gives-field 3 0 7 25 (omega arith))
-      (λ v _. gives-first _ _ _ _ v (gives-done _ _ stop-sound)
+      (λ v _. gives-first _ _ _ _ v (gives-pure _ _ stop-sound)
       (λ j₁ _. gives-first _ _ _ _ j₁ (gives-communication Action.Out false out-sound)
       (λ j₂ _. gives-first _ _ _ _ j₂ (gives-communication Action.In true in-sound)
       (λ j₃ _. gives-first _ _ _ _ j₃ (gives-communication Action.Read true read-sound)

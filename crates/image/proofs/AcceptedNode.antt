@@ -9,15 +9,15 @@ use lib.ListN.{getD-replicate}
 use lib.Dec.{eqb, leb}
 use borrow.Author.Tests.{leb-true, lt-ltb, le-leb}
 use Rattle.net.specs.Choice.{choose, both, all}
-use Rattle.image.specs.Types.{Place, Field, Tuple, Row, Process, Node}
+use Rattle.image.specs.Types.{Locality, Place, Field, Tuple, Row, Process, Node}
 use Rattle.net.specs.Records.{startingAt, zeroField, zeroTuple, unsetVariable, freeProcess, noRights, zeroRow, zeroNode}
-use Rattle.net.specs.Records.{fieldAt, variableAt, rightsAt, processAt, tupleAt}
+use Rattle.net.specs.Records.{addressOf, fieldAt, variableAt, rightsAt, processAt, tupleAt}
 use Rattle.net.specs.Records.{withField, withRights, withRow, withProcess, withTuple}
 use Rattle.net.specs.Matching.{sameReading}
 use Rattle.net.specs.Soundness.{itemSound, isZeroItem, tupleSound, isZeroTuple, tuplesSound}
 use Rattle.net.specs.Soundness.{isNone, rowSound, isZeroRow, valueSound, isUnset, isFree, processSound}
 use Rattle.net.specs.Soundness.{nodeSound, isZeroNode}
-use Rattle.image.specs.Image.{address, place, variable, reading, creating, rightsOf, rights, row}
+use Rattle.image.specs.Image.{eachAddress, address, place, variable, reading, creating, rightsOf, rights, row}
 use Rattle.image.specs.Image.{process, processes}
 use Rattle.image.specs.Image.{readingItem, addressItem, item, tupleField, tuple, stored, tuples}
 use Rattle.net.proofs.Laws.{both-i, implies-i, all-i}
@@ -25,17 +25,17 @@ use Rattle.net.proofs.Every.{chosen-lt, Every, every-replicate, every-set}
 use Rattle.net.proofs.Every.{Filled, filled-set, filled-add, filled-all}
 use Rattle.net.proofs.Past.{in-range, pastProcess, pastTuple}
 use Rattle.image.proofs.PastRecords.{pastField, pastRights}
-use Rattle.image.proofs.Gives.{Gives, gives-done, gives-weaken, gives-then, gives-each, gives-choice}
+use Rattle.image.proofs.Gives.{Gives, gives-pure, gives-weaken, gives-then, gives-each, gives-choice}
 use Rattle.image.proofs.Gives.{gives-field, gives-bits}
 
 -- ---- fields that stand in several places
 pub gives-address : (n : ℕ) → Gives (address n) (λ l. l .0 < n)
 unfolding address
-gives-address n = gives-then (gives-field 4 0 n 23 (omega arith)) (λ l h. gives-done _ _ (h .below))
+gives-address n = gives-then (gives-field 4 0 n 23 (omega arith)) (λ l h. gives-pure _ _ (h .below))
 
 pub gives-place : (k : ℕ) → Gives (place k) (λ p. p .0 < k)
 unfolding place
-gives-place k = gives-then (gives-field 9 0 k 24 (omega arith)) (λ p h. gives-done _ _ (h .below))
+gives-place k = gives-then (gives-field 9 0 k 24 (omega arith)) (λ p h. gives-pure _ _ (h .below))
 
 pub gives-variable : Gives variable (λ v. v < 8)
 unfolding variable
@@ -43,17 +43,17 @@ gives-variable = gives-bits 3
 
 pub gives-reading : Gives reading (λ x. Unit {0})
 unfolding reading
-gives-reading = gives-then (gives-bits 32) (λ v h. gives-done _ _ tt)
+gives-reading = gives-then (gives-bits 32) (λ v h. gives-pure _ _ tt)
 
 -- ---- the node under construction
-pub record NodeOk (n k : ℕ) (x : Node) : Type 0 where
+pub record NodeGood (n k : ℕ) (x : Node) : Type 0 where
   pub row-ok : rowSound n (x .row) ≡ true
   pub processes-ok : Every (λ i p. processSound n k p ≡ true) pastProcess 4 (x .processes)
   pub room : x .stored ≤ 16
   pub tuples-ok :
       Every (Filled (λ t. tupleSound n t ≡ true) (λ t. isZeroTuple t ≡ true) (x .stored)) pastTuple 16 (x .tuples)
 
-pub node-sound : (n k : ℕ) (x : Node) → NodeOk n k x → nodeSound n k x ≡ true
+pub node-sound : (n k : ℕ) (x : Node) → NodeGood n k x → nodeSound n k x ≡ true
 unfolding nodeSound processAt tuplesSound tupleAt
 node-sound n k x ok =
     both-i _ _ (ok .row-ok)
@@ -77,18 +77,20 @@ creating-ok : (n v : ℕ) → RowOk n (creating v)
 unfolding RowOk creating
 creating-ok n v = zero-row-ok n
 
-gives-rights : (n l : ℕ) (r : Row) → l < n → RowOk n r → Gives (rights l r) (RowOk n)
+gives-rights : (n : ℕ) (l : Locality) (r : Row) → l .0 < n → RowOk n r → Gives (rights l r) (RowOk n)
 unfolding rights RowOk withRights
-gives-rights n l r h ok = gives-then (gives-bits 4) (λ v _. gives-done _ _ (filled-set l (rightsOf v) h tt ok))
+gives-rights n l r h ok = gives-then (gives-bits 4) (λ v _. gives-pure _ _ (filled-set (l .0) (rightsOf v) h tt ok))
 
 pub gives-row : (n : ℕ) → Gives (row n) (λ r. rowSound n r ≡ true)
-unfolding row
+unfolding row eachAddress
 gives-row n =
     gives-then (gives-bits 1)
-    (λ v _. gives-weaken (gives-each (λ i. RowOk n) n rights (λ i h r ok. gives-rights n i r h ok) _ (creating-ok n v))
+    (λ v _. gives-weaken
+    (gives-each (λ i. RowOk n) n (λ i. rights (addressOf i)) (λ i h r ok. gives-rights n (addressOf i) r h ok) _
+    (creating-ok n v))
     (row-sound n))
 
-pub set-row : (n k : ℕ) (x : Node) (r : Row) → NodeOk n k x → rowSound n r ≡ true → NodeOk n k (withRow x r)
+pub set-row : (n k : ℕ) (x : Node) (r : Row) → NodeGood n k x → rowSound n r ≡ true → NodeGood n k (withRow x r)
 unfolding withRow
 set-row n k x r ok h =
     record { row-ok = h; processes-ok = ok .processes-ok; room = ok .room; tuples-ok = ok .tuples-ok }
@@ -99,7 +101,7 @@ unfolding processSound startingAt choose all both valueSound variableAt unsetVar
 starting-sound n k p h = both-i _ true (lt-ltb (p .0) k h) refl
 
 set-process :
-    (n k i : ℕ) (x : Node) (p : Process) → NodeOk n k x → processSound n k p ≡ true → NodeOk n k (withProcess x i p)
+    (n k i : ℕ) (x : Node) (p : Process) → NodeGood n k x → processSound n k p ≡ true → NodeGood n k (withProcess x i p)
 unfolding withProcess
 set-process n k i x p ok h = record {
   row-ok = ok .row-ok;
@@ -108,16 +110,16 @@ set-process n k i x p ok h = record {
   tuples-ok = ok .tuples-ok;
 }
 
-gives-process : (n k i : ℕ) (x : Node) → NodeOk n k x → Gives (process k i x) (NodeOk n k)
+gives-process : (n k i : ℕ) (x : Node) → NodeGood n k x → Gives (process k i x) (NodeGood n k)
 unfolding process
 gives-process n k i x ok =
-    gives-then (gives-place k) (λ p h. gives-done _ _ (set-process n k i x _ ok (starting-sound n k p h)))
+    gives-then (gives-place k) (λ p h. gives-pure _ _ (set-process n k i x _ ok (starting-sound n k p h)))
 
-pub gives-processes : (n k : ℕ) (x : Node) → NodeOk n k x → Gives (processes k x) (NodeOk n k)
+pub gives-processes : (n k : ℕ) (x : Node) → NodeGood n k x → Gives (processes k x) (NodeGood n k)
 unfolding processes
 gives-processes n k x ok =
     gives-then (gives-field 3 0 5 22 (omega arith))
-    (λ count _. gives-each (λ i. NodeOk n k) count (process k) (λ i h. gives-process n k i) x ok)
+    (λ count _. gives-each (λ i. NodeGood n k) count (process k) (λ i h. gives-process n k i) x ok)
 
 -- ---- 4. tuples
 gives-item : (n : ℕ) → Gives (item n) (λ x. itemSound n x ≡ true)
@@ -125,8 +127,8 @@ unfolding item readingItem addressItem itemSound
 gives-item n =
     gives-then (gives-bits 1)
     (λ sort _. gives-choice _ (eqb sort 0) _ _
-    (gives-then gives-reading (λ x _. gives-done _ _ refl))
-    (gives-then (gives-address n) (λ l h. gives-done _ _ (lt-ltb (l .0) n h))))
+    (gives-then gives-reading (λ x _. gives-pure _ _ refl))
+    (gives-then (gives-address n) (λ l h. gives-pure _ _ (lt-ltb (l .0) n h))))
 
 -- the tuple after i of its fields
 record TupleOk (n i : ℕ) (t : Tuple) : Type 0 where
@@ -161,7 +163,7 @@ tuple-sound n i t h g ok =
 
 gives-tupleField : (n i : ℕ) (t : Tuple) → i < 4 → TupleOk n i t → Gives (tupleField n i t) (TupleOk n (suc i))
 unfolding tupleField
-gives-tupleField n i t h ok = gives-then (gives-item n) (λ x s. gives-done _ _ (add-field n i t _ h ok s))
+gives-tupleField n i t h ok = gives-then (gives-item n) (λ x s. gives-pure _ _ (add-field n i t _ h ok s))
 
 gives-tuple : (n : ℕ) → Gives (tuple n) (λ t. tupleSound n t ≡ true)
 unfolding tuple
@@ -172,10 +174,10 @@ gives-tuple n =
     zeroTuple (zero-tuple-ok n))
     (λ t ok. tuple-sound n (less + 1) t (omega arith) (omega arith) ok))
 
-add-tuple : (n k : ℕ) (x : Node) (t : Tuple) → NodeOk n k x → tupleSound n t ≡ true → NodeOk n k (withTuple x t)
+add-tuple : (n k : ℕ) (x : Node) (t : Tuple) → NodeGood n k x → tupleSound n t ≡ true → NodeGood n k (withTuple x t)
 unfolding withTuple
 add-tuple n k x t ok h =
-    chosen-lt (NodeOk n k) (x .stored) 16 _ _
+    chosen-lt (NodeGood n k) (x .stored) 16 _ _
     (λ l. record {
       row-ok = ok .row-ok;
       processes-ok = ok .processes-ok;
@@ -184,15 +186,15 @@ add-tuple n k x t ok h =
     })
     (λ l. ok)
 
-gives-stored : (n k i : ℕ) (x : Node) → NodeOk n k x → Gives (stored n i x) (NodeOk n k)
+gives-stored : (n k i : ℕ) (x : Node) → NodeGood n k x → Gives (stored n i x) (NodeGood n k)
 unfolding stored
-gives-stored n k i x ok = gives-then (gives-tuple n) (λ t h. gives-done _ _ (add-tuple n k x t ok h))
+gives-stored n k i x ok = gives-then (gives-tuple n) (λ t h. gives-pure _ _ (add-tuple n k x t ok h))
 
-pub gives-tuples : (n k : ℕ) (x : Node) → NodeOk n k x → Gives (tuples n x) (NodeOk n k)
+pub gives-tuples : (n k : ℕ) (x : Node) → NodeGood n k x → Gives (tuples n x) (NodeGood n k)
 unfolding tuples
 gives-tuples n k x ok =
     gives-then (gives-field 5 0 17 22 (omega arith))
-    (λ count _. gives-each (λ i. NodeOk n k) count (stored n) (λ i h. gives-stored n k i) x ok)
+    (λ count _. gives-each (λ i. NodeGood n k) count (stored n) (λ i h. gives-stored n k i) x ok)
 
 -- ---- the zero node
 zero-tuple : isZeroTuple zeroTuple ≡ true
@@ -214,7 +216,7 @@ zero-node =
     (both-i _ _ (all-i 4 _ (λ j h. rw getD-replicate free-process))
     (both-i _ _ refl (all-i 16 _ (λ j h. rw getD-replicate zero-tuple))))
 
-pub zero-node-ok : (n k : ℕ) → NodeOk n k zeroNode
+pub zero-node-ok : (n k : ℕ) → NodeGood n k zeroNode
 unfolding zeroNode processSound choose freeProcess
 zero-node-ok n k = record {
   row-ok = row-sound n zeroRow (zero-row-ok n);

@@ -7,23 +7,23 @@ use mathlib.Core.Bool.{true}
 use mathlib.Core.List.{List}
 use native.Mathlib.Omega.{arith}
 use lib.ListN.{length}
-use Rattle.image.specs.Types.{Node, Instruction, Net}
-use Rattle.net.specs.Records.{zeroNode, zeroInstruction, emptyNet, nodeAt, instructionAt}
+use Rattle.image.specs.Types.{Locality, Place, Node, Instruction, Net}
+use Rattle.net.specs.Records.{zeroNode, zeroInstruction, emptyNet, nodeAt, instructionAt, addressOf, placeOf}
 use Rattle.net.specs.Records.{withNode, withInstruction, withCounts}
 use Rattle.net.specs.Soundness.{nodeSound, isZeroNode, instructionSound, isZeroInstruction}
 use Rattle.net.specs.Soundness.{nodesSound, codeSound, soundOf}
-use Rattle.image.specs.BitReader.{Fault, Outcome, Reader, each, numbered}
-use Rattle.image.specs.Image.{Answer, Opened, header, row, rowOf, rows, processes, processesOf, allProcesses}
+use Rattle.image.specs.BitReader.{Fault, Parsed, Reader, each, numbered}
+use Rattle.image.specs.Image.{Verdict, Opened, eachAddress, eachPlace, header, row, rowOf, rows, processes, processesOf, allProcesses}
 use Rattle.image.specs.Image.{tuples, tuplesOf, allTuples, instruction, instructionOf, code, endsAt, ending}
 use Rattle.image.specs.Image.{layout, admits, refused, accepted, judgedNet, openedOf, numberOf}
 use Rattle.image.specs.ImageClaims.{AcceptedIsSound, RefusedIsEmpty, Numbered, RefusedIsNumbered}
 use Rattle.net.proofs.Laws.{both-i}
 use Rattle.net.proofs.Every.{chosen, Every, every-replicate, every-weaken, Filled, filled-set, filled-all}
-use Rattle.image.proofs.Gives.{Fine, value, stopped, Gives, gives-done, gives-weaken, gives-then, gives-and}
+use Rattle.image.proofs.Gives.{Fine, value, stopped, Gives, gives-pure, gives-weaken, gives-then, gives-and}
 use Rattle.image.proofs.Gives.{gives-each, gives-require, Between, gives-field}
 use Rattle.net.proofs.Past.{in-range}
 use Rattle.image.proofs.PastRecords.{pastNode, pastInstruction}
-use Rattle.image.proofs.AcceptedNode.{NodeOk, node-sound, zero-node, zero-node-ok}
+use Rattle.image.proofs.AcceptedNode.{NodeGood, node-sound, zero-node, zero-node-ok}
 use Rattle.image.proofs.AcceptedNode.{gives-row, set-row, gives-processes, gives-tuples}
 use Rattle.image.proofs.AcceptedCode.{zero-instruction, stop-sound, gives-instruction}
 
@@ -33,7 +33,7 @@ record NetOk (n k : ℕ) (s : Net) : Type 0 where
   length-is : s .length ≡ k
   addresses-in : Between 1 n 17
   length-in : Between 1 k 513
-  nodes-ok : Every (Filled (NodeOk n k) (λ x. isZeroNode x ≡ true) n) pastNode 16 (s .nodes)
+  nodes-ok : Every (Filled (NodeGood n k) (λ x. isZeroNode x ≡ true) n) pastNode 16 (s .nodes)
   code-ok :
       Every (Filled (λ c. instructionSound n k c ≡ true) (λ c. isZeroInstruction c ≡ true) k) pastInstruction 512
       (s .code)
@@ -93,68 +93,71 @@ gives-header =
     gives-then (gives-field 4 1 2 21 (omega arith))
     (λ format _. gives-then (gives-field 5 1 17 22 (omega arith))
     (λ n h. gives-then (gives-field 10 1 513 22 (omega arith))
-    (λ k g. gives-done _ _ (record { n = n; k = k; net-ok = empty-ok n k h g }))))
+    (λ k g. gives-pure _ _ (record { n = n; k = k; net-ok = empty-ok n k h g }))))
 
 module _ (n k : ℕ) where
   -- ---- 2 to 4. what stands at each address
-  set-node : (s : Net) (a : ℕ) (x : Node) → a < n → NetOk n k s → NodeOk n k x → NetOk n k (withNode s a x)
+  set-node : (s : Net) (a : Locality) (x : Node) → a .0 < n → NetOk n k s → NodeGood n k x → NetOk n k (withNode s a x)
   unfolding withNode
   set-node s a x h ok x-ok = record {
     addresses-are = ok .addresses-are;
     length-is = ok .length-is;
     addresses-in = ok .addresses-in;
     length-in = ok .length-in;
-    nodes-ok = filled-set a x h x-ok (ok .nodes-ok);
+    nodes-ok = filled-set (a .0) x h x-ok (ok .nodes-ok);
     code-ok = ok .code-ok;
   }
 
-  node-ok : (s : Net) (a : ℕ) → a < n → NetOk n k s → NodeOk n k (nodeAt s a)
+  node-ok : (s : Net) (a : Locality) → a .0 < n → NetOk n k s → NodeGood n k (nodeAt s a)
   unfolding nodeAt
-  node-ok s a h ok = ok .nodes-ok .holds a (omega arith) .used h
+  node-ok s a h ok = ok .nodes-ok .holds (a .0) (omega arith) .used h
 
   -- turns that keep the net sound, one for each address or for each place
   gives-all :
       (f : ℕ → Net → Reader Net) (m i : ℕ) → m ≡ i
-      → ((a : ℕ) (s : Net) → a < i → NetOk n k s → Gives (f a s) (NetOk n k)) → (s : Net) → NetOk n k s
+      → ((j : ℕ) (s : Net) → j < i → NetOk n k s → Gives (f j s) (NetOk n k)) → (s : Net) → NetOk n k s
       → Gives (each m f s) (NetOk n k)
   gives-all f m i e turn s ok =
-      gives-at (λ j. each j f s) e (gives-each (λ j. NetOk n k) i f (λ a h t t-ok. turn a t h t-ok) s ok)
+      gives-at (λ j. each j f s) e (gives-each (λ j. NetOk n k) i f (λ j h t t-ok. turn j t h t-ok) s ok)
 
-  gives-rowOf : (a : ℕ) (s : Net) → a < n → NetOk n k s → Gives (rowOf a s) (NetOk n k)
+  gives-rowOf : (a : Locality) (s : Net) → a .0 < n → NetOk n k s → Gives (rowOf a s) (NetOk n k)
   unfolding rowOf
   gives-rowOf a s h ok =
       gives-then (gives-at row (ok .addresses-are) (gives-row n))
-      (λ r r-ok. gives-done _ _ (set-node s a _ h ok (set-row n k _ r (node-ok s a h ok) r-ok)))
+      (λ r r-ok. gives-pure _ _ (set-node s a _ h ok (set-row n k _ r (node-ok s a h ok) r-ok)))
 
   gives-rows : (s : Net) → NetOk n k s → Gives (rows s) (NetOk n k)
-  unfolding rows
-  gives-rows s ok = gives-all rowOf _ n (ok .addresses-are) gives-rowOf s ok
+  unfolding rows eachAddress
+  gives-rows s ok =
+      gives-all (λ i. rowOf (addressOf i)) _ n (ok .addresses-are) (λ i. gives-rowOf (addressOf i)) s ok
 
-  gives-processesOf : (a : ℕ) (s : Net) → a < n → NetOk n k s → Gives (processesOf a s) (NetOk n k)
+  gives-processesOf : (a : Locality) (s : Net) → a .0 < n → NetOk n k s → Gives (processesOf a s) (NetOk n k)
   unfolding processesOf
   gives-processesOf a s h ok =
       gives-then
       (gives-at (λ m. processes m (nodeAt s a)) (ok .length-is) (gives-processes n k _ (node-ok s a h ok)))
-      (λ x x-ok. gives-done _ _ (set-node s a x h ok x-ok))
+      (λ x x-ok. gives-pure _ _ (set-node s a x h ok x-ok))
 
   gives-allProcesses : (s : Net) → NetOk n k s → Gives (allProcesses s) (NetOk n k)
-  unfolding allProcesses
-  gives-allProcesses s ok = gives-all processesOf _ n (ok .addresses-are) gives-processesOf s ok
+  unfolding allProcesses eachAddress
+  gives-allProcesses s ok =
+      gives-all (λ i. processesOf (addressOf i)) _ n (ok .addresses-are) (λ i. gives-processesOf (addressOf i)) s ok
 
-  gives-tuplesOf : (a : ℕ) (s : Net) → a < n → NetOk n k s → Gives (tuplesOf a s) (NetOk n k)
+  gives-tuplesOf : (a : Locality) (s : Net) → a .0 < n → NetOk n k s → Gives (tuplesOf a s) (NetOk n k)
   unfolding tuplesOf
   gives-tuplesOf a s h ok =
       gives-then
       (gives-at (λ m. tuples m (nodeAt s a)) (ok .addresses-are) (gives-tuples n k _ (node-ok s a h ok)))
-      (λ x x-ok. gives-done _ _ (set-node s a x h ok x-ok))
+      (λ x x-ok. gives-pure _ _ (set-node s a x h ok x-ok))
 
   gives-allTuples : (s : Net) → NetOk n k s → Gives (allTuples s) (NetOk n k)
-  unfolding allTuples
-  gives-allTuples s ok = gives-all tuplesOf _ n (ok .addresses-are) gives-tuplesOf s ok
+  unfolding allTuples eachAddress
+  gives-allTuples s ok =
+      gives-all (λ i. tuplesOf (addressOf i)) _ n (ok .addresses-are) (λ i. gives-tuplesOf (addressOf i)) s ok
 
   -- ---- 5. the code
   set-instruction :
-      (s : Net) (p : ℕ) (c : Instruction) → p < k → NetOk n k s → instructionSound n k c ≡ true
+      (s : Net) (p : Place) (c : Instruction) → p .0 < k → NetOk n k s → instructionSound n k c ≡ true
       → NetOk n k (withInstruction s p c)
   unfolding withInstruction
   set-instruction s p c h ok e = record {
@@ -163,20 +166,21 @@ module _ (n k : ℕ) where
     addresses-in = ok .addresses-in;
     length-in = ok .length-in;
     nodes-ok = ok .nodes-ok;
-    code-ok = filled-set p c h e (ok .code-ok);
+    code-ok = filled-set (p .0) c h e (ok .code-ok);
   }
 
-  gives-instructionOf : (p : ℕ) (s : Net) → p < k → NetOk n k s → Gives (instructionOf p s) (NetOk n k)
+  gives-instructionOf : (p : Place) (s : Net) → p .0 < k → NetOk n k s → Gives (instructionOf p s) (NetOk n k)
   unfolding instructionOf
   gives-instructionOf p s h ok =
       gives-then
       (gives-at (λ m. instruction m (s .length)) (ok .addresses-are)
       (gives-at (instruction n) (ok .length-is) (gives-instruction n k)))
-      (λ c e. gives-done _ _ (set-instruction s p c h ok e))
+      (λ c e. gives-pure _ _ (set-instruction s p c h ok e))
 
   gives-code : (s : Net) → NetOk n k s → Gives (code s) (NetOk n k)
-  unfolding code
-  gives-code s ok = gives-all instructionOf _ k (ok .length-is) gives-instructionOf s ok
+  unfolding code eachPlace
+  gives-code s ok =
+      gives-all (λ i. instructionOf (placeOf i)) _ k (ok .length-is) (λ i. gives-instructionOf (placeOf i)) s ok
 
 -- ---- 6. the end
 gives-ending : Gives ending (λ u. Unit {0})
@@ -194,15 +198,15 @@ gives-layout =
     (λ s₂ ok₂. gives-then (gives-allProcesses n k s₂ ok₂)
     (λ s₃ ok₃. gives-then (gives-allTuples n k s₃ ok₃)
     (λ s₄ ok₄. gives-then (gives-code n k s₄ ok₄)
-    (λ s₅ ok₅. gives-and gives-ending (λ _ _. gives-done _ _ (net-laid n k s₅ ok₅)))))))
+    (λ s₅ ok₅. gives-and gives-ending (λ _ _. gives-pure _ _ (net-laid n k s₅ ok₅)))))))
 
 -- ---- the claims, of what is opened
 record Claimed (r : Opened) : Type 0 where
-  when-accepted : r .answer ≡ Answer.Accepted → soundOf (r .net) ≡ true
-  when-refused : (f : Fault) → r .answer ≡ Answer.Refused f → r .net ≡ emptyNet
+  when-accepted : r .answer ≡ Verdict.Accepted → soundOf (r .net) ≡ true
+  when-refused : (f : Fault) → r .answer ≡ Verdict.Refused f → r .net ≡ emptyNet
   is-numbered : Numbered (r .answer)
 
-pub never : {P : Type 0} (f : Fault) → Answer.Refused f ≡ Answer.Accepted → P
+pub never : {P : Type 0} (f : Fault) → Verdict.Refused f ≡ Verdict.Accepted → P
 never f e = let z : _≡_ {A = ℕ} 0 1 = cc in absurd (omega arith)
 
 claimed-refused : (f : Fault) → 21 ≤ f .number → f .number ≤ 30 → Claimed (refused f)
@@ -221,7 +225,7 @@ claimed-accepted s h = record {
   is-numbered = record { when-accepted = (λ e. refl, λ e. refl); when-refused = λ f e. never f (sym e) };
 }
 
-claimed : (o : Outcome Net) → Fine Laid o → Claimed (judgedNet o)
+claimed : (o : Parsed Net) → Fine Laid o → Claimed (judgedNet o)
 unfolding judgedNet numbered
 claimed _ (value {a = s} h) =
     chosen Claimed (admits s) _ _ (λ e. claimed-accepted s (h .sound))

@@ -7,12 +7,13 @@ use mathlib.Core.List.{List}
 use native.Mathlib.Omega.{arith}
 use borrow.Author.Tests.{ltb-true, lt-ltb}
 use Rattle.net.specs.Choice.{choose}
+use Rattle.net.specs.Records.{addressOf}
 use Rattle.net.specs.ReachingClaims.{KeepsIsEvery}
 use Rattle.net.proofs.Laws.{implies-i, implies-e, all-i, all-e, choose-true}
 use Rattle.net.proofs.Reached.{keepsIsEvery}
 use Rattle.image.specs.Types.{Net}
-use Rattle.image.specs.BitReader.{Outcome, got, numbered}
-use Rattle.image.specs.Image.{layout, admitsProcess, admitsNode, admits, refused, accepted, judgedNet}
+use Rattle.image.specs.BitReader.{Parsed, got, numbered}
+use Rattle.image.specs.Image.{layout, admitsProcess, admitsNode, admitsAt, admits, refused, accepted, judgedNet}
 use Rattle.image.specs.Image.{openedOf, numberOf}
 use Rattle.image.specs.AdmissionClaims.{StartsWithin, AdmitsIsWithin, AcceptedIsWithin, Beyond, beyond}
 use Rattle.image.specs.AdmissionClaims.{ThirtyIsBeyond}
@@ -20,7 +21,7 @@ use Rattle.image.proofs.Gives.{Fine, value, stopped}
 use Rattle.image.proofs.AcceptedSound.{Laid, gives-layout, never}
 
 pub admitsIsWithin : AdmitsIsWithin
-unfolding AdmitsIsWithin admits admitsNode admitsProcess KeepsIsEvery
+unfolding AdmitsIsWithin admits admitsAt admitsNode admitsProcess KeepsIsEvery
 admitsIsWithin s few short = (
   λ h. record {
     permitted = λ a slot q used low busy m.
@@ -36,7 +37,7 @@ admitsIsWithin s few short = (
       (λ used. all-i 4 _
       (λ slot low. implies-i _ _
       (λ busy. keepsIsEvery (s .code) short _ _ _ .1
-      (λ q m. w .permitted (record { 0 = a }) slot q (ltb-true a (s .addresses) used) low busy m))))),
+      (λ q m. w .permitted (addressOf a) slot q (ltb-true a (s .addresses) used) low busy m))))),
 )
 
 -- ---- of a net that the layout gives
@@ -71,7 +72,7 @@ module _ (s : Net) (laid : Laid s) where
   beyond-thirty true e n = absurd (n (within e))
   beyond-thirty false e n = refl
 
-laid-at : (o : Outcome Net) (s : Net) (p : ℕ) → Fine Laid o → o ≡ got s p → Laid s
+laid-at : (o : Parsed Net) (s : Net) (p : ℕ) → Fine Laid o → o ≡ got s p → Laid s
 laid-at _ s p (value {a = t} h) e = let same : t ≡ s = cc in subst Laid same h
 laid-at _ s p (stopped l) e = let z : _≡_ {A = ℕ} 0 1 = cc in absurd (omega arith)
 
@@ -83,7 +84,7 @@ acceptedIsWithin image s p e =
       λ w. rw (e, judged) (choose-true _ _ _ (admitted s laid w)),
     )
 
-thirty-is : (image : List ℕ) (o : Outcome Net) → Fine Laid o → layout image 0 ≡ o → numberOf (judgedNet o .answer) ≡ 30 → Beyond image
+thirty-is : (image : List ℕ) (o : Parsed Net) → Fine Laid o → layout image 0 ≡ o → numberOf (judgedNet o .answer) ≡ 30 → Beyond image
 unfolding judgedNet refused numberOf
 thirty-is image _ (value {a = s} laid) e h = beyond e (thirty-beyond s laid (admits s) refl h)
 thirty-is image _ (stopped {f} l) e h = absurd (omega (arith, l .most))

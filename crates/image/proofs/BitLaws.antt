@@ -1,23 +1,20 @@
 -- Laws of the bit reader's leaves (`specs/BitReader.antt`, `specs/Progress.antt`): a bit, a number, a judged field.
 -- Assumes nothing.
-use Prim.Native.Nat.{ℕ, zero, suc, _+_, _-_, _*_, _/_, _%_, _^_, _<_, _≤_, min}
+use Prim.Native.Nat.{ℕ, suc, _+_, _-_, _*_, _/_, _%_, _^_, _<_, _≤_}
 use mathlib.Core.Path.{_≡_, refl, sym, ap, _∙_}
-use mathlib.Core.Bool.{Bool, true, false}
 use mathlib.Core.List.{List}
-use lib.ListN.{length, getD, take, length-take, List·getD-eq-default}
+use lib.ListN.{length, getD, length-take, List·getD-eq-default}
 use lib.Seq.{getD-take}
 use lib.Pow.{pow-mono, pow-pos}
-use lib.Dec.{leb, ltb}
 use native.Mathlib.Nat.{zero-div, le-trans}
 use mir.Syntax.{w64}
 use mir.Val.{Fits}
 use native.Mathlib.Numerals.{add-one}
 use native.Mathlib.Omega.{arith}
 use borrow.Author.Tests.{lt-ltb, le-ltb, le-leb, lt-leb}
-use Rattle.net.specs.Choice.{choose, both}
-use Rattle.image.specs.BitReader.{Fault, Outcome, got, fault, Reader, bitAt, numberAt, judged, field, numbered}
-use Rattle.image.specs.Progress.{Step, Taken, seen, outcome, runFrom, Went, Bit, Number, Took, Field}
-use Rattle.net.proofs.Laws.{choose-true, choose-false, both-i, both-false-l, both-false-r, branches}
+use Rattle.image.specs.BitReader.{Fault, Parsed, fault, Reader, bitAt, numberAt, judged, field, numbered}
+use Rattle.image.specs.Progress.{Step, Taken, seen, outcome, runFrom, Bit, Number, Took, TookFrom}
+use Rattle.net.proofs.Laws.{choose-true, choose-false, both-i, both-false-l, both-false-r}
 
 -- ---- the bytes looked at
 pub seen-short : (s : List ℕ) → length s < 16384 → (length s ≡ length (seen s)) × (length s ≤ 16384)
@@ -91,7 +88,7 @@ module _ (low end n q v w : ℕ) (small : v < 2 ^ w) where
   judged-high h l = choose-false _ _ _ (sym (both-false-r _ _ (le-leb low v h) (le-ltb v end l)))
 
 -- a fault in the place of an outcome that it equals
-pub took-as : (o o′ : Outcome ℕ) (w end : ℕ) (r : Taken) → Took o w end r → o′ ≡ o → Took o′ w end r
+pub took-as : (o o′ : Parsed ℕ) (w end : ℕ) (r : Taken) → Took o w end r → o′ ≡ o → Took o′ w end r
 took-as o o′ w end r t e = record { took = t .took ∙ sym e; narrow = t .narrow; below = t .below }
 
 -- ---- a field at a place: n bytes are looked at
@@ -114,13 +111,13 @@ module _ (s : List ℕ) (p w low end n m : ℕ) (e : m ≡ length s) where
   field-short r h l t = took-as _ _ w end r t (choose-false _ _ _ (lt-leb (p + w) (8 * length s) (omega arith)))
 
 -- ---- a field from a step
-pub field-at : (s : List ℕ) (p : ℕ) (m : Reader ℕ) (w end : ℕ) (r : Taken) → Took (m s p) w end r → Field s (Step.At p) m w end r
+pub field-at : (s : List ℕ) (p : ℕ) (m : Reader ℕ) (w end : ℕ) (r : Taken) → Took (m s p) w end r → TookFrom s (Step.At p) m w end r
 unfolding runFrom
 field-at s p m w end r t = record { read = record { went = t .took }; narrow = t .narrow; below = t .below }
 
-pub field-failed : (s : List ℕ) (p : Step) (f : Fault) (m : Reader ℕ) (w end : ℕ) → p ≡ Step.Failed f → Field s p m w end (record { value = 0; next = p })
+pub field-failed : (s : List ℕ) (p : Step) (f : Fault) (m : Reader ℕ) (w end : ℕ) → p ≡ Step.Failed f → TookFrom s p m w end (record { value = 0; next = p })
 unfolding outcome runFrom
 field-failed s p f m w end e = record { read = record { went = cc }; narrow = pow-pos w; below = omega arith }
 
-pub field-from : (s : List ℕ) (p : Step) (q : ℕ) (m : Reader ℕ) (w end : ℕ) (r : Taken) → p ≡ Step.At q → Took (m s q) w end r → Field s p m w end r
+pub field-from : (s : List ℕ) (p : Step) (q : ℕ) (m : Reader ℕ) (w end : ℕ) (r : Taken) → p ≡ Step.At q → Took (m s q) w end r → TookFrom s p m w end r
 field-from s p q m w end r e t = rw e (field-at s q m w end r t)

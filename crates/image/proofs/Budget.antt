@@ -12,7 +12,7 @@ use lib.Seq.{getD-take, take-all, length-take-le}
 use lib.Dec.{leb, ltb}
 use borrow.Author.Tests.{leb-true, ltb-true, le-leb}
 use Rattle.net.specs.Choice.{choose, both}
-use Rattle.image.specs.BitReader.{Fault, Outcome, got, fault, Reader, done, andThen, _>>=_, _>>_, turns, each}
+use Rattle.image.specs.BitReader.{Fault, Parsed, got, fault, Reader, pure, andThen, _>>=_, _>>_, turns, each}
 use Rattle.image.specs.BitReader.{alternative, require, bitAt, numberAt, judged, field, bits}
 use Rattle.net.proofs.Laws.{both-l, both-r}
 
@@ -35,7 +35,7 @@ pub no-fault : {A C : Type 0} {n : Fault} {a : A} {q : ℕ} → fault n ≡ got 
 no-fault e = let z : _≡_ {A = ℕ} 0 1 = cc in absurd (omega arith)
 
 -- a test that came out well
-pub choose-got : {A : Type 0} (t : Bool) {x : Outcome A} (n : Fault) {a : A} {q : ℕ} → choose t x (fault n) ≡ got a q
+pub choose-got : {A : Type 0} (t : Bool) {x : Parsed A} (n : Fault) {a : A} {q : ℕ} → choose t x (fault n) ≡ got a q
     → (t ≡ true) × (x ≡ got a q)
 unfolding choose
 choose-got true n e = (refl, e)
@@ -49,11 +49,11 @@ widen h w = record {
 }
 
 -- ---- nothing read: a value, a test
-pub done-within : {A : Type 0} {P : A → Type 0} (a : A) → P a → Within (done a) 0 P
-unfolding done
-done-within {A} {P} a h = record { ends = ends; same = λ s p k l. refl }
+pub pure-within : {A : Type 0} {P : A → Type 0} (a : A) → P a → Within (pure a) 0 P
+unfolding pure
+pure-within {A} {P} a h = record { ends = ends; same = λ s p k l. refl }
   where
-    ends : (s : List ℕ) (p : ℕ) (y : A) (q : ℕ) → done a s p ≡ got y q → (q ≤ p + 0) × P y
+    ends : (s : List ℕ) (p : ℕ) (y : A) (q : ℕ) → pure a s p ≡ got y q → (q ≤ p + 0) × P y
     ends s p y q e =
         let d : a ≡ y = cc in
         let r : p ≡ q = cc in
@@ -79,7 +79,7 @@ module _ {A B : Type 0} {P : A → Type 0} {m : Reader A} {b : ℕ} (f : A → R
   unfolding _>>=_ andThen
   bind-same c w v s p k l = rw (w .same s p k (omega arith)) (go (m s p) refl)
     where
-      go : (o : Outcome A) → m s p ≡ o → andThen o (take k s) f ≡ andThen o s f
+      go : (o : Parsed A) → m s p ≡ o → andThen o (take k s) f ≡ andThen o s f
       go (got x r) d = let g = w .ends s p x r d in v x (g .1) s r k (omega arith)
       go (fault n) d = refl
 
@@ -89,7 +89,7 @@ module _ {A B : Type 0} {P : A → Type 0} {m : Reader A} {b : ℕ} (f : A → R
   unfolding _>>=_ andThen
   bind-got w s p y q = go (m s p) refl
     where
-      go : (o : Outcome A) → m s p ≡ o → andThen o s f ≡ got y q
+      go : (o : Parsed A) → m s p ≡ o → andThen o s f ≡ got y q
           → (x : A) × (r : ℕ) × (r ≤ p + b) × P x × (f x s r ≡ got y q)
       go (got x r) d e = let g = w .ends s p x r d in (x, r, g .0, g .1, e)
       go (fault n) d e = no-fault e
@@ -115,8 +115,8 @@ module _ {A B : Type 0} {P : A → Type 0} {m : Reader A} {f : A → Reader B} {
 
 -- a value made of the last one
 pub gives : {A B : Type 0} {P : A → Type 0} {m : Reader A} {b : ℕ} (g : A → B) → Within m b P
-    → Within (m >>= (λ a. done (g a))) b Anything
-gives g w = widen (omega arith) (bind w (λ a h. done-within _ any))
+    → Within (m >>= (λ a. pure (g a))) b Anything
+gives g w = widen (omega arith) (bind w (λ a h. pure-within _ any))
 
 module _ {A B : Type 0} {P : A → Type 0} {Q : B → Type 0} {m : Reader A} {f : Reader B} {b c : ℕ} where
   pub then : Within m b P → Within f c Q → Within (m >> f) (b + c) Q
@@ -124,19 +124,19 @@ module _ {A B : Type 0} {P : A → Type 0} {Q : B → Type 0} {m : Reader A} {f 
   then w v = bind w (λ a h. v)
 
 -- a value after the end
-pub closes-done : {A B : Type 0} {m : Reader A} {b : ℕ} → Closes m b → (y : B) → Closes (m >> done y) b
-unfolding _>>_ _>>=_ andThen done
-closes-done {A} {B} {m} {b} w y = record {
+pub closes-pure : {A B : Type 0} {m : Reader A} {b : ℕ} → Closes m b → (y : B) → Closes (m >> pure y) b
+unfolding _>>_ _>>=_ andThen pure
+closes-pure {A} {B} {m} {b} w y = record {
   fills = λ s p z q e. fills s p z q (m s p) refl e;
   same = λ s p k l. rw (w .same s p k l) (same s k (m s p));
 }
   where
-    fills : (s : List ℕ) (p : ℕ) (z : B) (q : ℕ) (o : Outcome A) → m s p ≡ o → andThen o s (λ x. done y) ≡ got z q
+    fills : (s : List ℕ) (p : ℕ) (z : B) (q : ℕ) (o : Parsed A) → m s p ≡ o → andThen o s (λ x. pure y) ≡ got z q
         → 8 * length s ≤ p + b
     fills s p z q (got x r) d e = w .fills s p x r d
     fills s p z q (fault n) d e = no-fault e
 
-    same : (s : List ℕ) (k : ℕ) (o : Outcome A) → andThen o (take k s) (λ x. done y) ≡ andThen o s (λ x. done y)
+    same : (s : List ℕ) (k : ℕ) (o : Parsed A) → andThen o (take k s) (λ x. pure y) ≡ andThen o s (λ x. pure y)
     same s k (got x r) = refl
     same s k (fault n) = refl
 
@@ -144,7 +144,7 @@ closes-done {A} {B} {m} {b} w y = record {
 module _ {A : Type 0} {P : A → Type 0} {f : ℕ → A → Reader A} {b : ℕ} where
   turns-within : ((i : ℕ) (a : A) → P a → Within (f i a) b P) → (n i : ℕ) (a : A) → P a → Within (turns n i f a) (n * b) P
   unfolding turns
-  turns-within w zero i a h = widen (omega arith) (done-within a h)
+  turns-within w zero i a h = widen (omega arith) (pure-within a h)
   turns-within w (suc n) i a h =
       widen (omega arith) (bind (w i a h) (λ x g. turns-within w n (suc i) x g))
 

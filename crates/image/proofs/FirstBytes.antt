@@ -9,10 +9,10 @@ use native.Mathlib.Decide.{decLe}
 use lib.ListN.{length, take}
 use lib.Seq.{take-all, length-take-le}
 use borrow.Author.Tests.{eqb-true, ne-eqb}
-use Rattle.image.specs.Types.{Place, Tuple, Row, Node, Target, Action, Instruction, Net}
-use Rattle.net.specs.Records.{withNode, withInstruction, withCounts}
-use Rattle.image.specs.BitReader.{Outcome, got, fault, require}
-use Rattle.image.specs.Image.{Answer, address, place, variable, reading, header, rights, row, rowOf, rows}
+use Rattle.image.specs.Types.{Locality, Place, Tuple, Row, Node, Target, Action, Instruction, Net}
+use Rattle.net.specs.Records.{withNode, withInstruction, withCounts, addressOf, placeOf}
+use Rattle.image.specs.BitReader.{Parsed, got, fault, require}
+use Rattle.image.specs.Image.{Verdict, eachAddress, eachPlace, address, place, variable, reading, header, rights, row, rowOf, rows}
 use Rattle.image.specs.Image.{process, processes, processesOf, allProcesses, readingItem, addressItem, item}
 use Rattle.image.specs.Image.{tupleField, tuple, stored, tuples, tuplesOf, allTuples}
 use Rattle.image.specs.Image.{writtenTarget, heldTarget, target, readingPattern, addressPattern, heldPattern}
@@ -21,8 +21,8 @@ use Rattle.image.specs.Image.{communication, evaluation, creation, forki
 use Rattle.image.specs.Image.{endsAt, ending, layout, judgedNet, refused, openedOf}
 use Rattle.image.specs.LengthClaims.{FirstBytesDecide, LongestAccepted}
 use Rattle.net.proofs.Laws.{both-l, both-false-l}
-use Rattle.image.proofs.Budget.{Within, Closes, Anything, any, nothing, _or_, choose-got, widen, done-within}
-use Rattle.image.proofs.Budget.{require-within, bind, gives, then, bind-closes, closes-done, each-within}
+use Rattle.image.proofs.Budget.{Within, Closes, Anything, any, nothing, _or_, choose-got, widen, pure-within}
+use Rattle.image.proofs.Budget.{require-within, bind, gives, then, bind-closes, closes-pure, each-within}
 use Rattle.image.proofs.Budget.{alternative-within, choose-within, field-within, bits-within}
 
 -- the counts of a net that the header admits
@@ -50,29 +50,29 @@ header-within =
     bind (field-within _ _ _ _) (λ format f.
     bind (field-within _ _ _ _) (λ n g.
     bind (field-within _ _ _ _) (λ k h.
-    done-within _ (record { addresses = omega arith; instructions = omega arith }))))
+    pure-within _ (record { addresses = omega arith; instructions = omega arith }))))
 
 -- ---- 2. rows
-rights-within : (l : ℕ) (r : Row) → Within (rights l r) 4 Anything
+rights-within : (l : Locality) (r : Row) → Within (rights l r) 4 Anything
 unfolding rights
 rights-within l r = gives _ (bits-within _)
 
 row-within : (n : ℕ) → n ≤ 16 → Within (row n) (1 + 16 * 4) Anything
-unfolding row
-row-within n l = bind (bits-within _) (λ v h. each-within _ l any (λ i r g. rights-within i r))
+unfolding row eachAddress
+row-within n l = bind (bits-within _) (λ v h. each-within _ l any (λ i r g. rights-within (addressOf i) r))
 
 -- a turn that replaces one node keeps the counts
-node-kept : (s : Net) → Counted s → (a : ℕ) (x : Node) → Counted (withNode s a x)
+node-kept : (s : Net) → Counted s → (a : Locality) (x : Node) → Counted (withNode s a x)
 unfolding withNode
 node-kept s c a x = record { addresses = c .addresses; instructions = c .instructions }
 
-rowOf-within : (a : ℕ) (s : Net) → Counted s → Within (rowOf a s) 65 Counted
+rowOf-within : (a : Locality) (s : Net) → Counted s → Within (rowOf a s) 65 Counted
 unfolding rowOf
-rowOf-within a s c = bind (row-within _ (c .addresses)) (λ r h. done-within _ (node-kept s c a _))
+rowOf-within a s c = bind (row-within _ (c .addresses)) (λ r h. pure-within _ (node-kept s c a _))
 
 rows-within : (s : Net) → Counted s → Within (rows s) (16 * 65) Counted
-unfolding rows
-rows-within s c = each-within s (c .addresses) c rowOf-within
+unfolding rows eachAddress
+rows-within s c = each-within s (c .addresses) c (λ i. rowOf-within (addressOf i))
 
 -- ---- 3. processes
 process-within : (k slot : ℕ) (x : Node) → Within (process k slot x) 9 Anything
@@ -84,13 +84,13 @@ unfolding processes
 processes-within k x =
     bind (field-within _ _ _ _) (λ count h. each-within {n = 4} x (omega arith) any (λ i y g. process-within k i y))
 
-processesOf-within : (a : ℕ) (s : Net) → Counted s → Within (processesOf a s) 39 Counted
+processesOf-within : (a : Locality) (s : Net) → Counted s → Within (processesOf a s) 39 Counted
 unfolding processesOf
-processesOf-within a s c = bind (processes-within _ _) (λ x h. done-within _ (node-kept s c a x))
+processesOf-within a s c = bind (processes-within _ _) (λ x h. pure-within _ (node-kept s c a x))
 
 allProcesses-within : (s : Net) → Counted s → Within (allProcesses s) (16 * 39) Counted
-unfolding allProcesses
-allProcesses-within s c = each-within s (c .addresses) c processesOf-within
+unfolding allProcesses eachAddress
+allProcesses-within s c = each-within s (c .addresses) c (λ i. processesOf-within (addressOf i))
 
 -- ---- 4. tuples
 readingItem-within : Within readingItem 32 Anything
@@ -125,13 +125,13 @@ unfolding tuples
 tuples-within n x =
     bind (field-within _ _ _ _) (λ count h. each-within {n = 16} x (omega arith) any (λ i y g. stored-within n i y))
 
-tuplesOf-within : (a : ℕ) (s : Net) → Counted s → Within (tuplesOf a s) 2149 Counted
+tuplesOf-within : (a : Locality) (s : Net) → Counted s → Within (tuplesOf a s) 2149 Counted
 unfolding tuplesOf
-tuplesOf-within a s c = bind (tuples-within _ _) (λ x h. done-within _ (node-kept s c a x))
+tuplesOf-within a s c = bind (tuples-within _ _) (λ x h. pure-within _ (node-kept s c a x))
 
 allTuples-within : (s : Net) → Counted s → Within (allTuples s) (16 * 2149) Counted
-unfolding allTuples
-allTuples-within s c = each-within s (c .addresses) c tuplesOf-within
+unfolding allTuples eachAddress
+allTuples-within s c = each-within s (c .addresses) c (λ i. tuplesOf-within (addressOf i))
 
 -- ---- 5. instructions
 variable-within : Within variable 3 (λ v. (0 ≤ v) × (v < 8))
@@ -151,7 +151,7 @@ unfolding target
 target-within n =
     bind (field-within _ _ _ _) (λ v h.
     alternative-within
-    (writtenTarget-within n or widen (omega arith) (done-within _ any) or nothing)
+    (writtenTarget-within n or widen (omega arith) (pure-within _ any) or nothing)
     (widen (omega arith) heldTarget-within)
     v)
 
@@ -169,7 +169,7 @@ heldPattern-within = gives _ variable-within
 
 fresh-within : (c : Instruction) → Within (fresh c) 3 Anything
 unfolding fresh
-fresh-within c = bind variable-within (λ v h. then (require-within _ _) (done-within _ any))
+fresh-within c = bind variable-within (λ v h. then (require-within _ _) (pure-within _ any))
 
 formalReading-within : (c : Instruction) → Within (formalReading c) 3 Anything
 unfolding formalReading
@@ -181,7 +181,7 @@ formalAddress-within c = gives _ (fresh-within c)
 
 kind-within : (formals : Bool) → Within (kind formals) 3 Anything
 unfolding kind
-kind-within formals = bind (field-within _ _ _ _) (λ v h. then (require-within _ _) (done-within _ any))
+kind-within formals = bind (field-within _ _ _ _) (λ v h. then (require-within _ _) (pure-within _ any))
 
 pattern-within : (formals : Bool) (n : ℕ) (c : Instruction) → Within (pattern formals n c) (3 + 32) Anything
 unfolding pattern
@@ -190,7 +190,7 @@ pattern-within formals n c =
     alternative-within
     (readingPattern-within
     or widen (omega arith) (addressPattern-within n)
-    or widen (omega arith) (done-within _ any)
+    or widen (omega arith) (pure-within _ any)
     or widen (omega arith) heldPattern-within
     or widen (omega arith) (formalReading-within c)
     or nothing)
@@ -235,7 +235,7 @@ unfolding instruction
 instruction-within n k =
     bind (field-within _ _ _ _) (λ action h.
     alternative-within
-    (widen (omega arith) (done-within _ any)
+    (widen (omega arith) (pure-within _ any)
     or communication-within _ _ n k
     or communication-within _ _ n k
     or communication-within _ _ n k
@@ -245,15 +245,15 @@ instruction-within n k =
     (widen (omega arith) (forking-within k))
     action)
 
-instructionOf-within : (p : ℕ) (s : Net) → Counted s → Within (instructionOf p s) 160 Counted
+instructionOf-within : (p : Place) (s : Net) → Counted s → Within (instructionOf p s) 160 Counted
 unfolding instructionOf withInstruction
 instructionOf-within p s c =
     bind (instruction-within _ _) (λ x h.
-    done-within _ (record { addresses = c .addresses; instructions = c .instructions }))
+    pure-within _ (record { addresses = c .addresses; instructions = c .instructions }))
 
 code-within : (s : Net) → Counted s → Within (code s) (512 * 160) Counted
-unfolding code
-code-within s c = each-within s (c .instructions) c instructionOf-within
+unfolding code eachPlace
+code-within s c = each-within s (c .instructions) c (λ i. instructionOf-within (placeOf i))
 
 -- ---- 6. the end: with a further byte it fails, whatever the bytes are
 fails-past : (s : List ℕ) (p : ℕ) → (p + 7) / 8 < length s → false ≡ endsAt s p
@@ -288,7 +288,7 @@ layout-closes =
     bind-closes (allProcesses-within s₂ c₂) (λ s₃ c₃.
     bind-closes (allTuples-within s₃ c₃) (λ s₄ c₄.
     bind-closes (code-within s₄ c₄) (λ s₅ c₅.
-    closes-done ending-closes s₅)))))
+    closes-pure ending-closes s₅)))))
 
 pub firstBytesDecide : FirstBytesDecide
 unfolding FirstBytesDecide openedOf
@@ -298,6 +298,6 @@ pub longestAccepted : LongestAccepted
 unfolding LongestAccepted openedOf judgedNet refused
 longestAccepted s = go (layout s 0) refl
   where
-    go : (o : Outcome Net) → layout s 0 ≡ o → judgedNet o .answer ≡ Answer.Accepted → length s ≤ 14749
+    go : (o : Parsed Net) → layout s 0 ≡ o → judgedNet o .answer ≡ Verdict.Accepted → length s ≤ 14749
     go (got x q) d e = let h = layout-closes .fills s 0 x q d in omega arith
     go (fault f) d e = let z : _≡_ {A = ℕ} 0 1 = cc in omega arith

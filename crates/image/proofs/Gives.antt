@@ -10,7 +10,7 @@ use lib.ListN.{length}
 use lib.Dec.{leb, ltb}
 use borrow.Author.Tests.{leb-true, ltb-true}
 use Rattle.net.specs.Choice.{choose, both}
-use Rattle.image.specs.BitReader.{Fault, Outcome, got, fault, Reader, done, andThen, _>>=_, _>>_, turns, each}
+use Rattle.image.specs.BitReader.{Fault, Parsed, got, fault, Reader, pure, andThen, _>>=_, _>>_, turns, each}
 use Rattle.image.specs.BitReader.{alternative, numbered, require, numberAt, judged, field, bits}
 use Rattle.net.proofs.Laws.{both-l, both-r}
 
@@ -19,7 +19,7 @@ pub record Listed (n : ℕ) : Type 0 where
   pub most : n ≤ 29
 
 -- an outcome is good: P holds of the value, or the fault has a number of the table
-pub data Fine {A : Type 0} (P : A → Type 0) : Outcome A → Type 0 where
+pub data Fine {A : Type 0} (P : A → Type 0) : Parsed A → Type 0 where
   value : {a : A} {q : ℕ} → P a → Fine P (got a q)
   stopped : {f : Fault} → Listed (f .number) → Fine P (fault f)
 
@@ -28,11 +28,11 @@ pub record Gives {A : Type 0} (m : Reader A) (P : A → Type 0) : Type 0 where
   pub run : (s : List ℕ) (p : ℕ) → Fine P (m s p)
 
 module _ {A : Type 0} where
-  pub gives-done : (P : A → Type 0) (a : A) → P a → Gives (done a) P
-  unfolding done
-  gives-done P a h = record { run = λ s p. value h }
+  pub gives-pure : (P : A → Type 0) (a : A) → P a → Gives (pure a) P
+  unfolding pure
+  gives-pure P a h = record { run = λ s p. value h }
 
-  fine-weaken : {P Q : A → Type 0} {o : Outcome A} → ((a : A) → P a → Q a) → Fine P o → Fine Q o
+  fine-weaken : {P Q : A → Type 0} {o : Parsed A} → ((a : A) → P a → Q a) → Fine P o → Fine Q o
   fine-weaken f (value {a} h) = value (f a h)
   fine-weaken f (stopped l) = stopped l
 
@@ -41,7 +41,7 @@ module _ {A : Type 0} where
 
 module _ {A B : Type 0} where
   fine-then :
-      {P : A → Type 0} {Q : B → Type 0} {o : Outcome A} (f : A → Reader B) (s : List ℕ) → Fine P o
+      {P : A → Type 0} {Q : B → Type 0} {o : Parsed A} (f : A → Reader B) (s : List ℕ) → Fine P o
       → ((a : A) → P a → Gives (f a) Q) → Fine Q (andThen o s f)
   unfolding andThen
   fine-then f s (value {a} {q} h) g = g a h .run s q
@@ -65,7 +65,7 @@ module _ {A : Type 0} (Inv : ℕ → A → Type 0) (n : ℕ) (f : ℕ → A → 
   gives-turns : (k i : ℕ) (a : A) → k + i ≡ n → Inv i a → Gives (turns k i f a) (Inv n)
   unfolding turns
   gives-turns zero i a e h =
-      let z : i ≡ n = omega arith in gives-done (Inv n) a (subst (λ (m : ℕ). Inv m a) z h)
+      let z : i ≡ n = omega arith in gives-pure (Inv n) a (subst (λ (m : ℕ). Inv m a) z h)
   gives-turns (suc k) i a e h =
       gives-then (again i (omega arith) a h) (λ b g. gives-turns k (suc i) b (omega arith) g)
 
@@ -93,7 +93,7 @@ module _ {A : Type 0} (P : A → Type 0) where
 
 -- ---- leaves
 fine-unless :
-    {A : Type 0} (P : A → Type 0) (b : Bool) (o : Outcome A) (n : ℕ) → Listed n → (b ≡ true → Fine P o)
+    {A : Type 0} (P : A → Type 0) (b : Bool) (o : Parsed A) (n : ℕ) → Listed n → (b ≡ true → Fine P o)
     → Fine P (choose b o (fault (numbered n)))
 unfolding choose numbered
 fine-unless P true o n l h = h refl

@@ -1,11 +1,11 @@
 -- What each turn of the image reader's loops comes to (`specs/Image.antt`), from what its parts came to.
 -- Assumes nothing.
 use Prim.Native.Nat.{ℕ}
-use mathlib.Core.Path.{_≡_, refl, sym, ap}
+use mathlib.Core.Path.{_≡_, ap}
 use mathlib.Core.List.{List}
 use lib.ListN.{set}
-use Rattle.image.specs.Types.{Place, Item, Field, Tuple, Rights, Row, Process, Node, Pattern, TemplateField, Instruction}
-use Rattle.net.specs.Records.{startingAt, nodeAt, withField, withRights, withRow, withProcess, withTuple, withPattern, withNode}
+use Rattle.image.specs.Types.{Place, Item, Tuple, Rights, Row, Process, Node, Changed, Pattern, Instruction}
+use Rattle.net.specs.Records.{startingAt, nodeAt, withField, withRights, withRow, withProcess, putIn, withPattern, withNode, addressOf, placeOf}
 use Rattle.image.specs.Types.{Net}
 use Rattle.net.specs.Records.{withInstruction, withAction}
 use Rattle.image.specs.Types.{Target, Action}
@@ -21,39 +21,40 @@ use Rattle.image.specs.Image.{instruction, instructionOf, kind, fresh, v
 use Rattle.image.proofs.ReaderLaws.{on, next, stop, stop-as}
 
 module _ (s : List ℕ) (p q : Step) where
-  pub rights-turn : (v l : ℕ) (r : Row) (x : Rights) → Went s p (field 4 0 16 28) q v → x ≡ rightsOf v
-      → Went s p (rights l r) q (record { create = r .create; rights = set (r .rights) l x })
+  pub rights-turn : (v i : ℕ) (r : Row) (x : Rights) → Went s p (field 4 0 16 28) q v → x ≡ rightsOf v
+      → Went s p (rights (addressOf i) r) q (record { create = r .create; rights = set (r .rights) i x })
   unfolding rights bits withRights
-  rights-turn v l r x w e = on s p q q _ _ v _ w (stop-as s q _ _ (ap (λ (y : Rights). withRights r l y) e))
+  rights-turn v i r x w e = on s p q q _ _ v _ w (stop-as s q _ _ (ap (λ (y : Rights). withRights r (addressOf i) y) e))
 
-  pub row-turn : (n a : ℕ) (net : Net) (r : Row) → Went s p (row n) q r → net .addresses ≡ n
-      → Went s p (rowOf a net) q (withNode net a (withRow (nodeAt net a) r))
+  pub row-turn : (n i : ℕ) (net : Net) (r : Row) → Went s p (row n) q r → net .addresses ≡ n
+      → Went s p (rowOf (addressOf i) net) q (withNode net (addressOf i) (withRow (nodeAt net (addressOf i)) r))
   unfolding rowOf
-  row-turn n a net r w e = on s p q q _ _ r _ (rw e w) (stop s q _)
+  row-turn n i net r w e = on s p q q _ _ r _ (rw e w) (stop s q _)
 
   pub process-turn : (k i : ℕ) (x : Node) (at : Place) (started : Process) → Went s p (place k) q at → started ≡ startingAt at
       → Went s p (process k i x) q (withProcess x i started)
   unfolding process
   process-turn k i x at started w e = on s p q q _ _ at _ w (stop-as s q _ _ (ap (withProcess x i) e))
 
-  pub processes-turn : (k a : ℕ) (net : Net) (x : Node) → Went s p (processes k (nodeAt net a)) q x → net .length ≡ k
-      → Went s p (processesOf a net) q (withNode net a x)
+  pub processes-turn : (k i : ℕ) (net : Net) (x : Node) → Went s p (processes k (nodeAt net (addressOf i))) q x → net .length ≡ k
+      → Went s p (processesOf (addressOf i) net) q (withNode net (addressOf i) x)
   unfolding processesOf nodeAt
-  processes-turn k a net x w e = on s p q q _ _ x _ (rw e w) (stop s q _)
+  processes-turn k i net x w e = on s p q q _ _ x _ (rw e w) (stop s q _)
 
   pub field-turn : (n i : ℕ) (t u : Tuple) (x : Item) → Went s p (item n) q x → u ≡ withField t (record { item = x })
       → Went s p (tupleField n i t) q u
   unfolding tupleField
   field-turn n i t u x w e = on s p q q _ _ x _ w (stop-as s q _ _ e)
 
-  pub tuple-turn : (n i : ℕ) (x y : Node) (t : Tuple) → Went s p (tuple n) q t → y ≡ withTuple x t → Went s p (stored n i x) q y
-  unfolding stored
-  tuple-turn n i x y t w e = on s p q q _ _ t _ w (stop-as s q _ _ e)
+  pub tuple-turn : (n i : ℕ) (x : Node) (put : Changed) (t : Tuple) → Went s p (tuple n) q t → put ≡ putIn x t
+      → Went s p (stored n i x) q (put .node)
+  unfolding stored putIn
+  tuple-turn n i x put t w e = on s p q q _ _ t _ w (stop-as s q _ _ (ap (λ (c : Changed). c .node) e))
 
-  pub tuples-turn : (n a : ℕ) (net : Net) (x : Node) → Went s p (tuples n (nodeAt net a)) q x → net .addresses ≡ n
-      → Went s p (tuplesOf a net) q (withNode net a x)
+  pub tuples-turn : (n i : ℕ) (net : Net) (x : Node) → Went s p (tuples n (nodeAt net (addressOf i))) q x → net .addresses ≡ n
+      → Went s p (tuplesOf (addressOf i) net) q (withNode net (addressOf i) x)
   unfolding tuplesOf nodeAt
-  tuples-turn n a net x w e = on s p q q _ _ x _ (rw e w) (stop s q _)
+  tuples-turn n i net x w e = on s p q q _ _ x _ (rw e w) (stop s q _)
 
   pub pattern-turn : (formals : Bool) (n i : ℕ) (c d : Instruction) (x : Pattern) → Went s p (pattern formals n c) q x
       → d ≡ withPattern c (record { pattern = x }) → Went s p (templateField formals n i c) q d
@@ -61,7 +62,7 @@ module _ (s : List ℕ) (p q : Step) where
   pattern-turn formals n i c d x w e = on s p q q _ _ x _ w (stop-as s q _ _ e)
 
   pub instruction-turn : (n k i : ℕ) (net : Net) (c : Instruction) → Went s p (instruction n k) q c → net .addresses ≡ n
-      → net .length ≡ k → Went s p (instructionOf i net) q (withInstruction net i c)
+      → net .length ≡ k → Went s p (instructionOf (placeOf i) net) q (withInstruction net (placeOf i) c)
   unfolding instructionOf
   instruction-turn n k i net c w e f = on s p q q _ _ c _ (rw (e, f) w) (stop s q _)
 

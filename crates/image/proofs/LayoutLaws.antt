@@ -1,8 +1,8 @@
 -- The whole of an image (`specs/Image.antt`): its header, its ending, its parts in order, and what it gives.
 -- Assumes nothing.
 use Prim.Native.Nat.{ℕ, _+_, _-_, _/_, _%_, _<_, _≤_}
-use mathlib.Core.Path.{_≡_, refl, sym, ap, _∙_}
-use mathlib.Core.Bool.{Bool, true, false}
+use mathlib.Core.Path.{_≡_, sym, ap, _∙_}
+use mathlib.Core.Bool.{Bool, false}
 use mathlib.Core.List.{List}
 use native.Mathlib.Omega.{arith}
 use lib.ListN.{length, length-take}
@@ -11,7 +11,7 @@ use borrow.Author.Tests.{eq-eqb, ne-eqb}
 use Rattle.net.specs.Choice.{choose, both}
 use Rattle.net.specs.Records.{emptyNet, withCounts}
 use Rattle.image.specs.Types.{Net}
-use Rattle.image.specs.BitReader.{Fault, Outcome, Reader, field, numberAt, numbered, require}
+use Rattle.image.specs.BitReader.{Fault, field, numbered, require}
 use Rattle.image.specs.Image.{Opened, header, rows, allProcesses, allTuples, code, padding, endsAt, ending, layout, admits}
 use Rattle.image.specs.Image.{accepted, refused, judgedNet, openedOf}
 use Rattle.image.specs.Progress.{Step, NetRead, seen, outcome, runFrom, Went, Headed, Built, Number}

@@ -1,6 +1,6 @@
 -- Laws of readers run from a step (`specs/Progress.antt`): what the parts came to, the whole comes to.
 -- Assumes nothing.
-use Prim.Native.Nat.{ℕ, zero, suc, _+_, _-_, _<_, _≤_}
+use Prim.Native.Nat.{ℕ, suc, _+_, _-_, _<_, _≤_}
 use mathlib.Core.Path.{_≡_, refl, sym, ap, _∙_}
 use mathlib.Core.Bool.{Bool, true, false}
 use mathlib.Core.List.{List}
@@ -9,29 +9,29 @@ use native.Mathlib.Nat.{sub-zero}
 use native.Mathlib.Numerals.{add-one}
 use native.Mathlib.Omega.{arith}
 use Rattle.net.specs.Choice.{choose}
-use Rattle.image.specs.BitReader.{Fault, Outcome, got, fault, Reader, done, andThen, _>>=_, _>>_, turns, each}
+use Rattle.image.specs.BitReader.{Fault, Parsed, Reader, pure, andThen, _>>=_, _>>_, turns, each}
 use Rattle.image.specs.BitReader.{alternative, require, numbered}
 use Rattle.image.specs.Progress.{Step, outcome, runFrom, Went, Loop}
 use Rattle.net.proofs.Laws.{choose-true, choose-false}
 
 module _ {A : Type 0} (s : List ℕ) where
   -- a value with no bit read
-  pub stop : (p : Step) (a : A) → Went s p (done a) p a
-  unfolding outcome runFrom done
+  pub stop : (p : Step) (a : A) → Went s p (pure a) p a
+  unfolding outcome runFrom pure
   stop (Step.At p) a = record { went = refl }
   stop (Step.Failed f) a = record { went = refl }
 
-  pub stop-as : (p : Step) (a b : A) → a ≡ b → Went s p (done b) p a
+  pub stop-as : (p : Step) (a b : A) → a ≡ b → Went s p (pure b) p a
   stop-as p a b e = rw e (stop p b)
 
-  pub stop-at : (p q : Step) (a b : A) → q ≡ p → a ≡ b → Went s p (done b) q a
+  pub stop-at : (p q : Step) (a b : A) → q ≡ p → a ≡ b → Went s p (pure b) q a
   stop-at p q a b d e = rw (d, e) (stop p b)
 
 module _ {A B : Type 0} (s : List ℕ) where
   bound : (p q : Step) (m : Reader A) (f : A → Reader B) (a : A) → outcome q a ≡ runFrom s p m → runFrom s p (m >>= f) ≡ runFrom s q (f a)
   unfolding outcome runFrom _>>=_ andThen
-  bound (Step.At p) (Step.At q) m f a e = ap (λ (o : Outcome A). andThen o s f) (sym e)
-  bound (Step.At p) (Step.Failed g) m f a e = ap (λ (o : Outcome A). andThen o s f) (sym e)
+  bound (Step.At p) (Step.At q) m f a e = ap (λ (o : Parsed A). andThen o s f) (sym e)
+  bound (Step.At p) (Step.Failed g) m f a e = ap (λ (o : Parsed A). andThen o s f) (sym e)
   bound (Step.Failed h) (Step.At q) m f a e = cc
   bound (Step.Failed h) (Step.Failed g) m f a e = cc
 

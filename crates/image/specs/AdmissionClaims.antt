@@ -20,9 +20,9 @@ pub record StartsWithin (s : Net) : Type 0 where
       (a : Locality) (slot : ℕ) (q : Place)
       → a .0 < s .addresses
       → slot < 4
-      → processAt (nodeAt s (a .0)) slot .busy ≡ true
-      → Reaches (s .code) (processAt (nodeAt s (a .0)) slot .at) q
-      → permits (nodeAt s (a .0) .row) a (instructionAt (s .code) (q .0) .action) ≡ true
+      → processAt (nodeAt s a) slot .busy ≡ true
+      → Reaches (s .code) (processAt (nodeAt s a) slot .at) q
+      → permits (nodeAt s a .row) a (instructionAt (s .code) q .action) ≡ true
 
 -- the computed check says just that, of every net with no more addresses and instructions than a net has room for
 unfoldable pub AdmitsIsWithin : Type 0

@@ -2,24 +2,24 @@
 -- after it, or to the first fault.
 pub use Rattle.image.specs.declared.reader.Fault.{Fault}
 use Prim.Native.Nat.{ℕ, zero, suc, _+_, _-_, _*_, _/_, _%_, _^_}
-use mathlib.Core.Bool.{Bool, true, false}
+use mathlib.Core.Bool.{Bool}
 use mathlib.Core.List.{List}
 use lib.ListN.{getD, length}
 use lib.Dec.{leb, ltb}
 use Rattle.net.specs.Choice.{choose, both}
 
-pub data Outcome (A : Type 0) : Type 0 where
-  got : A → ℕ → Outcome A
-  fault : Fault → Outcome A
+pub data Parsed (A : Type 0) : Type 0 where
+  got : A → ℕ → Parsed A
+  fault : Fault → Parsed A
 
 abbrev pub Reader : Type 0 → Type 0
-Reader A = List ℕ → ℕ → Outcome A
+Reader A = List ℕ → ℕ → Parsed A
 
 -- the value, with no bit read
-unfoldable pub done : {A : Type 0} → A → Reader A
-done a s p = got a p
+unfoldable pub pure : {A : Type 0} → A → Reader A
+pure a s p = got a p
 
-unfoldable pub andThen : {A B : Type 0} → Outcome A → List ℕ → (A → Reader B) → Outcome B
+unfoldable pub andThen : {A B : Type 0} → Parsed A → List ℕ → (A → Reader B) → Parsed B
 andThen (got a q) s f = f a s q
 andThen (fault n) s f = fault n
 
@@ -33,7 +33,7 @@ _>>_ m f = m >>= (λ a. f)
 
 -- k turns from number i on, each on what the last one gave
 unfoldable pub turns : {A : Type 0} → ℕ → ℕ → (ℕ → A → Reader A) → A → Reader A
-turns zero i f a = done a
+turns zero i f a = pure a
 turns (suc k) i f a = f i a >>= turns k (suc i) f
 
 -- a turn for each number below n
@@ -61,7 +61,7 @@ numberAt s p zero = 0
 numberAt s p (suc w) = numberAt s p w * 2 + bitAt s (p + w)
 
 -- a number from `low` up to below `end`, or the fault n
-unfoldable pub judged : ℕ → ℕ → ℕ → ℕ → ℕ → Outcome ℕ
+unfoldable pub judged : ℕ → ℕ → ℕ → ℕ → ℕ → Parsed ℕ
 judged low end n q v = choose (both (leb low v) (ltb v end)) (got v q) (fault (numbered n))
 
 -- a field of w bits: 28 where the bits end before its last bit

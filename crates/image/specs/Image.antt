@@ -1,6 +1,6 @@
 -- The image (document 01, "The image", "Numbers for an image"): the layout in the order of the paper, giving the net
 -- that it writes down or the number of its first fault. In what follows n is the address count and k the code length.
-pub use Rattle.image.specs.declared.reader.Answer.{Answer}
+pub use Rattle.image.specs.declared.reader.Verdict.{Verdict}
 pub use Rattle.image.specs.declared.reader.Opened.{Opened}
 use Prim.Native.Nat.{ℕ, _+_, _-_, _/_, _%_}
 use mathlib.Core.Bool.{Bool, true, false, not}
@@ -11,13 +11,20 @@ use lib.IntN.{ℤ}
 use Rattle.net.specs.Choice.{choose, both, implies, all}
 use Rattle.image.specs.Types.{Locality, Place, Item, Tuple, Rights, Row, Process, Node}
 use Rattle.image.specs.Types.{Target, Pattern, Action, Instruction, Net}
-use Rattle.net.specs.Records.{processAt, nodeAt, startingAt, zeroTuple, zeroRow, zeroInstruction, emptyNet}
+use Rattle.net.specs.Records.{processAt, nodeAt, startingAt, zeroTuple, zeroRow, zeroInstruction, emptyNet, addressOf, placeOf}
 use Rattle.net.specs.Records.{withField, withRights, withRow, withProcess, withTuple, withPattern, withAction}
 use Rattle.net.specs.Records.{withNode, withInstruction, withCounts}
 use Rattle.net.specs.Soundness.{unboundBefore}
 use Rattle.net.specs.Keeping.{keepsOf}
-use Rattle.image.specs.BitReader.{Fault, Outcome, got, fault, Reader, done, _>>=_, _>>_, each, alternative}
+use Rattle.image.specs.BitReader.{Fault, Parsed, got, fault, Reader, pure, _>>=_, _>>_, each, alternative}
 use Rattle.image.specs.BitReader.{numbered, require, numberAt, field, bits}
+
+-- ---- a turn for each of n addresses, and for each of k code places
+unfoldable pub eachAddress : {A : Type 0} → ℕ → (Locality → A → Reader A) → A → Reader A
+eachAddress n f a = each n (λ i. f (addressOf i)) a
+
+unfoldable pub eachPlace : {A : Type 0} → ℕ → (Place → A → Reader A) → A → Reader A
+eachPlace k f a = each k (λ i. f (placeOf i)) a
 
 -- ---- fields that stand in several places
 
@@ -25,13 +32,13 @@ use Rattle.image.specs.BitReader.{numbered, require, numberAt, field, bi
 unfoldable pub address : ℕ → Reader Locality
 address n = do
   l ← field 4 0 n 23
-  done (record { 0 = l })
+  pure (addressOf l)
 
 -- a code place of 9 bits, below the code length
 unfoldable pub place : ℕ → Reader Place
 place k = do
   p ← field 9 0 k 24
-  done (record { 0 = p })
+  pure (placeOf p)
 
 -- a variable of 3 bits
 unfoldable pub variable : Reader ℕ
@@ -44,7 +51,7 @@ signed v = choose (ltb v 2147483648) (ℤ.pos v) (ℤ.negsuc (4294967295 - v))
 unfoldable pub reading : Reader ℤ
 reading = do
   v ← bits 32
-  done (signed v)
+  pure (signed v)
 
 -- ---- 1. format, address count, code length
 unfoldable pub header : Reader Net
@@ -52,7 +59,7 @@ header = do
   format ← field 4 1 2 21
   n ← field 5 1 17 22
   k ← field 10 1 513 22
-  done (withCounts emptyNet n k)
+  pure (withCounts emptyNet n k)
 
 -- ---- 2. for each address a row: n, and for each address i, r, o, e
 unfoldable pub isSetBit : ℕ → ℕ → Bool
@@ -64,53 +71,53 @@ rightsOf v = record { take = isSetBit v 8; read = isSetBit v 4; put = isSetBit v
 unfoldable pub creating : ℕ → Row
 creating v = record { create = eqb v 1; rights = zeroRow .rights }
 
-unfoldable pub rights : ℕ → Row → Reader Row
+unfoldable pub rights : Locality → Row → Reader Row
 rights l r = do
   v ← bits 4
-  done (withRights r l (rightsOf v))
+  pure (withRights r l (rightsOf v))
 
 unfoldable pub row : ℕ → Reader Row
 row n = do
   v ← bits 1
-  each n rights (creating v)
+  eachAddress n rights (creating v)
 
-unfoldable pub rowOf : ℕ → Net → Reader Net
+unfoldable pub rowOf : Locality → Net → Reader Net
 rowOf a s = do
   r ← row (s .addresses)
-  done (withNode s a (withRow (nodeAt s a) r))
+  pure (withNode s a (withRow (nodeAt s a) r))
 
 unfoldable pub rows : Net → Reader Net
-rows s = each (s .addresses) rowOf s
+rows s = eachAddress (s .addresses) rowOf s
 
 -- ---- 3. for each address its processes, which fill slots 0 upward
 unfoldable pub process : ℕ → ℕ → Node → Reader Node
 process k slot x = do
   p ← place k
-  done (withProcess x slot (startingAt p))
+  pure (withProcess x slot (startingAt p))
 
 unfoldable pub processes : ℕ → Node → Reader Node
 processes k x = do
   count ← field 3 0 5 22
   each count (process k) x
 
-unfoldable pub processesOf : ℕ → Net → Reader Net
+unfoldable pub processesOf : Locality → Net → Reader Net
 processesOf a s = do
   x ← processes (s .length) (nodeAt s a)
-  done (withNode s a x)
+  pure (withNode s a x)
 
 unfoldable pub allProcesses : Net → Reader Net
-allProcesses s = each (s .addresses) processesOf s
+allProcesses s = eachAddress (s .addresses) processesOf s
 
 -- ---- 4. for each address its tuples, oldest first
 unfoldable pub readingItem : Reader Item
 readingItem = do
   x ← reading
-  done (Item.Reading x)
+  pure (Item.Reading x)
 
 unfoldable pub addressItem : ℕ → Reader Item
 addressItem n = do
   l ← address n
-  done (Item.Address l)
+  pure (Item.Address l)
 
 unfoldable pub item : ℕ → Reader Item
 item n = do
@@ -120,7 +127,7 @@ item n = do
 unfoldable pub tupleField : ℕ → ℕ → Tuple → Reader Tuple
 tupleField n i t = do
   x ← item n
-  done (withField t (record { item = x }))
+  pure (withField t (record { item = x }))
 
 unfoldable pub tuple : ℕ → Reader Tuple
 tuple n = do
@@ -130,88 +137,88 @@ tuple n = do
 unfoldable pub stored : ℕ → ℕ → Node → Reader Node
 stored n i x = do
   t ← tuple n
-  done (withTuple x t)
+  pure (withTuple x t)
 
 unfoldable pub tuples : ℕ → Node → Reader Node
 tuples n x = do
   count ← field 5 0 17 22
   each count (stored n) x
 
-unfoldable pub tuplesOf : ℕ → Net → Reader Net
+unfoldable pub tuplesOf : Locality → Net → Reader Net
 tuplesOf a s = do
   x ← tuples (s .addresses) (nodeAt s a)
-  done (withNode s a x)
+  pure (withNode s a x)
 
 unfoldable pub allTuples : Net → Reader Net
-allTuples s = each (s .addresses) tuplesOf s
+allTuples s = eachAddress (s .addresses) tuplesOf s
 
 -- ---- 5. instructions
 unfoldable pub writtenTarget : ℕ → Reader Target
 writtenTarget n = do
   l ← address n
-  done (Target.Written l)
+  pure (Target.Written l)
 
 unfoldable pub heldTarget : Reader Target
 heldTarget = do
   v ← variable
-  done (Target.Held v)
+  pure (Target.Held v)
 
 unfoldable pub target : ℕ → Reader Target
 target n = do
   kind ← field 2 0 3 25
-  alternative (writtenTarget n ∷ done Target.Own ∷ []) heldTarget kind
+  alternative (writtenTarget n ∷ pure Target.Own ∷ []) heldTarget kind
 
 unfoldable pub readingPattern : Reader Pattern
 readingPattern = do
   x ← reading
-  done (Pattern.Reading x)
+  pure (Pattern.Reading x)
 
 unfoldable pub addressPattern : ℕ → Reader Pattern
 addressPattern n = do
   l ← address n
-  done (Pattern.Address l)
+  pure (Pattern.Address l)
 
 unfoldable pub heldPattern : Reader Pattern
 heldPattern = do
   v ← variable
-  done (Pattern.Held v)
+  pure (Pattern.Held v)
 
 -- a formal's variable: 27 where an earlier field of the template c has it too
 unfoldable pub fresh : Instruction → Reader ℕ
 fresh c = do
   v ← variable
   require (unboundBefore c (c .count) v) 27
-  done v
+  pure v
 
 unfoldable pub formalReading : Instruction → Reader Pattern
 formalReading c = do
   v ← fresh c
-  done (Pattern.FormalReading v)
+  pure (Pattern.FormalReading v)
 
 unfoldable pub formalAddress : Instruction → Reader Pattern
 formalAddress c = do
   v ← fresh c
-  done (Pattern.FormalAddress v)
+  pure (Pattern.FormalAddress v)
 
 -- the kind of a field: 26 at a formal where `formals` are not allowed
 unfoldable pub kind : Bool → Reader ℕ
 kind formals = do
   v ← field 3 0 6 25
   require (implies (not formals) (ltb v 4)) 26
-  done v
+  pure v
 
 unfoldable pub pattern : Bool → ℕ → Instruction → Reader Pattern
 pattern formals n c = do
   v ← kind formals
   alternative
-      (readingPattern ∷ addressPattern n ∷ done Pattern.Own ∷ heldPattern ∷ formalReading c ∷ [])
+      (readingPattern ∷ addressPattern n ∷ pure Pattern.Own ∷ heldPattern ∷ formalReading c ∷ [])
       (formalAddress c)
       v
 
 unfoldable pub templateField : Bool → ℕ → ℕ → Instruction → Reader Instruction
 templateField formals n i c = do
   x ← pattern formals n c
-  done (withPattern c (record { pattern = x }))
+  pure (withPattern c (record { pattern = x }))
 
 unfoldable pub template : Bool → ℕ → Reader Instruction
 template formals n = do
@@ -224,32 +231,32 @@ communication make formals n k = do
   t ← target n
   c ← template formals n
   p ← place k
-  done (withAction c (make t p))
+  pure (withAction c (make t p))
 
 unfoldable pub evaluation : ℕ → ℕ → Reader Instruction
 evaluation n k = do
   t ← target n
   sent ← place k
   p ← place k
-  done (withAction zeroInstruction (Action.Eval t sent p))
+  pure (withAction zeroInstruction (Action.Eval t sent p))
 
 unfoldable pub creation : ℕ → Reader Instruction
 creation k = do
   v ← variable
   p ← place k
-  done (withAction zeroInstruction (Action.New v p))
+  pure (withAction zeroInstruction (Action.New v p))
 
 unfoldable pub forking : ℕ → Reader Instruction
 forking k = do
   p ← place k
   q ← place k
-  done (withAction zeroInstruction (Action.Fork p q))
+  pure (withAction zeroInstruction (Action.Fork p q))
 
 unfoldable pub instruction : ℕ → ℕ → Reader Instruction
 instruction n k = do
   action ← field 3 0 7 25
   alternative
-      (done zeroInstruction
+      (pure zeroInstruction
       ∷ communication Action.Out false n k
       ∷ communication Action.In true n k
       ∷ communication Action.Read true n k
@@ -259,13 +266,13 @@ instruction n k = do
       (forking k)
       action
 
-unfoldable pub instructionOf : ℕ → Net → Reader Net
+unfoldable pub instructionOf : Place → Net → Reader Net
 instructionOf p s = do
   c ← instruction (s .addresses) (s .length)
-  done (withInstruction s p c)
+  pure (withInstruction s p c)
 
 unfoldable pub code : Net → Reader Net
-code s = each (s .length) instructionOf s
+code s = eachPlace (s .length) instructionOf s
 
 -- ---- 6. zero bits to the end of the byte, and no further byte
 unfoldable pub padding : ℕ → ℕ
@@ -286,25 +293,28 @@ layout = do
   s₄ ← allTuples s₃
   s₅ ← code s₄
   ending
-  done s₅
+  pure s₅
 
 -- each starting process keeps within the row of its node: judged once 21 to 29 are absent
-unfoldable pub admitsProcess : List Instruction → Row → ℕ → Process → Bool
-admitsProcess code r a p = implies (p .busy) (keepsOf code (p .at) (record { 0 = a }) r)
+unfoldable pub admitsProcess : List Instruction → Row → Locality → Process → Bool
+admitsProcess code r a p = implies (p .busy) (keepsOf code (p .at) a r)
 
-unfoldable pub admitsNode : List Instruction → ℕ → Node → Bool
+unfoldable pub admitsNode : List Instruction → Locality → Node → Bool
 admitsNode code a x = all 4 (λ i. admitsProcess code (x .row) a (processAt x i))
 
+unfoldable pub admitsAt : Net → Locality → Bool
+admitsAt s a = implies (ltb (a .0) (s .addresses)) (admitsNode (s .code) a (nodeAt s a))
+
 unfoldable pub admits : Net → Bool
-admits s = all 16 (λ a. implies (ltb a (s .addresses)) (admitsNode (s .code) a (nodeAt s a)))
+admits s = all 16 (λ i. admitsAt s (addressOf i))
 
 unfoldable pub refused : Fault → Opened
-refused f = record { answer = Answer.Refused f; net = emptyNet }
+refused f = record { answer = Verdict.Refused f; net = emptyNet }
 
 unfoldable pub accepted : Net → Opened
-accepted s = record { answer = Answer.Accepted; net = s }
+accepted s = record { answer = Verdict.Accepted; net = s }
 
-unfoldable pub judgedNet : Outcome Net → Opened
+unfoldable pub judgedNet : Parsed Net → Opened
 judgedNet (got s p) = choose (admits s) (accepted s) (refused (numbered 30))
 judgedNet (fault f) = refused f
 
@@ -312,7 +322,7 @@ judgedNet (fault f) = refused f
 unfoldable pub openedOf : List ℕ → Opened
 openedOf image = judgedNet (layout image 0)
 
--- the paper's number of an answer; 0 where the image is accepted
-unfoldable pub numberOf : Answer → ℕ
-numberOf Answer.Accepted = 0
-numberOf (Answer.Refused f) = f .number
+-- the paper's number of a verdict; 0 where the image is accepted
+unfoldable pub numberOf : Verdict → ℕ
+numberOf Verdict.Accepted = 0
+numberOf (Verdict.Refused f) = f .number

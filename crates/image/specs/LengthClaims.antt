@@ -3,7 +3,7 @@ use Prim.Native.Nat.{ℕ, _≤_}
 use mathlib.Core.Path.{_≡_}
 use mathlib.Core.List.{List}
 use lib.ListN.{length, take}
-use Rattle.image.specs.Image.{Answer, openedOf}
+use Rattle.image.specs.Image.{Verdict, openedOf}
 
 -- the first 14,750 bytes decide what an image gives
 unfoldable pub FirstBytesDecide : Type 0
@@ -11,4 +11,4 @@ FirstBytesDecide = (s : List ℕ) (k : ℕ) → 14750 ≤ k → openedOf (take k
 
 -- no accepted image is longer than 14,749 bytes
 unfoldable pub LongestAccepted : Type 0
-LongestAccepted = (s : List ℕ) → openedOf s .answer ≡ Answer.Accepted → length s ≤ 14749
+LongestAccepted = (s : List ℕ) → openedOf s .answer ≡ Verdict.Accepted → length s ≤ 14749

@@ -1,5 +1,6 @@
--- How the code's readers keep to the definitions: they hand on a step, which is the place of the next bit or the first
--- fault, and look at the first 16,384 bytes of an image alone (`LengthClaims.antt` says that this changes nothing).
+-- Describes the code, and is no part of what a reader has to believe: how the readers of `src/`
+-- keep to the definitions. They hand on a step, which is the place of the next bit or the first fault, and look at the
+-- first 16,384 bytes of an image alone (`LengthClaims.antt` says that this changes nothing).
 pub use Rattle.image.specs.declared.bits.Step.{Step}
 pub use Rattle.image.specs.declared.bits.Taken.{Taken}
 pub use Rattle.image.specs.declared.bits.NetRead.{NetRead}
@@ -12,19 +13,19 @@ use Rattle.image.specs.Image.{communication}
 use mathlib.Core.Path.{_≡_}
 use mathlib.Core.List.{List}
 use lib.ListN.{take}
-use Rattle.image.specs.BitReader.{Outcome, got, fault, Reader, numberAt, bitAt, each, turns}
+use Rattle.image.specs.BitReader.{Parsed, got, fault, Reader, numberAt, bitAt, each, turns}
 
 -- the bytes that the code looks at
 unfoldable pub seen : List ℕ → List ℕ
 seen image = take 16384 image
 
 -- a value at a step, as an outcome: after a fault the value counts for nothing
-unfoldable pub outcome : {A : Type 0} → Step → A → Outcome A
+unfoldable pub outcome : {A : Type 0} → Step → A → Parsed A
 outcome (Step.At p) a = got a p
 outcome (Step.Failed f) a = fault f
 
 -- a reader run from a step
-unfoldable pub runFrom : {A : Type 0} → List ℕ → Step → Reader A → Outcome A
+unfoldable pub runFrom : {A : Type 0} → List ℕ → Step → Reader A → Parsed A
 runFrom s (Step.At p) m = m s p
 runFrom s (Step.Failed f) m = fault f
 
@@ -43,13 +44,13 @@ pub record Number (s : List ℕ) (p w r : ℕ) : Type 0 where
   pub small : r < 2 ^ w
 
 -- a field's value and step, as an outcome, with its range
-pub record Took (o : Outcome ℕ) (w end : ℕ) (r : Taken) : Type 0 where
+pub record Took (o : Parsed ℕ) (w end : ℕ) (r : Taken) : Type 0 where
   pub took : outcome (r .next) (r .value) ≡ o
   pub narrow : r .value < 2 ^ w
   pub below : r .value ≤ end - 1
 
 -- the same of a field read from a step
-pub record Field (s : List ℕ) (p : Step) (m : Reader ℕ) (w end : ℕ) (r : Taken) : Type 0 where
+pub record TookFrom (s : List ℕ) (p : Step) (m : Reader ℕ) (w end : ℕ) (r : Taken) : Type 0 where
   pub read : Went s p m (r .next) (r .value)
   pub narrow : r .value < 2 ^ w
   pub below : r .value ≤ end - 1

@@ -3,11 +3,11 @@
 use crate::reader::Fault;
 use net::network::Net;
 use net::node::Node;
-ghost use Prim.Native.Nat.{ℕ, _+_, _*_, _-_, _<_, _≤_, _^_};
+ghost use Prim.Native.Nat.{_+_, _*_, _-_, _<_, _≤_, _^_};
 ghost use mathlib.Core.Path.{_≡_};
 ghost use lib.ListN.{length};
-ghost use Rattle.image.specs.BitReader.{judged, field, numbered, Outcome, fault};
-ghost use Rattle.image.specs.Progress.{seen, Bit, Number, Took, Field};
+ghost use Rattle.image.specs.BitReader.{judged, field, numbered, fault};
+ghost use Rattle.image.specs.Progress.{seen, Bit, Number, Took, TookFrom};
 
 // Where reading stands: at the place of the next bit, or past the first fault.
 pub enum Step {
@@ -179,7 +179,7 @@ fn take_at(s: &[u8], p: usize, w: usize, low: usize, end: usize, n: u8) -> Taken
 // A field from a step: the number of w bits from low up to below end, or the fault n, or 28.
 pub fn take(s: &[u8], from: Step, w: usize, low: usize, end: usize, n: u8) -> Taken
     requires { ⌜ w ≤ 32 ⌝ }
-    ensures { λ r. ⌜ Field (seen (now (s .entry))) from (field w low end n) w end r ⌝ }
+    ensures { λ r. ⌜ TookFrom (seen (now (s .entry))) from (field w low end n) w end r ⌝ }
 {
     match from {
         Step::At(p) => take_at(s, p, w, low, end, n),

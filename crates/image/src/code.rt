@@ -14,28 +14,28 @@ use net::network::Net;
 ghost use Prim.Native.Nat.{_≤_};
 ghost use Rattle.image.specs.Image.{writtenTarget, heldTarget, target, communication, evaluation, creation};
 ghost use Rattle.image.specs.Image.{forking, instruction, code};
-ghost use Rattle.image.specs.BitReader.{done};
+ghost use Rattle.image.specs.BitReader.{pure};
 ghost use Rattle.image.specs.Progress.{seen, Went, Built, Spoken};
 ghost use Rattle.net.specs.Records.{withAction, zeroInstruction};
 ghost use mathlib.Core.Path.{_≡_};
 ghost use mathlib.Core.Bool.{true, false};
 
-pub struct TargetRead {
-    pub target: Target,
-    pub next: Step,
+struct TargetRead {
+    target: Target,
+    next: Step,
 }
 
-pub struct CodeRead {
-    pub instruction: Instruction,
-    pub next: Step,
+struct CodeRead {
+    instruction: Instruction,
+    next: Step,
 }
 
 // The parts of an out, an in or a read.
-pub struct PartsRead {
-    pub target: Target,
-    pub template: Instruction,
-    pub place: Place,
-    pub next: Step,
+struct PartsRead {
+    target: Target,
+    template: Instruction,
+    place: Place,
+    next: Step,
 }
 
 fn read_written(s: &[u8], from: Step, n: usize) -> TargetRead
@@ -49,7 +49,7 @@ fn read_written(s: &[u8], from: Step, n: usize) -> TargetRead
 }
 
 fn own_target(s: &[u8], from: Step) -> TargetRead
-    ensures { λ r. ⌜ Went (seen (now (s .entry))) from (done Target.Own) (r .next) (r .target) ⌝ }
+    ensures { λ r. ⌜ Went (seen (now (s .entry))) from (pure Target.Own) (r .next) (r .target) ⌝ }
 {
     let target = Target::Own;
     TargetRead { target, next: from }
@@ -192,7 +192,7 @@ fn read_fork(s: &[u8], from: Step, k: usize) -> CodeRead
 }
 
 fn stop(s: &[u8], from: Step) -> CodeRead
-    ensures { λ r. ⌜ Went (seen (now (s .entry))) from (done zeroInstruction) (r .next) (r .instruction) ⌝ }
+    ensures { λ r. ⌜ Went (seen (now (s .entry))) from (pure zeroInstruction) (r .next) (r .instruction) ⌝ }
 {
     let instruction = Instruction::zero();
     CodeRead {

@@ -16,15 +16,13 @@ use net::network::Net;
 use net::node::Node;
 use net::policy::Row;
 use net::process::Process;
-ghost use Prim.Native.Nat.{_≤_, _<_};
+ghost use Prim.Native.Nat.{_<_};
 ghost use mathlib.Core.Path.{_≡_};
-ghost use lib.Dec.{ltb};
 ghost use Rattle.image.specs.BitReader.{numbered};
-ghost use Rattle.net.specs.Choice.{choose, implies};
-ghost use Rattle.image.specs.Image.{header, padding, endsAt, ending, layout, admitsProcess, admitsNode, admits};
-ghost use Rattle.image.specs.Image.{refused, accepted, judgedNet, openedOf};
+ghost use Rattle.net.specs.Choice.{choose};
+ghost use Rattle.image.specs.Image.{header, padding, endsAt, ending, layout, admitsProcess, admitsNode, admitsAt, admits};
+ghost use Rattle.image.specs.Image.{refused, accepted, openedOf};
 ghost use Rattle.image.specs.Progress.{seen, Step, Went, Headed};
-ghost use Rattle.net.specs.Records.{nodeAt, processAt};
 
 // What a refusal carries: the number of the first fault.
 pub struct Fault {
@@ -32,14 +30,14 @@ pub struct Fault {
 }
 
 // What reading an image answers.
-pub enum Answer {
+pub enum Verdict {
     Accepted,
     Refused(Fault),
 }
 
 // The answer with the net: the one that the image writes down, or the empty net.
 pub struct Opened {
-    pub answer: Answer,
+    pub answer: Verdict,
     pub net: Net,
 }
 
@@ -115,7 +113,7 @@ fn read_layout(s: &[u8]) -> NetRead
 
 // Whether a process of address a keeps within its row.
 fn admits_process(code: [Instruction; 512], row: Row, a: Locality, p: Process) -> bool
-    ensures { λ r. ⌜ r ≡ admitsProcess code row (a .0) p ⌝ }
+    ensures { λ r. ⌜ r ≡ admitsProcess code row a p ⌝ }
 {
     let at = p.at;
     if p.busy {
@@ -127,7 +125,7 @@ fn admits_process(code: [Instruction; 512], row: Row, a: Locality, p: Process) -
 
 // Whether each process of a node keeps within its row.
 fn admits_node(code: [Instruction; 512], a: Locality, x: Node) -> bool
-    ensures { λ r. ⌜ r ≡ admitsNode code (a .0) x ⌝ }
+    ensures { λ r. ⌜ r ≡ admitsNode code a x ⌝ }
 {
     let row = x.row;
     let mut ok = true;
@@ -142,15 +140,14 @@ fn admits_node(code: [Instruction; 512], a: Locality, x: Node) -> bool
 }
 
 // The same at an address, where it is in use.
-fn admits_at(net: Net, i: usize) -> bool
-    requires { ⌜ i < 16 ⌝ }
-    ensures { λ r. ⌜ r ≡ implies (ltb i (net .addresses)) (admitsNode (net .code) i (nodeAt net i)) ⌝ }
+fn admits_at(net: Net, a: Locality) -> bool
+    requires { ⌜ a .0 < 16 ⌝ }
+    ensures { λ r. ⌜ r ≡ admitsAt net a ⌝ }
 {
+    let at = a.0 as usize;
     let code = net.code;
-    let node = net.nodes[i];
-    let at = i as u8;
-    let a = Locality(at);
-    if i < net.addresses {
+    let node = net.nodes[at];
+    if at < net.addresses {
         admits_node(code, a, node)
     } else {
         true
@@ -162,9 +159,9 @@ pub fn admitted(net: Net) -> bool
     ensures { λ r. ⌜ r ≡ admits net ⌝ }
 {
     let mut ok = true;
-    let mut i = 0;
+    let mut i: usize = 0;
     while i < 16 {
-        let good = admits_at(net, i);
+        let good = admits_at(net, Locality(i as u8));
         ok = ok & good;
         i += 1;
     }
@@ -175,7 +172,7 @@ pub fn admitted(net: Net) -> bool
 fn refuse(fault: Fault) -> Opened
     ensures { λ r. ⌜ r ≡ refused fault ⌝ }
 {
-    let answer = Answer::Refused(fault);
+    let answer = Verdict::Refused(fault);
     let net = Net::empty();
     Opened { answer, net }
 }
@@ -185,7 +182,7 @@ fn judge(net: Net) -> Opened
     ensures { λ r. ⌜ r ≡ choose (admits net) (accepted net) (refused (numbered 30)) ⌝ }
 {
     if admitted(net) {
-        let answer = Answer::Accepted;
+        let answer = Verdict::Accepted;
         Opened { answer, net }
     } else {
         let fault = Fault { number: 30 };

@@ -7,13 +7,12 @@ use net::policy::Rights;
 use net::policy::Row;
 ghost use Prim.Native.Nat.{_<_, _≤_};
 ghost use mathlib.Core.Path.{_≡_};
-ghost use Rattle.image.specs.BitReader.{each};
-ghost use Rattle.image.specs.Image.{isSetBit, rightsOf, creating, rights, row, rowOf, rows};
+ghost use Rattle.image.specs.Image.{isSetBit, rightsOf, creating, eachAddress, rights, row, rows};
 ghost use Rattle.image.specs.Progress.{seen, Went, Built};
 
-pub struct RowRead {
-    pub row: Row,
-    pub next: Step,
+struct RowRead {
+    row: Row,
+    next: Step,
 }
 
 // Whether the bit of that unit is set in a number.
@@ -54,7 +53,7 @@ fn creating_row(v: usize) -> Row
 // The rights over each of n addresses.
 fn read_rights(s: &[u8], from: Step, n: usize, start: Row) -> RowRead
     requires { ⌜ n ≤ 16 ⌝ }
-    ensures { λ r. ⌜ Went (seen (now (s .entry))) from (each n rights start) (r .next) (r .row) ⌝ }
+    ensures { λ r. ⌜ Went (seen (now (s .entry))) from (eachAddress n rights start) (r .next) (r .row) ⌝ }
 {
     let mut row = start;
     let mut step = from;

@@ -16,14 +16,14 @@ ghost use Rattle.image.specs.Image.{readingItem, addressItem, item, tupl
 ghost use Rattle.image.specs.Progress.{seen, Went, Built};
 ghost use Rattle.net.specs.Records.{zeroTuple};
 
-pub struct ItemRead {
-    pub item: Item,
-    pub next: Step,
+struct ItemRead {
+    item: Item,
+    next: Step,
 }
 
-pub struct TupleRead {
-    pub tuple: Tuple,
-    pub next: Step,
+struct TupleRead {
+    tuple: Tuple,
+    next: Step,
 }
 
 fn read_reading_item(s: &[u8], from: Step) -> ItemRead
@@ -95,7 +95,8 @@ fn read_store(s: &[u8], from: Step, n: usize, count: usize, start: Node) -> Node
     while i < count {
         let got = read_tuple(s, step, n);
         let tuple = got.tuple;
-        node = node.with_tuple(tuple);
+        let put = node.put(tuple);
+        node = put.node;
         step = got.next;
         i += 1;
     }

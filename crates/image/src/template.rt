@@ -11,21 +11,21 @@ use net::instruction::Instruction;
 use net::instruction::Pattern;
 use net::instruction::TemplateField;
 use net::sound::unbound_before;
-ghost use Prim.Native.Nat.{ℕ, _+_, _<_, _≤_};
+ghost use Prim.Native.Nat.{ℕ, _+_, _<_};
 ghost use mathlib.Core.Bool.{not};
 ghost use mathlib.Core.List.{List};
 ghost use mathlib.Core.Path.{_≡_};
 ghost use lib.Dec.{ltb};
-ghost use Rattle.image.specs.BitReader.{done, each, numbered, require};
+ghost use Rattle.image.specs.BitReader.{pure, each, numbered, require};
 ghost use Rattle.net.specs.Choice.{choose, implies};
 ghost use Rattle.image.specs.Image.{readingPattern, addressPattern, heldPattern, fresh, formalReading};
 ghost use Rattle.image.specs.Image.{formalAddress, kind, pattern, templateField, template};
 ghost use Rattle.image.specs.Progress.{seen, Went};
 ghost use Rattle.net.specs.Records.{zeroInstruction};
 
-pub struct PatternRead {
-    pub pattern: Pattern,
-    pub next: Step,
+struct PatternRead {
+    pattern: Pattern,
+    next: Step,
 }
 
 // An instruction with a template and no action yet.
@@ -97,7 +97,7 @@ fn read_address_pattern(s: &[u8], from: Step, n: usize) -> PatternRead
 }
 
 fn own_pattern(s: &[u8], from: Step) -> PatternRead
-    ensures { λ r. ⌜ Went (seen (now (s .entry))) from (done Pattern.Own) (r .next) (r .pattern) ⌝ }
+    ensures { λ r. ⌜ Went (seen (now (s .entry))) from (pure Pattern.Own) (r .next) (r .pattern) ⌝ }
 {
     let pattern = Pattern::Own;
     PatternRead {

@@ -5,18 +5,18 @@
 use dump::put_net;
 use files::print;
 use files::read_first;
-use image::reader::Answer;
+use image::reader::Verdict;
 use image::reader::read_image;
 ghost use mathlib.Core.Path.{_≡_};
 ghost use Rattle.image.specs.Image.{numberOf};
 
 // The answer's number in document 01, "Numbers for an image".
-fn number_of(answer: Answer) -> u8
+fn number_of(answer: Verdict) -> u8
     ensures { λ r. ⌜ r ≡ numberOf answer ⌝ }
 {
     match answer {
-        Answer::Accepted => 0,
-        Answer::Refused(fault) => fault.number,
+        Verdict::Accepted => 0,
+        Verdict::Refused(fault) => fault.number,
     }
 }
 

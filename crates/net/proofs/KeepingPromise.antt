@@ -10,7 +10,7 @@ use mathlib.Core.List.{List, [], _∷_, List·Memᴰ, List·Memᴰ·head, List·
 use native.Mathlib.Omega.{arith}
 use lib.ListN.{length, take, length-take}
 use lib.Seq.{getD-take}
-use Rattle.net.specs.Records.{Locality, Place, Row, Instruction, instructionAt}
+use Rattle.net.specs.Records.{Locality, Place, Row, Instruction, instructionAt, placeOf}
 use Rattle.net.specs.Reaching.{Follows, Reaches, itself, onward, Search, meet, meetAll}
 use Rattle.net.specs.Reaching.{visitFirst, visit, visits, startedAt, reachedOf}
 use Rattle.net.specs.Keeping.{mayTake, mayRead, mayPut, maySend, mayCreate, permits, permitsMarked, keepsOf}
@@ -43,7 +43,7 @@ low-start p = low-meet _ p (λ q m. absurd (List·Memᴰ·not-nil m))
 
 -- ---- two lists of instructions that agree below 512
 record Agree (c d : List Instruction) : Type 0 where
-  same : (i : ℕ) → i < 512 → instructionAt c i ≡ instructionAt d i
+  same : (p : Place) → p .0 < 512 → instructionAt c p ≡ instructionAt d p
 
 module _ (c d : List Instruction) (agree : Agree c d) where
   visit-same :
@@ -51,7 +51,7 @@ module _ (c d : List Instruction) (agree : Agree c d) where
       → visitFirst c marks ps ≡ visitFirst d marks ps
   unfolding visitFirst Low
   visit-same marks [] f = refl
-  visit-same marks (p ∷ ps) f = rw (agree .same (p .0) (f p (List·Memᴰ·head refl)))
+  visit-same marks (p ∷ ps) f = rw (agree .same p (f p (List·Memᴰ·head refl)))
 
   low-visit :
       (marks : List Bool) (ps : List Place) → Low (record { marks = marks; waiting = ps }) → Low (visitFirst c marks ps)
@@ -74,28 +74,28 @@ module _ (c d : List Instruction) (agree : Agree c d) where
   keeps-carry : (p : Place) (a : Locality) (r : Row) → keepsOf c p a r ≡ true → keepsOf d p a r ≡ true
   unfolding keepsOf permitsMarked
   keeps-carry p a r h =
-      all-i 512 _ (λ i l. rw (← reached-same p, ← agree .same i l) (all-e 512 _ h i l))
+      all-i 512 _ (λ i l. rw (← reached-same p, ← agree .same (placeOf i) l) (all-e 512 _ h i l))
 
   -- what is reached in the one is reached in the other, where the instructions below n lead to places below n
   reaches-carry :
       (n : ℕ) (from q : Place) → n ≤ 512 → from .0 < n
-      → ((i : ℕ) (r : Place) → i < n → Follows r (instructionAt c i .action) → r .0 < n)
+      → ((p r : Place) → p .0 < n → Follows r (instructionAt c p .action) → r .0 < n)
       → Reaches c from q → (q .0 < n) × Reaches d from q
   reaches-carry n from _ fits l closed itself = (l, itself)
   reaches-carry n from q fits l closed (onward {p} m f) =
       let before = reaches-carry n from p fits l closed m in
-      (closed (p .0) q (before .0) f, onward (before .1) (rw (agree .same (p .0) (omega arith)) at f))
+      (closed p q (before .0) f, onward (before .1) (rw (agree .same p (omega arith)) at f))
 
 agree-sym : (c d : List Instruction) → Agree c d → Agree d c
 agree-sym c d a = record { same = λ i l. sym (a .same i l) }
 
 cut : (c : List Instruction) → Agree (take 512 c) c
 unfolding instructionAt
-cut c = record { same = λ i l. getD-take 512 c i _ l }
+cut c = record { same = λ p l. getD-take 512 c (p .0) _ l }
 
 -- ---- code whose first k instructions lead to no place past them
 Closed : List Instruction → ℕ → Type 0
-Closed code k = (i : ℕ) (q : Place) → i < k → Follows q (instructionAt code i .action) → q .0 < k
+Closed code k = (p q : Place) → p .0 < k → Follows q (instructionAt code p .action) → q .0 < k
 
 module _ (code : List Instruction) (k : ℕ) (few : k ≤ 512) (closed : Closed code k) where
   short : List Instruction
@@ -114,23 +114,23 @@ module _ (code : List Instruction) (k : ℕ) (few : k ≤ 512) (closed : Closed 
 
   closed-short : Closed short k
   unfolding Closed
-  closed-short i q h f = closed i q h (rw (there .same i (omega arith)) at f)
+  closed-short p q h f = closed p q h (rw (there .same p (omega arith)) at f)
 
   keeps-every :
       (p : Place) (a : Locality) (r : Row) → p .0 < k
       → (keepsOf code p a r ≡ true)
-      ↔ ((q : Place) → Reaches code p q → permits r a (instructionAt code (q .0) .action) ≡ true)
+      ↔ ((q : Place) → Reaches code p q → permits r a (instructionAt code q .action) ≡ true)
   unfolding KeepsIsEvery Closed
   keeps-every p a r low = (
     λ h q m.
         let c = reaches-carry code short back k p q few low closed m in
-        rw (back .same (q .0) (omega (arith, c .0)))
+        rw (back .same q (omega (arith, c .0)))
         (keepsIsEvery short short-is p a r .0 (keeps-carry code short back p a r h) q (c .1)),
     λ h. keeps-carry short code there p a r
         (keepsIsEvery short short-is p a r .1
         (λ q m.
         let c = reaches-carry short code there k p q few low closed-short m in
-        rw (there .same (q .0) (omega (arith, c .0))) (h q (c .1)))),
+        rw (there .same q (omega (arith, c .0))) (h q (c .1)))),
   )
 
 pub keepingPromise : KeepingPromise

@@ -234,6 +234,14 @@ module _
     unfolding wantAt evaluatedOf WantSound
     wants-in-range c h i x l = wants-sound c h .holds i l x
 
+-- ---- what is found is stored
+found-is-stored : (x : Node) (e : Evaluated) (i : ℕ) → oldestOf x e ≡ Found.At i → i < x .stored
+unfolding oldestOf
+found-is-stored x e i =
+    first-cases (λ f. f ≡ Found.At i → i < x .stored) 16 _ Found.At Found.Nothing
+    (λ j h d. let same : j ≡ i = cc in rw (← same) (ltb-true _ _ (both-l _ _ (h .holds))))
+    (λ d. let z : _≡_ {A = ℕ} 0 1 = cc in absurd (omega arith))
+
 pub matchingPromise : MatchingPromise
 unfolding matchedOf boundAt evaluatedOf wantAt
 matchingPromise = record {
@@ -241,6 +249,7 @@ matchingPromise = record {
   wants = wants-is;
   fits = fits-is;
   finds = λ p x e i. found-is-oldest x e i;
+  stored = λ p x e i. found-is-stored x e i;
   binds = λ p x e i d. ap (λ (f : Found). boundAt f p x e) d;
   leaves = λ p x e d. ap (λ (f : Found). boundAt f p x e) d;
   sets = bound-sets;

@@ -1,23 +1,22 @@
 -- Laws of the methods of rows and nodes (`specs/Records.antt`). Assumes nothing.
 use Prim.Native.Nat.{ℕ, _+_, _-_, _<_, _≤_}
 use mathlib.Core.Path.{_≡_, refl, sym, ap, _∙_}
-use mathlib.Core.Bool.{Bool, true, false, not}
-use mathlib.Core.List.{List}
+use mathlib.Core.Bool.{Bool, true, false}
 use native.Mathlib.Omega.{arith}
 use lib.Dec.{ltb}
 use lib.ListN.{length, set}
 use lib.Seq.{set-out}
-use borrow.Author.Tests.{ltb-true}
+use borrow.Author.Tests.{lt-ltb, le-ltb, ltb-true}
 use Rattle.net.specs.Choice.{choose, fold}
-use Rattle.net.specs.Records.{Tuple, Rights, Row, Process, Node, tupleAt, zeroTuple, withRights, withProcess}
-use Rattle.net.specs.Records.{afterTaking, withoutTuple}
+use Rattle.net.specs.Records.{Locality, Tuple, Rights, Row, Process, Node, tupleAt, zeroTuple, withRights, withProcess}
+use Rattle.net.specs.Records.{afterTaking, withoutTuple, Slot, Changed, withTuple, freeSlot, putIn, takenFrom, startedAtSlot, startedOn}
 use Rattle.net.proofs.Laws.{choose-false}
 use Rattle.net.proofs.FoldLaws.{fold-none, fold-more, fold-end}
 
 -- a store past the last place changes nothing
-pub rights-out : (r : Row) (l : ℕ) (x : Rights) → length (r .rights) ≡ 16 → 16 ≤ l → r ≡ withRights r l x
+pub rights-out : (r : Row) (l : Locality) (x : Rights) → length (r .rights) ≡ 16 → 16 ≤ l .0 → r ≡ withRights r l x
 unfolding withRights
-rights-out r l x e h = rw (set-out (r .rights) l x (omega arith))
+rights-out r l x e h = rw (set-out (r .rights) (l .0) x (omega arith))
 
 pub process-out : (x : Node) (k : ℕ) (p : Process) → length (x .processes) ≡ 4 → 4 ≤ k → x ≡ withProcess x k p
 unfolding withProcess
@@ -64,3 +63,34 @@ module _ (x : Node) (i : ℕ) where
     stored = h .stored d;
     tuples = fold-end _ (x .tuples) j 16 (node .tuples) (h .tuples) (h .low) l d;
   }
+
+-- ---- what a node answers to a put, a take and a start
+module _ (x : Node) where
+  pub put-done : (t : Tuple) → x .stored < 16
+      → _≡_ {A = Changed} (record { done = true; node = record { row = x .row; processes = x .processes; stored = x .stored + 1; tuples = set (x .tuples) (x .stored) t } }) (putIn x t)
+  unfolding putIn withTuple choose
+  put-done t h = rw (lt-ltb (x .stored) 16 h)
+
+  pub put-full : (t : Tuple) → 16 ≤ x .stored → _≡_ {A = Changed} (record { done = false; node = x }) (putIn x t)
+  unfolding putIn withTuple choose
+  put-full t h = rw (le-ltb (x .stored) 16 h)
+
+  pub take-done : (i : ℕ) (y : Node) → ltb i (x .stored) ≡ true → y ≡ withoutTuple x i
+      → _≡_ {A = Changed} (record { done = ltb i (x .stored); node = y }) (takenFrom x i)
+  unfolding takenFrom choose
+  take-done i y h q = rw (h, q)
+
+  pub take-none : (i : ℕ) → ltb i (x .stored) ≡ false
+      → _≡_ {A = Changed} (record { done = ltb i (x .stored); node = x }) (takenFrom x i)
+  unfolding takenFrom choose
+  take-none i h = rw h
+
+  pub start-done : (p : Process) (slot : Slot) (j : ℕ) (y : Node) → slot ≡ freeSlot x → slot ≡ Slot.Number j → y ≡ withProcess x j p
+      → _≡_ {A = Changed} (record { done = true; node = y }) (startedOn x p)
+  unfolding startedOn startedAtSlot
+  start-done p slot j y e h q = rw (← e, h, q)
+
+  pub start-full : (p : Process) (slot : Slot) → slot ≡ freeSlot x → slot ≡ Slot.Full
+      → _≡_ {A = Changed} (record { done = false; node = x }) (startedOn x p)
+  unfolding startedOn startedAtSlot
+  start-full p slot e h = rw (← e, h)

@@ -18,9 +18,7 @@ use Rattle.net.specs.Reaching.{visitFirst, visit, visits, startedAt, rea
 use Rattle.net.specs.Keeping.{permits, permitsMarked, keepsOf}
 use Rattle.net.specs.ReachingClaims.{MarkedIsReached, KeepsIsEvery}
 use Rattle.net.proofs.Laws.{implies-i, implies-e, all-i, all-e}
-use Rattle.net.specs.Worklist.{unmarked}
 use Rattle.net.proofs.Unmarked.{unmarked-replicate, meet-cases, meetAll-keeps}
-use Rattle.net.specs.Worklist.{unmarked}
 use Rattle.net.proofs.Unmarked.{Measured, measured-meet, measured-meetAll}
 
 -- ---- the computed followers are the places that follow
@@ -116,12 +114,12 @@ good-meet R C s p r g =
 -- ---- one visit: the place visited is excused by itself while its followers are met, and then by their marks
 FollowersMarked : List Instruction → List Bool → Place → Type 0
 FollowersMarked code marks p =
-    (q : Place) → Follows q (instructionAt code (p .0) .action) → q .0 < 512 → Marked marks q
+    (q : Place) → Follows q (instructionAt code p .action) → q .0 < 512 → Marked marks q
 
 -- the search after the visit of w
 after : List Instruction → List Bool → Place → List Place → Search
 after code marks w ws =
-    meetAll (record { marks = marks; waiting = ws }) (followers (instructionAt code (w .0) .action))
+    meetAll (record { marks = marks; waiting = ws }) (followers (instructionAt code w .action))
 
 module _ (code : List Instruction) (p : Place) (marks : List Bool) (w : Place) (ws : List Place) where
   good-visit :
@@ -144,7 +142,7 @@ module _ (code : List Instruction) (p : Place) (marks : List Bool) (w : Place) (
       Excuse q = (q ≡ w) ⊎ FollowersMarked code marks q
 
       follow : List Place
-      follow = followers (instructionAt code (w .0) .action)
+      follow = followers (instructionAt code w .action)
 
       start : Good (Reaches code p) Excuse old
       start =
@@ -207,19 +205,19 @@ finish code p (suc k) marks (w ∷ ws) h g =
     earlier _ _ (finish code p k _ _ (measured-meetAll k _ _ less) (good-visit code p marks w ws k less g))
 
 -- ---- nothing follows past the end
-past-end : (code : List Instruction) (i : ℕ) → length code ≤ i → instructionAt code i .action ≡ Action.Stop
+past-end : (code : List Instruction) (p : Place) → length code ≤ p .0 → instructionAt code p .action ≡ Action.Stop
 unfolding instructionAt
-past-end code i h = ap (λ (c : Instruction). c .action) (List·getD-eq-default code _ {n = i} h)
+past-end code p h = ap (λ (c : Instruction). c .action) (List·getD-eq-default code _ {n = p .0} h)
 
 followed-low :
-    (code : List Instruction) (i : ℕ) (q : Place)
+    (code : List Instruction) (p q : Place)
     → length code ≤ 512
-    → Follows q (instructionAt code i .action)
-    → i < 512
+    → Follows q (instructionAt code p .action)
+    → p .0 < 512
 unfolding followers
-followed-low code i q fits f =
-    elim (decLe 512 i) [
-      | yes h ↦ absurd (List·Memᴰ·not-nil (follows-in q Action.Stop (rw (past-end code i (omega arith)) at f)))
+followed-low code p q fits f =
+    elim (decLe 512 (p .0)) [
+      | yes h ↦ absurd (List·Memᴰ·not-nil (follows-in q Action.Stop (rw (past-end code p (omega arith)) at f)))
       | no n ↦ omega arith
     ]
 
@@ -259,7 +257,7 @@ complete :
 unfolding FollowersMarked
 complete code fits p _ itself low = searched code p .kept p (met-marked fresh p fresh-measured low)
 complete code fits p q (onward {p = r} m f) low =
-    searched code p .closed r (complete code fits p r m (followed-low code (r .0) q fits f)) q f low
+    searched code p .closed r (complete code fits p r m (followed-low code r q fits f)) q f low
 
 -- ---- the two claims
 pub markedIsReached : MarkedIsReached
@@ -278,6 +276,6 @@ keepsIsEvery code fits p a r = (
         → (q : Place)
         → Reaches code p q
         → Dec (512 ≤ q .0)
-        → permits r a (instructionAt code (q .0) .action) ≡ true
-    each k q m (yes h) = rw (past-end code (q .0) (omega arith))
+        → permits r a (instructionAt code q .action) ≡ true
+    each k q m (yes h) = rw (past-end code q (omega arith))
     each k q m (no n) = implies-e _ _ (all-e 512 _ k (q .0) (omega arith)) (complete code fits p q m (omega arith))

@@ -138,7 +138,7 @@ pub record Going (code : List Instruction) (v w : Worklist) : Type 0 where
 
 step-down : (code : List Instruction) (w : Worklist) (k : ℕ) → w .count ≡ suc k
     → visits (left w) code (searchOf w)
-    ≡ visits (left (lower w k)) code (meetAll (searchOf (lower w k)) (followers (instructionAt code (getD (w .waiting) k (record { 0 = 0 }) .0) .action)))
+    ≡ visits (left (lower w k)) code (meetAll (searchOf (lower w k)) (followers (instructionAt code (getD (w .waiting) k (record { 0 = 0 })) .action)))
 unfolding left searchOf tops visits visit visitFirst
 step-down code w k e = rw (e, suc-add)
 
@@ -170,7 +170,7 @@ module _ (code : List Instruction) (v w : Worklist) (k : ℕ) (g : Going code v 
   visited-less s r a = omega (arith, lower-left, a .same)
 
   pub visited : (r : Worklist)
-      → Represents (lower w (k - 1)) (meetAll (searchOf (lower w (k - 1))) (followers (instructionAt code (getD (w .waiting) (k - 1) (record { 0 = 0 }) .0) .action))) r
+      → Represents (lower w (k - 1)) (meetAll (searchOf (lower w (k - 1))) (followers (instructionAt code (getD (w .waiting) (k - 1) (record { 0 = 0 })) .action))) r
       → Going code v r
   visited r a = record {
     room = omega (arith, a .same, lower-room);

@@ -1,4 +1,5 @@
--- The rights that are judged at a target before its action runs, right by right (`Keeping.antt`).
+-- Describes the code, and is no part of what a reader has to believe: the rights that are
+-- judged at a target before its action runs, right by right (`Keeping.antt`).
 use mathlib.Core.Path.{_≡_}
 use Rattle.net.specs.Keeping.{atTarget, mayTake, mayRead, mayPut, maySend}
 use Rattle.net.specs.Records.{Locality, Rights, Row, Target}

@@ -1,25 +1,23 @@
 -- Rights, and code that keeps within a row (document 01, "The net", "Reaching and rights").
-use Prim.Native.Nat.{ℕ}
-use mathlib.Core.Path.{_≡_}
 use mathlib.Core.Bool.{Bool, true, false}
 use mathlib.Core.List.{List}
 use lib.ListN.{getD}
 use Rattle.net.specs.Choice.{implies, all}
-use Rattle.net.specs.Records.{Locality, Place, Row, Target, Action, Instruction, rightsAt, instructionAt}
-use Rattle.net.specs.Reaching.{Reaches, reachedOf}
+use Rattle.net.specs.Records.{Locality, Place, Row, Target, Action, Instruction, rightsAt, instructionAt, placeOf}
+use Rattle.net.specs.Reaching.{reachedOf}
 
 -- ---- the rights of a row: no right includes another
 unfoldable pub mayTake : Row → Locality → Bool
-mayTake r l = rightsAt r (l .0) .take
+mayTake r l = rightsAt r l .take
 
 unfoldable pub mayRead : Row → Locality → Bool
-mayRead r l = rightsAt r (l .0) .read
+mayRead r l = rightsAt r l .read
 
 unfoldable pub mayPut : Row → Locality → Bool
-mayPut r l = rightsAt r (l .0) .put
+mayPut r l = rightsAt r l .put
 
 unfoldable pub maySend : Row → Locality → Bool
-maySend r l = rightsAt r (l .0) .send
+maySend r l = rightsAt r l .send
 
 unfoldable pub mayCreate : Row → Bool
 mayCreate r = r .create
@@ -42,7 +40,7 @@ permits r a (Action.Fork p q) = true
 -- every marked instruction has its right
 unfoldable pub permitsMarked : List Bool → List Instruction → Locality → Row → Bool
 permitsMarked marks code a r =
-    all 512 (λ q. implies (getD marks q false) (permits r a (instructionAt code q .action)))
+    all 512 (λ q. implies (getD marks q false) (permits r a (instructionAt code (placeOf q) .action)))
 
 -- the code from place p keeps within the row r of address a
 unfoldable pub keepsOf : List Instruction → Place → Locality → Row → Bool

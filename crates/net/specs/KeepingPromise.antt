@@ -13,18 +13,18 @@ use Rattle.net.specs.Keeping.{mayTake, mayRead, mayPut, maySend, mayCrea
 
 pub record KeepingPromise : Type 0 where
   -- "A policy row at a node has the right n and, for each address, any of i, r, o, e"
-  pub takes : (r : Row) (l : Locality) → mayTake r l ≡ rightsAt r (l .0) .take
-  pub reads : (r : Row) (l : Locality) → mayRead r l ≡ rightsAt r (l .0) .read
-  pub puts : (r : Row) (l : Locality) → mayPut r l ≡ rightsAt r (l .0) .put
-  pub sends : (r : Row) (l : Locality) → maySend r l ≡ rightsAt r (l .0) .send
+  pub takes : (r : Row) (l : Locality) → mayTake r l ≡ rightsAt r l .take
+  pub reads : (r : Row) (l : Locality) → mayRead r l ≡ rightsAt r l .read
+  pub puts : (r : Row) (l : Locality) → mayPut r l ≡ rightsAt r l .put
+  pub sends : (r : Row) (l : Locality) → maySend r l ≡ rightsAt r l .send
   pub creates : (r : Row) → mayCreate r ≡ r .create
   -- "Code keeps within the row of address a when every reached out, in, read and eval ... has its right": the computed
   -- test says just that of code whose first k instructions lead to no place past them, whatever stands there
   pub keeps :
       (code : List Instruction) (k : ℕ)
       → k ≤ 512
-      → ((i : ℕ) (q : Place) → i < k → Follows q (instructionAt code i .action) → q .0 < k)
+      → ((p q : Place) → p .0 < k → Follows q (instructionAt code p .action) → q .0 < k)
       → (p : Place) (a : Locality) (r : Row)
       → p .0 < k
       → (keepsOf code p a r ≡ true)
-      ↔ ((q : Place) → Reaches code p q → permits r a (instructionAt code (q .0) .action) ≡ true)
+      ↔ ((q : Place) → Reaches code p q → permits r a (instructionAt code q .action) ≡ true)

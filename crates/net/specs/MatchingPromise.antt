@@ -68,6 +68,9 @@ pub record MatchingPromise : Type 0 where
       (p : Process) (x : Node) (e : Evaluated) (i : ℕ)
       → x .stored ≤ 16
       → (matchedOf p x e .found ≡ Found.At i) ↔ OldestThatFits x e i
+  -- what is found is a stored tuple, whatever the node
+  pub stored :
+      (p : Process) (x : Node) (e : Evaluated) (i : ℕ) → matchedOf p x e .found ≡ Found.At i → i < x .stored
   -- the process is then the one bound to that tuple
   pub binds :
       (p : Process) (x : Node) (e : Evaluated) (i : ℕ)

@@ -22,7 +22,7 @@ pub data Follows (q : Place) : Action → Type 0 where
 -- the place itself and, over and over, what follows
 pub data Reaches (code : List Instruction) (from : Place) : Place → Type 0 where
   itself : Reaches code from from
-  onward : {p q : Place} → Reaches code from p → Follows q (instructionAt code (p .0) .action) → Reaches code from q
+  onward : {p q : Place} → Reaches code from p → Follows q (instructionAt code p .action) → Reaches code from q
 
 -- ---- the marks, computed: a place is marked when it is first met, and then waits to be visited
 
@@ -53,7 +53,7 @@ meetAll s (p ∷ ps) = meetAll (meet s p) ps
 unfoldable pub visitFirst : List Instruction → List Bool → List Place → Search
 visitFirst code marks [] = record { marks = marks; waiting = [] }
 visitFirst code marks (p ∷ ps) =
-    meetAll (record { marks = marks; waiting = ps }) (followers (instructionAt code (p .0) .action))
+    meetAll (record { marks = marks; waiting = ps }) (followers (instructionAt code p .action))
 
 unfoldable pub visit : List Instruction → Search → Search
 visit code s = visitFirst code (s .marks) (s .waiting)

@@ -27,4 +27,4 @@ KeepsIsEvery =
     → length code ≤ 512
     → (p : Place) (a : Locality) (r : Row)
     → (keepsOf code p a r ≡ true)
-    ↔ ((q : Place) → Reaches code p q → permits r a (instructionAt code (q .0) .action) ≡ true)
+    ↔ ((q : Place) → Reaches code p q → permits r a (instructionAt code q .action) ≡ true)

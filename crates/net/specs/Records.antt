@@ -11,6 +11,7 @@ pub use Rattle.net.specs.declared.policy.Row.{Row}
 pub use Rattle.net.specs.declared.process.Process.{Process}
 pub use Rattle.net.specs.declared.node.Node.{Node}
 pub use Rattle.net.specs.declared.node.Slot.{Slot}
+pub use Rattle.net.specs.declared.node.Changed.{Changed}
 pub use Rattle.net.specs.declared.instruction.Target.{Target}
 pub use Rattle.net.specs.declared.instruction.Pattern.{Pattern}
 pub use Rattle.net.specs.declared.instruction.TemplateField.{TemplateField}
@@ -20,7 +21,7 @@ pub use Rattle.net.specs.declared.network.Net.{Net}
 use Prim.Native.Nat.{ℕ, _+_, _-_}
 use Rattle.net.specs.Choice.{choose, fold, firstBelow}
 use lib.Dec.{ltb}
-use mathlib.Core.Bool.{Bool, true, false, not}
+use mathlib.Core.Bool.{true, false, not}
 use mathlib.Core.List.{List, []}
 use lib.ListN.{getD, set, replicate}
 use lib.IntN.{ℤ}
@@ -64,6 +65,13 @@ zeroInstruction = record { action = Action.Stop; count = 0; template = replicate
 unfoldable pub emptyNet : Net
 emptyNet = record { addresses = 0; length = 0; nodes = replicate 16 zeroNode; code = replicate 512 zeroInstruction }
 
+-- ---- an address and a code place, each made from its number: two types, never mixed
+abbrev pub addressOf : ℕ → Locality
+addressOf n = record { 0 = n }
+
+abbrev pub placeOf : ℕ → Place
+placeOf n = record { 0 = n }
+
 -- ---- reading a part. Past the end of an array stands the language's own default, which has empty arrays;
 -- no array of a running program is read there.
 unfoldable pub fieldAt : Tuple → ℕ → Item
@@ -72,8 +80,8 @@ fieldAt t i = getD (t .fields) i (record { item = Item.Reading (ℤ.pos 0) }) .i
 unfoldable pub variableAt : Process → ℕ → Value
 variableAt p v = getD (p .variables) v (record { value = Value.Unset }) .value
 
-unfoldable pub rightsAt : Row → ℕ → Rights
-rightsAt r l = getD (r .rights) l (record { take = false; read = false; put = false; send = false })
+unfoldable pub rightsAt : Row → Locality → Rights
+rightsAt r l = getD (r .rights) (l .0) (record { take = false; read = false; put = false; send = false })
 
 unfoldable pub processAt : Node → ℕ → Process
 processAt n k = getD (n .processes) k (record { busy = false; at = record { 0 = 0 }; variables = [] })
@@ -84,13 +92,13 @@ tupleAt n i = getD (n .tuples) i (record { count = 0; fields = [] })
 unfoldable pub patternAt : Instruction → ℕ → Pattern
 patternAt c i = getD (c .template) i (record { pattern = Pattern.Reading (ℤ.pos 0) }) .pattern
 
-unfoldable pub nodeAt : Net → ℕ → Node
+unfoldable pub nodeAt : Net → Locality → Node
 nodeAt s a =
-    getD (s .nodes) a
+    getD (s .nodes) (a .0)
     (record { row = record { create = false; rights = [] }; processes = []; stored = 0; tuples = [] })
 
-unfoldable pub instructionAt : List Instruction → ℕ → Instruction
-instructionAt code p = getD code p (record { action = Action.Stop; count = 0; template = [] })
+unfoldable pub instructionAt : List Instruction → Place → Instruction
+instructionAt code p = getD code (p .0) (record { action = Action.Stop; count = 0; template = [] })
 
 -- ---- replacing a part
 unfoldable pub withField : Tuple → Field → Tuple
@@ -100,8 +108,8 @@ unfoldable pub withVariable : Process → ℕ → Value → Process
 withVariable p v x =
     record { busy = p .busy; at = p .at; variables = set (p .variables) v (record { value = x }) }
 
-unfoldable pub withRights : Row → ℕ → Rights → Row
-withRights r l x = record { create = r .create; rights = set (r .rights) l x }
+unfoldable pub withRights : Row → Locality → Rights → Row
+withRights r l x = record { create = r .create; rights = set (r .rights) (l .0) x }
 
 unfoldable pub withRow : Node → Row → Node
 withRow n r = record { row = r; processes = n .processes; stored = n .stored; tuples = n .tuples }
@@ -126,12 +134,13 @@ withPattern c f =
 unfoldable pub withAction : Instruction → Action → Instruction
 withAction c a = record { action = a; count = c .count; template = c .template }
 
-unfoldable pub withNode : Net → ℕ → Node → Net
-withNode s a n = record { addresses = s .addresses; length = s .length; nodes = set (s .nodes) a n; code = s .code }
+unfoldable pub withNode : Net → Locality → Node → Net
+withNode s a n =
+    record { addresses = s .addresses; length = s .length; nodes = set (s .nodes) (a .0) n; code = s .code }
 
-unfoldable pub withInstruction : Net → ℕ → Instruction → Net
+unfoldable pub withInstruction : Net → Place → Instruction → Net
 withInstruction s p c =
-    record { addresses = s .addresses; length = s .length; nodes = s .nodes; code = set (s .code) p c }
+    record { addresses = s .addresses; length = s .length; nodes = s .nodes; code = set (s .code) (p .0) c }
 
 unfoldable pub withCounts : Net → ℕ → ℕ → Net
 withCounts s n k = record { addresses = n; length = k; nodes = s .nodes; code = s .code }
@@ -161,3 +170,21 @@ withoutTuple x i = record {
 -- the lowest free slot of a node
 unfoldable pub freeSlot : Node → Slot
 freeSlot x = firstBelow 4 (λ j. not (processAt x j .busy)) Slot.Number Slot.Full
+
+-- ---- what a node answers: whether the change was made, and the node after it
+
+-- a tuple put as the newest, where there is room for it
+unfoldable pub putIn : Node → Tuple → Changed
+putIn x t = record { done = ltb (x .stored) 16; node = withTuple x t }
+
+-- the tuple at place i taken, where there is one
+unfoldable pub takenFrom : Node → ℕ → Changed
+takenFrom x i = record { done = ltb i (x .stored); node = choose (ltb i (x .stored)) (withoutTuple x i) x }
+
+-- a process started in the lowest free slot, where there is one
+unfoldable pub startedAtSlot : Node → Process → Slot → Changed
+startedAtSlot x p (Slot.Number j) = record { done = true; node = withProcess x j p }
+startedAtSlot x p Slot.Full = record { done = false; node = x }
+
+unfoldable pub startedOn : Node → Process → Changed
+startedOn x p = startedAtSlot x p (freeSlot x)

@@ -6,9 +6,9 @@ use mathlib.Core.Bool.{Bool, true, false, not}
 use lib.Dec.{eqb, leb, ltb}
 use lib.IntN.{ℤ}
 use Rattle.net.specs.Choice.{choose, both, implies, all}
-use Rattle.net.specs.Records.{Locality, Place, Value, Item, Tuple, Rights, Row, Process, Node}
+use Rattle.net.specs.Records.{Value, Item, Tuple, Rights, Row, Process, Node}
 use Rattle.net.specs.Records.{Target, Pattern, Action, Instruction, Net}
-use Rattle.net.specs.Records.{fieldAt, variableAt, rightsAt, processAt, tupleAt, patternAt, nodeAt, instructionAt}
+use Rattle.net.specs.Records.{fieldAt, variableAt, rightsAt, processAt, tupleAt, patternAt, nodeAt, instructionAt, addressOf, placeOf}
 use Rattle.net.specs.Matching.{sameReading}
 
 unfoldable pub inRange : ℕ → ℕ → ℕ → Bool
@@ -41,10 +41,10 @@ unfoldable pub isNone : Rights → Bool
 isNone r = both (both (not (r .take)) (not (r .read))) (both (not (r .put)) (not (r .send)))
 
 unfoldable pub rowSound : ℕ → Row → Bool
-rowSound n r = all 16 (λ l. implies (leb n l) (isNone (rightsAt r l)))
+rowSound n r = all 16 (λ l. implies (leb n l) (isNone (rightsAt r (addressOf l))))
 
 unfoldable pub isZeroRow : Row → Bool
-isZeroRow r = both (not (r .create)) (all 16 (λ l. isNone (rightsAt r l)))
+isZeroRow r = both (not (r .create)) (all 16 (λ l. isNone (rightsAt r (addressOf l))))
 
 -- ---- processes
 unfoldable pub valueSound : ℕ → Value → Bool
@@ -178,14 +178,14 @@ isZeroInstruction c = both (isStop (c .action)) (noTemplate c)
 unfoldable pub nodesSound : Net → Bool
 nodesSound s =
     all 16
-    (λ a. choose (ltb a (s .addresses)) (nodeSound (s .addresses) (s .length) (nodeAt s a)) (isZeroNode (nodeAt s a)))
+    (λ a. choose (ltb a (s .addresses)) (nodeSound (s .addresses) (s .length) (nodeAt s (addressOf a))) (isZeroNode (nodeAt s (addressOf a))))
 
 unfoldable pub codeSound : Net → Bool
 codeSound s =
     all 512
     (λ p. choose (ltb p (s .length))
-    (instructionSound (s .addresses) (s .length) (instructionAt (s .code) p))
-    (isZeroInstruction (instructionAt (s .code) p)))
+    (instructionSound (s .addresses) (s .length) (instructionAt (s .code) (placeOf p)))
+    (isZeroInstruction (instructionAt (s .code) (placeOf p))))
 
 unfoldable pub soundOf : Net → Bool
 soundOf s =

@@ -1,5 +1,5 @@
--- The worklist of the code that fills the marks: how it stands for a search of `Reaching.antt`, and the number that
--- falls with each visit.
+-- Describes the code, and is no part of what a reader has to believe: the worklist that fills
+-- the marks, how it stands for a search of `Reaching.antt`, and the number that falls with each visit.
 pub use Rattle.net.specs.declared.reaching.Worklist.{Worklist}
 use Prim.Native.Nat.{ℕ, zero, suc, _+_}
 use mathlib.Core.Path.{_≡_}

@@ -11,11 +11,11 @@ ghost use mathlib.Core.Path.{_≡_};
 ghost use Rattle.net.specs.Choice.{implies};
 ghost use Rattle.net.specs.Judged.{Judged};
 ghost use Rattle.net.specs.Keeping.{permits, keepsOf};
-ghost use Rattle.net.specs.Records.{rightsAt, allRights};
+ghost use Rattle.net.specs.Records.{rightsAt};
 
 // The rights that a row grants over an address; none past the last address.
 pub fn rights_over(row: Row, l: Locality) -> Rights
-    ensures { λ r. ⌜ r ≡ rightsAt row (l .0) ⌝ }
+    ensures { λ r. ⌜ r ≡ rightsAt row l ⌝ }
 {
     let at = l.0 as usize;
     if at < 16 {

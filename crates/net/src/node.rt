@@ -6,7 +6,8 @@ ghost use Prim.Native.Nat.{_+_, _-_, _<_};
 ghost use mathlib.Core.Path.{_≡_};
 ghost use lib.Dec.{ltb};
 ghost use Rattle.net.specs.Choice.{choose};
-ghost use Rattle.net.specs.Records.{zeroTuple, zeroNode, withTuple, withRow, withProcess, withoutTuple, freeSlot};
+ghost use Rattle.net.specs.Records.{zeroTuple, zeroNode, withRow, withProcess, withoutTuple, freeSlot};
+ghost use Rattle.net.specs.Records.{putIn, takenFrom, startedOn};
 
 // A node: its policy, its process slots and its tuple space, oldest tuple first.
 pub struct Node {
@@ -20,6 +21,12 @@ pub struct Node {
 pub enum Slot {
     Number(usize),
     Full,
+}
+
+// Whether a change was made, and the node after it.
+pub struct Changed {
+    pub done: bool,
+    pub node: Node,
 }
 
 impl Node {
@@ -38,17 +45,54 @@ impl Node {
         }
     }
 
-    // The node with a tuple added as the newest, or as it was where it has sixteen.
-    pub fn with_tuple(mut self, t: Tuple) -> Node
-        ensures { λ r. ⌜ r ≡ withTuple self t ⌝ }
+    // A tuple put as the newest, where there is room for it.
+    pub fn put(mut self, t: Tuple) -> Changed
+        ensures { λ r. ⌜ r ≡ putIn self t ⌝ }
     {
         let at = self.stored;
         if at < 16 {
             self.tuples[at] = t;
             self.stored = at + 1;
-            self
+            Changed {
+                done: true,
+                node: self,
+            }
         } else {
-            self
+            Changed {
+                done: false,
+                node: self,
+            }
+        }
+    }
+
+    // The tuple at place i taken, where there is one.
+    pub fn take(mut self, i: usize) -> Changed
+        ensures { λ r. ⌜ r ≡ takenFrom self i ⌝ }
+    {
+        let done = i < self.stored;
+        if done {
+            self = self.without_tuple(i);
+        }
+        Changed { done, node: self }
+    }
+
+    // A process started in the lowest free slot, where there is one.
+    pub fn start(mut self, p: Process) -> Changed
+        ensures { λ r. ⌜ r ≡ startedOn self p ⌝ }
+    {
+        let slot = self.free_slot();
+        match slot {
+            Slot::Number(j) => {
+                self = self.with_process(j, p);
+                Changed {
+                    done: true,
+                    node: self,
+                }
+            }
+            Slot::Full => Changed {
+                done: false,
+                node: self,
+            },
         }
     }
 
@@ -73,7 +117,7 @@ impl Node {
     }
 
     // The node without the tuple at place i: the younger ones move up.
-    pub fn without_tuple(self, i: usize) -> Node
+    fn without_tuple(self, i: usize) -> Node
         ensures { λ r. ⌜ r ≡ withoutTuple self i ⌝ }
     {
         let mut node = self;
@@ -91,7 +135,7 @@ impl Node {
     }
 
     // The lowest free slot.
-    pub fn free_slot(self) -> Slot
+    fn free_slot(self) -> Slot
         ensures { λ r. ⌜ r ≡ freeSlot self ⌝ }
     {
         let mut j = 0;

@@ -1,5 +1,5 @@
 // Policies (document 01, "The net"): what the processes hosted at a node may do.
-
+use crate::locality::Locality;
 ghost use mathlib.Core.Path.{_≡_};
 ghost use Rattle.net.specs.Records.{noRights, allRights, zeroRow, withRights};
 
@@ -55,11 +55,12 @@ impl Row {
     }
 
     // The row with other rights over an address, or as it was past the last one.
-    pub fn with_rights(mut self, l: usize, r: Rights) -> Row
+    pub fn with_rights(mut self, l: Locality, r: Rights) -> Row
         ensures { λ x. ⌜ x ≡ withRights self l r ⌝ }
     {
-        if l < 16 {
-            self.rights[l] = r;
+        let at = l.0 as usize;
+        if at < 16 {
+            self.rights[at] = r;
             self
         } else {
             self

@@ -4,6 +4,7 @@ use crate::instruction::Action;
 use crate::instruction::Instruction;
 use crate::instruction::Pattern;
 use crate::instruction::Target;
+use crate::locality::Locality;
 use crate::locality::Place;
 use crate::network::Net;
 use crate::node::Node;
@@ -138,10 +139,11 @@ fn is_none(rights: Rights) -> bool
 }
 
 // The rights over address l: none where it is not in use.
-fn rights_at_sound(n: usize, l: usize, rights: Rights) -> bool
-    ensures { λ r. ⌜ r ≡ implies (leb n l) (isNone rights) ⌝ }
+fn rights_at_sound(n: usize, l: Locality, rights: Rights) -> bool
+    ensures { λ r. ⌜ r ≡ implies (leb n (l .0)) (isNone rights) ⌝ }
 {
-    if n <= l { is_none(rights) } else { true }
+    let at = l.0 as usize;
+    if n <= at { is_none(rights) } else { true }
 }
 
 fn row_sound(n: usize, row: Row) -> bool
@@ -151,7 +153,7 @@ fn row_sound(n: usize, row: Row) -> bool
     let mut l = 0;
     while l < 16 {
         let rights = row.rights[l];
-        let good = rights_at_sound(n, l, rights);
+        let good = rights_at_sound(n, Locality(l as u8), rights);
         ok = ok & good;
         l += 1;
     }
@@ -600,10 +602,11 @@ fn is_zero_instruction(c: Instruction) -> bool
 // ---- the net
 
 // The node of address a.
-fn node_at_sound(n: usize, k: usize, a: usize, node: Node) -> bool
-    ensures { λ r. ⌜ r ≡ choose (ltb a n) (nodeSound n k node) (isZeroNode node) ⌝ }
+fn node_at_sound(n: usize, k: usize, a: Locality, node: Node) -> bool
+    ensures { λ r. ⌜ r ≡ choose (ltb (a .0) n) (nodeSound n k node) (isZeroNode node) ⌝ }
 {
-    if a < n {
+    let at = a.0 as usize;
+    if at < n {
         node_sound(n, k, node)
     } else {
         is_zero_node(node)
@@ -617,7 +620,7 @@ fn nodes_sound(net: Net) -> bool
     let mut a = 0;
     while a < 16 {
         let node = net.nodes[a];
-        let good = node_at_sound(net.addresses, net.length, a, node);
+        let good = node_at_sound(net.addresses, net.length, Locality(a as u8), node);
         ok = ok & good;
         a += 1;
     }
@@ -625,10 +628,11 @@ fn nodes_sound(net: Net) -> bool
 }
 
 // The instruction at place p.
-fn instruction_at_sound(n: usize, k: usize, p: usize, c: Instruction) -> bool
-    ensures { λ r. ⌜ r ≡ choose (ltb p k) (instructionSound n k c) (isZeroInstruction c) ⌝ }
+fn instruction_at_sound(n: usize, k: usize, p: Place, c: Instruction) -> bool
+    ensures { λ r. ⌜ r ≡ choose (ltb (p .0) k) (instructionSound n k c) (isZeroInstruction c) ⌝ }
 {
-    if p < k {
+    let at = p.0 as usize;
+    if at < k {
         instruction_sound(n, k, c)
     } else {
         is_zero_instruction(c)
@@ -642,7 +646,7 @@ fn code_sound(net: Net) -> bool
     let mut p = 0;
     while p < 512 {
         let c = net.code[p];
-        let good = instruction_at_sound(net.addresses, net.length, p, c);
+        let good = instruction_at_sound(net.addresses, net.length, Place(p as u16), c);
         ok = ok & good;
         p += 1;
     }

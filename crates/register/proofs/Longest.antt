@@ -8,7 +8,8 @@ use native.Mathlib.Nat.{pow-suc, suc-mul, mul-le-mul-right, le-trans}
 use lib.ListN.{length, getD, take, length-append, length-take}
 use lib.Dec.{ltb}
 use lib.IntN.{ℤ}
-use Rattle.net.specs.Records.{fieldAt, tupleAt, nodeAt}
+use Rattle.net.specs.Records.{fieldAt, tupleAt, nodeAt, addressOf}
+use Rattle.net.specs.declared.locality.Locality.{Locality}
 use Rattle.net.proofs.Every.{chosen, chosen-lt}
 use Rattle.net.specs.declared.tuple.Item.{Item}
 use Rattle.net.specs.declared.tuple.Tuple.{Tuple}
@@ -19,7 +20,7 @@ use Rattle.step.specs.declared.answer.Answer.{Answer}
 use Rattle.step.specs.Answer.{numberOf}
 use Rattle.step.specs.Pick.{hostOf, slotOf}
 use Rattle.run.specs.Run.{Ran, Outcome, refused, ran}
-use Rattle.run.specs.Making.{numbers}
+use Rattle.run.specs.Run.{numbers}
 use Rattle.run.specs.Register.{digit, digits, decimal, signedDecimal, itemText, field, newline, words, line, pieces, fewer}
 use Rattle.run.specs.Register.{refusedLine, netLine, pickLine, nodeLine, tupleFields, tupleLine, tupleLines, nodeLines}
 use Rattle.run.specs.Register.{netLines, pickLines, registerIn, registerOf}
@@ -124,7 +125,7 @@ net-short : (n k : ℕ) → length (netLine n k) ≤ 46
 unfolding netLine
 net-short n k = line-short _ _ 43 (number-more _ _ 22 (number-more _ _ 1 last-word))
 
-node-short : (a : ℕ) (x : Node) → length (nodeLine a x) ≤ 68
+node-short : (a : Locality) (x : Node) → length (nodeLine a x) ≤ 68
 unfolding nodeLine
 node-short a x = line-short _ _ 64 (number-more _ _ 43 (number-more _ _ 22 (number-more _ _ 1 last-word)))
 
@@ -148,21 +149,21 @@ fields-short t =
     some-short (t .count) 4 22 (λ i. field (itemText (fieldAt t i)))
     (λ i _. field-short (itemText (fieldAt t i)) 21 (item-short (fieldAt t i)))
 
-tuple-short : (a : ℕ) (t : Tuple) → length (tupleLine a t) ≤ 115
+tuple-short : (a : Locality) (t : Tuple) → length (tupleLine a t) ≤ 115
 unfolding tupleLine
 tuple-short a t =
-    let address = field-short (decimal a) 20 (decimal-short a) in
+    let address = field-short (decimal (a .0)) 20 (decimal-short (a .0)) in
     let fields = fields-short t in
     let inner = length-append (tupleFields t) newline in
-    let outer = length-append (field (decimal a)) (tupleFields t ++ newline) in
-    line-short _ (field (decimal a) ++ (tupleFields t ++ newline)) 110 (omega (arith, address, fields, inner, outer, newline-one))
+    let outer = length-append (field (decimal (a .0))) (tupleFields t ++ newline) in
+    line-short _ (field (decimal (a .0)) ++ (tupleFields t ++ newline)) 110 (omega (arith, address, fields, inner, outer, newline-one))
 
-tuples-short : (a : ℕ) (x : Node) → length (tupleLines a x) ≤ 1840
+tuples-short : (a : Locality) (x : Node) → length (tupleLines a x) ≤ 1840
 unfolding tupleLines
 tuples-short a x =
     some-short (x .stored) 16 115 (λ i. tupleLine a (tupleAt x i)) (λ i _. tuple-short a (tupleAt x i))
 
-node-lines-short : (a : ℕ) (x : Node) → length (nodeLines a x) ≤ 1908
+node-lines-short : (a : Locality) (x : Node) → length (nodeLines a x) ≤ 1908
 unfolding nodeLines
 node-lines-short a x =
     let head = node-short a x in
@@ -173,7 +174,8 @@ node-lines-short a x =
 net-lines-short : (s : Net) → length (netLines s) ≤ 30528
 unfolding netLines
 net-lines-short s =
-    some-short (s .addresses) 16 1908 (λ a. nodeLines a (nodeAt s a)) (λ a _. node-lines-short a (nodeAt s a))
+    some-short (s .addresses) 16 1908 (λ a. nodeLines (addressOf a) (nodeAt s (addressOf a)))
+    (λ a _. node-lines-short (addressOf a) (nodeAt s (addressOf a)))
 
 -- ---- the picks
 number-small : (x : Answer) → numberOf x < 100

@@ -9,33 +9,13 @@ use files::read_first;
 use net::network::Net;
 use restore::net_of;
 use step::answer::Answer;
-use step::step::Host;
-ghost use mathlib.Core.Path.{_≡_};
-ghost use Rattle.step.specs.Answer.{numberOf};
+use step::answer::number_of;
+use step::machine::Machine;
 
 mod bytes;
 mod code;
 mod nodes;
 mod restore;
-
-// The answer's number in document 01, "One pick".
-fn number_of(answer: Answer) -> u8
-    ensures { λ r. ⌜ r ≡ numberOf answer ⌝ }
-{
-    match answer {
-        Answer::Performed => 0,
-        Answer::Ended => 1,
-        Answer::NoTuple => 2,
-        Answer::NoRoom => 3,
-        Answer::NoRight => 4,
-        Answer::NotWithin => 5,
-        Answer::NotSet => 6,
-        Answer::FreeSlot => 7,
-        Answer::NotInUse => 8,
-        Answer::Malformed => 9,
-        Answer::Unsound => 10,
-    }
-}
 
 // A digest with one byte more; the prime is 2^56 - 5.
 fn mixed(digest: u64, b: u8) -> u64 {
@@ -88,8 +68,8 @@ struct Made {
 
 // One pick, written.
 fn make_pick(net: Net, b: u8) -> Made {
-    let host = Host { net };
-    let picked = host.pick(b);
+    let machine = Machine { net };
+    let picked = machine.pick(b);
     let answer = picked.answer;
     let after = picked.net;
     let written = write_pick(answer, after);

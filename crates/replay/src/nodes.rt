@@ -32,7 +32,7 @@ fn row_at(s: &[u8], at: usize) -> Row {
     let mut i = 0;
     while i < 16 {
         let rights = rights_at(s, past(at, 1 + i));
-        row = row.with_rights(i, rights);
+        row = row.with_rights(Locality(i as u8), rights);
         i += 1;
     }
     row

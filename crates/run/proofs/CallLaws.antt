@@ -1,14 +1,15 @@
 -- Laws by which the public calls meet their definitions (`specs/Calls.antt`). Assumes nothing.
 use Prim.Native.Nat.{ℕ, zero, suc, _+_, _<_, _≤_}
 use mathlib.Core.Path.{_≡_, refl, sym, ap, subst, _∙_}
-use mathlib.Core.Bool.{true, false}
-use mathlib.Core.List.{List, [], _∷_, _++_, map}
+use mathlib.Core.Bool.{Bool, true, false}
+use mathlib.Core.List.{List, [], _∷_, _++_}
 use native.Mathlib.Omega.{arith}
 use native.Mathlib.Decide.{decLe}
-use lib.ListN.{length, getD, take, drop, length-map, List·getD-append}
+use lib.ListN.{length, getD, take, length-map, List·getD-append}
 use lib.Seq.{sets-eq, take-all, take-length, length-take-le}
 use lib.Dec.{leb}
 use borrow.Author.Tests.{le-leb, lt-leb}
+use Rattle.net.specs.Choice.{choose}
 use Rattle.net.specs.Records.{emptyNet}
 use Rattle.net.specs.Soundness.{soundOf}
 use Rattle.net.proofs.Laws.{choose-true, choose-false}
@@ -17,56 +18,58 @@ use Rattle.image.specs.ImageClaims.{AcceptedIsSound}
 use Rattle.image.proofs.AcceptedSound.{accepted-is-sound}
 use Rattle.step.specs.Answer.{numberOf}
 use Rattle.step.specs.Shape.{Shaped}
-use Rattle.run.specs.Types.{Net, Fault, Opened, Reading}
-use Rattle.run.specs.Run.{Ran, Outcome, refused, ran, answered, ranFrom, runIn, runOf}
+use Rattle.run.specs.Types.{Net, Fault, Opened, Verdict}
+use Rattle.run.specs.Run.{Outcome, refused, ran, answered, ranFrom, runIn, runOf}
 use Rattle.writer.specs.Buffer.{over}
 use Rattle.run.specs.Calls.{Finish, Finished, Registered, finished, finishedOf, answersIn, registeredOf}
-use Rattle.run.specs.Making.{numbers, Startable, Made}
+use Rattle.run.specs.Calls.{registeredNumber, roomNumber}
+use Rattle.run.specs.Making.{Startable, Made}
+use Rattle.run.specs.Run.{numbers}
 use Rattle.run.specs.Register.{pieces, pickLine, pickLines, netLine, netLines, refusedLine, registerIn, registerOf}
 use Rattle.writer.specs.Writing.{Wrote}
-use Rattle.run.proofs.Whole.{whole-shaped, opened-whole}
+use Rattle.run.proofs.OpenedShaped.{opened-shaped}
 use Rattle.writer.proofs.WritingLaws.{wrote-then, wrote-length}
 
 -- ---- an image that was read
 module _ (image : List ℕ) (o : Opened) (read : o ≡ openedOf image) where
-  pub startable : o .answer ≡ Reading.Accepted → Startable (o .net)
+  pub startable : o .answer ≡ Verdict.Accepted → Startable (o .net)
   unfolding AcceptedIsSound
   startable a =
-      let accepted : openedOf image .answer ≡ Reading.Accepted = sym (ap (λ (x : Opened). x .answer) read) ∙ a in
+      let accepted : openedOf image .answer ≡ Verdict.Accepted = sym (ap (λ (x : Opened). x .answer) read) ∙ a in
       let net-is : o .net ≡ openedOf image .net = ap (λ (x : Opened). x .net) read in
       record {
-        shaped = subst Shaped (sym net-is) (whole-shaped _ (opened-whole image));
+        shaped = subst Shaped (sym net-is) (opened-shaped image);
         sound = ap soundOf net-is ∙ accepted-is-sound image accepted;
       }
 
   module _ (picks : List ℕ) where
-    ran-is : o .answer ≡ Reading.Accepted → ran (ranFrom (o .net) picks) ≡ runOf image picks
+    ran-is : o .answer ≡ Verdict.Accepted → ran (ranFrom (o .net) picks) ≡ runOf image picks
     unfolding runOf runIn
     ran-is a =
-        ap (λ (x : Reading). runIn x (o .net) picks) (sym a) ∙ ap (λ (x : Opened). runIn (x .answer) (x .net) picks) read
+        ap (λ (x : Verdict). runIn x (o .net) picks) (sym a) ∙ ap (λ (x : Opened). runIn (x .answer) (x .net) picks) read
 
-    refused-is : (f : Fault) → o .answer ≡ Reading.Refused f → refused f ≡ runOf image picks
+    refused-is : (f : Fault) → o .answer ≡ Verdict.Refused f → refused f ≡ runOf image picks
     unfolding runOf runIn
     refused-is f a =
-        ap (λ (x : Reading). runIn x (o .net) picks) (sym a) ∙ ap (λ (x : Opened). runIn (x .answer) (x .net) picks) read
+        ap (λ (x : Verdict). runIn x (o .net) picks) (sym a) ∙ ap (λ (x : Opened). runIn (x .answer) (x .net) picks) read
 
     pub accepted-finish :
-        (r : Finished) (room : ℕ) → o .answer ≡ Reading.Accepted → r ≡ finishedOf (ran (ranFrom (o .net) picks)) room
+        (r : Finished) (room : ℕ) → o .answer ≡ Verdict.Accepted → r ≡ finishedOf (ran (ranFrom (o .net) picks)) room
         → r ≡ finishedOf (runOf image picks) room
     accepted-finish r room a e = e ∙ ap (λ (x : Outcome). finishedOf x room) (ran-is a)
 
     pub accepted-left :
-        (xs ys : List ℕ) → o .answer ≡ Reading.Accepted → ys ≡ answersIn (ran (ranFrom (o .net) picks)) xs
+        (xs ys : List ℕ) → o .answer ≡ Verdict.Accepted → ys ≡ answersIn (ran (ranFrom (o .net) picks)) xs
         → ys ≡ answersIn (runOf image picks) xs
     accepted-left xs ys a e = e ∙ ap (λ (x : Outcome). answersIn x xs) (ran-is a)
 
     pub refused-finish :
-        (r : Finished) (room : ℕ) (f : Fault) → o .answer ≡ Reading.Refused f → r ≡ finished (Finish.Refused f) emptyNet
+        (r : Finished) (room : ℕ) (f : Fault) → o .answer ≡ Verdict.Refused f → r ≡ finished (Finish.Refused f) emptyNet
         → r ≡ finishedOf (runOf image picks) room
     unfolding finishedOf
     refused-finish r room f a e = e ∙ ap (λ (x : Outcome). finishedOf x room) (refused-is f a)
 
-    pub refused-left : (xs : List ℕ) (f : Fault) → o .answer ≡ Reading.Refused f → xs ≡ answersIn (runOf image picks) xs
+    pub refused-left : (xs : List ℕ) (f : Fault) → o .answer ≡ Verdict.Refused f → xs ≡ answersIn (runOf image picks) xs
     unfolding answersIn
     refused-left xs f a = ap (λ (x : Outcome). answersIn x xs) (refused-is f a)
 
@@ -108,6 +111,15 @@ module _ (s : Net) (picks : List ℕ) where
   short-left xs h = sym (choose-false _ _ _ (too-short (length xs) h))
 
 -- ---- a register
+chosen-number : (b : Bool) (n : ℕ) → registeredNumber (choose b (Registered.Written n) Registered.NoRoom) ≡ choose b 0 35
+unfolding choose registeredNumber
+chosen-number true n = refl
+chosen-number false n = refl
+
+by-lengths : (text : List ℕ) (room : ℕ) → registeredNumber (registeredOf text room) ≡ roomNumber (length text) room
+unfolding registeredOf roomNumber
+by-lengths text room = chosen-number (leb (length text) room) (length text)
+
 module _ (xs text ys : List ℕ) (r : ℕ) (w : Wrote xs 0 text ys r) where
   pub written-whole : r ≤ length ys → Registered.Written r ≡ registeredOf text (length xs)
   unfolding registeredOf
@@ -130,6 +142,13 @@ module _ (xs text ys : List ℕ) (r : ℕ) (w : Wrote xs 0 text ys r) where
       cutting : Dec (length text ≤ length xs) → length xs < r → length xs < length text
       cutting (yes f) g = absurd (let here = w .fits (omega arith) in omega arith)
       cutting (no f) g = omega arith
+
+  -- and its number
+  pub whole-number : r ≤ length ys → registeredNumber (Registered.Written r) ≡ roomNumber (length text) (length xs)
+  whole-number h = ap registeredNumber (written-whole h) ∙ by-lengths text (length xs)
+
+  pub cut-number : length ys < r → registeredNumber Registered.NoRoom ≡ roomNumber (length text) (length xs)
+  cut-number h = ap registeredNumber (written-cut h) ∙ by-lengths text (length xs)
 
 -- the answers that the buffer holds are those of the run
 over-at : (xs text : List ℕ) (i : ℕ) → length text ≤ length xs → i < length text → getD (over xs 0 text) i 0 ≡ getD text i 0
@@ -180,13 +199,13 @@ module _ (image picks : List ℕ) (o : Opened) (read : o ≡ openedOf image) (xs
       (subst (λ (z : Opened). Wrote xs 0 (registerIn (z .net) (take 65536 picks) x) ys r) read w)
 
   pub register-accepted :
-      o .answer ≡ Reading.Accepted
+      o .answer ≡ Verdict.Accepted
       → Wrote xs 0 (registerIn (o .net) (take 65536 picks) (ran (ranFrom (o .net) (take 65536 picks)))) ys r
       → Wrote xs 0 (registerOf image picks) ys r
   register-accepted a w = accepted-register _ (ran-is image o read (take 65536 picks) a) w
 
   pub register-refused :
-      (f : Fault) → o .answer ≡ Reading.Refused f → Wrote xs 0 (refusedLine f) ys r
+      (f : Fault) → o .answer ≡ Verdict.Refused f → Wrote xs 0 (refusedLine f) ys r
       → Wrote xs 0 (registerOf image picks) ys r
   unfolding registerIn
   register-refused f a w = accepted-register _ (refused-is image o read (take 65536 picks) f a) w

@@ -8,7 +8,7 @@ use native.Mathlib.Nat.{pow-suc}
 use lib.Dec.{ltb}
 use mir.Syntax.{w64}
 use mir.Val.{Fits}
-use borrow.Author.Tests.{lt-ltb, le-ltb, ltb-true, ltb-false}
+use borrow.Author.Tests.{lt-ltb, le-ltb, ltb-false}
 use Rattle.net.specs.Choice.{choose}
 use Rattle.net.proofs.Laws.{choose-true, choose-false}
 use Rattle.run.specs.Register.{digit, digits, decimal}

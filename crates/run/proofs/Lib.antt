@@ -1,7 +1,6 @@
 pub mod CallLaws
 pub mod DecimalLaws
+pub mod OpenedShaped
 pub mod RunLaws
 pub mod SignedLaws
-pub mod TurnLaws
-pub mod Whole
 pub mod WritingLaws

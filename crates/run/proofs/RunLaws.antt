@@ -1,8 +1,9 @@
 -- Laws of the loop over picks (`specs/Making.antt`). Assumes nothing.
 use Prim.Native.Nat.{ℕ, zero, suc, _+_, _<_, _≤_}
+use mathlib.Core.Logic.{_⊎_, inl, inr}
 use mathlib.Core.Path.{_≡_, refl, sym, ap, subst, _∙_}
 use mathlib.Core.Bool.{true}
-use mathlib.Core.List.{List, [], _∷_, map}
+use mathlib.Core.List.{List, [], _∷_}
 use native.Mathlib.Omega.{arith}
 use lib.ListN.{length, getD, set, drop, length-set}
 use native.Mathlib.Numerals.{add-one}
@@ -16,7 +17,8 @@ use Rattle.step.proofs.SoundKept.{step-sound-kept}
 use Rattle.run.specs.Types.{Net, Answer, Picked}
 use Rattle.run.specs.Run.{Ran, answered, ranFrom}
 use Rattle.writer.specs.Buffer.{over}
-use Rattle.run.specs.Making.{numbers, Startable, Making, Made}
+use Rattle.run.specs.Making.{Startable, Making, Made}
+use Rattle.run.specs.Run.{numbers}
 
 past-drop : {A : Type 0} (xs : List A) (i : ℕ) → length xs ≤ i → drop i xs ≡ []
 past-drop [] i h = drop-nil i
@@ -82,3 +84,8 @@ module _ (s₀ : Net) (picks xs₀ : List ℕ) where
         net-is = sym (ap (λ (r : Ran). r .net) none) ∙ m .net-is;
         left-is = sym (ap (λ (r : Ran). over xs i (numbers r)) none) ∙ m .left-is;
       }
+
+-- ---- the two ways to a place after a branch
+pub either : {A B C : Type 0} → (A → C) → (B → C) → A ⊎ B → C
+either f g (inl a) = f a
+either f g (inr b) = g b

@@ -1,12 +1,13 @@
 -- Laws of writers of bytes and lines (`specs/Register.antt`; `Wrote` is of the crate `writer`). Assumes nothing.
 use Prim.Native.Nat.{ℕ, _+_, _<_, _≤_}
-use mathlib.Core.Path.{_≡_, refl, sym, ap, subst, _∙_}
-use mathlib.Core.List.{List, [], _∷_, _++_}
+use mathlib.Core.Path.{_≡_, sym, ap, subst, _∙_}
+use mathlib.Core.List.{List, [], _∷_}
 use native.Mathlib.Omega.{arith}
 use native.Mathlib.Numerals.{add-one}
 use lib.ListN.{length, getD, take}
 use lib.Seq.{take-suc, take-all}
 use Rattle.writer.proofs.WritingLaws.{wrote-nothing, wrote-then}
+use Rattle.run.specs.Types.{Locality}
 use Rattle.run.specs.Register.{decimal, field, newline, words, line, pieces}
 use Rattle.writer.specs.Writing.{Wrote}
 
@@ -67,6 +68,13 @@ module _ (xs : List ℕ) (at : ℕ) where
       → Wrote xs at (words (decimal l ∷ decimal m ∷ decimal n ∷ [])) ys r
       → Wrote xs at (words (decimal l′ ∷ decimal m′ ∷ decimal n′ ∷ [])) ys r
   words-as l l′ m m′ n n′ ys r d e f w = rw (← d, ← e, ← f) w
+
+  -- a pick's address, slot and answer
+  pub pick-words :
+      (a a′ : Locality) (k k′ n : ℕ) (ys : List ℕ) (r : ℕ) → a ≡ a′ → k ≡ k′
+      → Wrote xs at (words (decimal (a .0) ∷ decimal k ∷ decimal n ∷ [])) ys r
+      → Wrote xs at (words (decimal (a′ .0) ∷ decimal k′ ∷ decimal n ∷ [])) ys r
+  pick-words a a′ k k′ n ys r d e w = rw (← d, ← e) w
 
 -- up to a count, as the code has it
 pub pieces-upto :

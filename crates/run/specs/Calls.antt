@@ -9,9 +9,9 @@ use lib.Dec.{leb}
 use Rattle.net.specs.Choice.{choose}
 use Rattle.net.specs.Records.{emptyNet}
 use Rattle.run.specs.Types.{Net}
-use Rattle.run.specs.Run.{Ran, Outcome, refused, ran}
+use Rattle.run.specs.Run.{Outcome, refused, ran}
 use Rattle.writer.specs.Buffer.{over}
-use Rattle.run.specs.Making.{numbers}
+use Rattle.run.specs.Run.{numbers}
 
 -- the paper's number of how a run ended: 21 to 30 for a refused image, 35 for a buffer that is too short
 unfoldable pub finishNumber : Finish → ℕ
@@ -38,9 +38,13 @@ answersIn (ran r) buffer =
 unfoldable pub registeredOf : List ℕ → ℕ → Registered
 registeredOf text room = choose (leb (length text) room) (Registered.Written (length text)) Registered.NoRoom
 
+-- the paper's number of that answer, and what it is by the two lengths alone
 unfoldable pub registeredNumber : Registered → ℕ
 registeredNumber (Registered.Written n) = 0
 registeredNumber Registered.NoRoom = 35
+
+unfoldable pub roomNumber : ℕ → ℕ → ℕ
+roomNumber n room = choose (leb n room) 0 35
 
 -- its length, 0 where it was not written whole: every register has a line
 unfoldable pub registeredLength : Registered → ℕ

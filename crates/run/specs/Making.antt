@@ -1,19 +1,15 @@
--- How far the loop over picks has come: what is left gives what the whole gives.
+-- Describes the code, and is no part of what a reader has to believe: how far the loop over picks has come. What is left
+-- gives what the whole gives.
 use Prim.Native.Nat.{ℕ, _≤_}
 use mathlib.Core.Path.{_≡_}
 use mathlib.Core.Bool.{true}
-use mathlib.Core.List.{List, map}
+use mathlib.Core.List.{List}
 use lib.ListN.{length, drop}
 use Rattle.net.specs.Soundness.{soundOf}
-use Rattle.step.specs.Answer.{numberOf}
 use Rattle.step.specs.Shape.{Shaped}
 use Rattle.run.specs.Types.{Net}
-use Rattle.run.specs.Run.{Ran, ranFrom}
+use Rattle.run.specs.Run.{numbers, ranFrom}
 use Rattle.writer.specs.Buffer.{over}
-
--- the answers of a run as bytes
-unfoldable pub numbers : Ran → List ℕ
-numbers r = map numberOf (r .answers)
 
 -- a net that the loop may start from
 pub record Startable (s : Net) : Type 0 where

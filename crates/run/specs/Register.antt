@@ -1,17 +1,16 @@
 -- The register (document 01, "The register"): its bytes, line after line.
 use Prim.Native.Nat.{ℕ, zero, suc, _+_, _/_, _%_}
-use mathlib.Core.Bool.{true, false}
 use mathlib.Core.List.{List, [], _∷_, _++_}
 use lib.ListN.{getD, take, length}
 use lib.Dec.{ltb}
 use lib.IntN.{ℤ}
 use Rattle.net.specs.Choice.{choose, fold}
-use Rattle.net.specs.Records.{fieldAt, tupleAt, processAt, nodeAt}
+use Rattle.net.specs.Records.{fieldAt, tupleAt, processAt, nodeAt, addressOf}
 use Rattle.image.specs.Image.{openedOf}
 use Rattle.step.specs.Pick.{hostOf, slotOf}
-use Rattle.run.specs.Types.{Item, Tuple, Node, Net, Fault}
-use Rattle.run.specs.Run.{Ran, Outcome, refused, ran, runOf}
-use Rattle.run.specs.Making.{numbers}
+use Rattle.run.specs.Types.{Locality, Item, Tuple, Node, Net, Fault}
+use Rattle.run.specs.Run.{Outcome, refused, ran, runOf}
+use Rattle.run.specs.Run.{numbers}
 
 -- ---- words and numbers
 
@@ -77,35 +76,35 @@ netLine n k = line (110 ∷ 101 ∷ 116 ∷ []) (words (decimal n ∷ decimal k 
 unfoldable pub pickLine : ℕ → ℕ → ℕ → List ℕ
 pickLine i b x =
     line (112 ∷ 105 ∷ 99 ∷ 107 ∷ [])
-    (words (decimal i ∷ decimal (hostOf b) ∷ decimal (slotOf b) ∷ decimal x ∷ []))
+    (words (decimal i ∷ decimal (hostOf b .0) ∷ decimal (slotOf b) ∷ decimal x ∷ []))
 
 -- how many of a node's slots are busy
 unfoldable pub busyOf : Node → ℕ
 busyOf x = fold 4 (λ i n. choose (processAt x i .busy) (n + 1) n) 0
 
 -- node, address, tuple count and busy slots
-unfoldable pub nodeLine : ℕ → Node → List ℕ
+unfoldable pub nodeLine : Locality → Node → List ℕ
 nodeLine a x =
-    line (110 ∷ 111 ∷ 100 ∷ 101 ∷ []) (words (decimal a ∷ decimal (x .stored) ∷ decimal (busyOf x) ∷ []))
+    line (110 ∷ 111 ∷ 100 ∷ 101 ∷ []) (words (decimal (a .0) ∷ decimal (x .stored) ∷ decimal (busyOf x) ∷ []))
 
 -- tuple, address and fields
 unfoldable pub tupleFields : Tuple → List ℕ
 tupleFields t = pieces (fewer (t .count) 4) (λ i. field (itemText (fieldAt t i)))
 
-unfoldable pub tupleLine : ℕ → Tuple → List ℕ
+unfoldable pub tupleLine : Locality → Tuple → List ℕ
 tupleLine a t =
-    line (116 ∷ 117 ∷ 112 ∷ 108 ∷ 101 ∷ []) (field (decimal a) ++ (tupleFields t ++ newline))
+    line (116 ∷ 117 ∷ 112 ∷ 108 ∷ 101 ∷ []) (field (decimal (a .0)) ++ (tupleFields t ++ newline))
 
 -- a node's line, followed by its tuples, oldest first
-unfoldable pub tupleLines : ℕ → Node → List ℕ
+unfoldable pub tupleLines : Locality → Node → List ℕ
 tupleLines a x = pieces (fewer (x .stored) 16) (λ i. tupleLine a (tupleAt x i))
 
-unfoldable pub nodeLines : ℕ → Node → List ℕ
+unfoldable pub nodeLines : Locality → Node → List ℕ
 nodeLines a x = nodeLine a x ++ tupleLines a x
 
 -- each address in use, ascending
 unfoldable pub netLines : Net → List ℕ
-netLines s = pieces (fewer (s .addresses) 16) (λ a. nodeLines a (nodeAt s a))
+netLines s = pieces (fewer (s .addresses) 16) (λ a. nodeLines (addressOf a) (nodeAt s (addressOf a)))
 
 -- each pick, numbered from 1, with its answer
 unfoldable pub pickLines : List ℕ → List ℕ → List ℕ

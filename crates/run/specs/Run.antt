@@ -1,15 +1,20 @@
 -- A run (demand 3; document 01, "The tenant rule"): the net of an accepted image, then each pick on the net that the last
 -- one left, whatever its answer.
 use Prim.Native.Nat.{ℕ}
-use mathlib.Core.List.{List, [], _∷_}
+use mathlib.Core.List.{List, [], _∷_, map}
 use Rattle.image.specs.Image.{openedOf}
+use Rattle.step.specs.Answer.{numberOf}
 use Rattle.step.specs.Pick.{pickOf}
-use Rattle.run.specs.Types.{Net, Fault, Opened, Reading, Answer, Picked}
+use Rattle.run.specs.Types.{Net, Fault, Verdict, Answer}
 
 -- the answers in order, and the final net
 pub record Ran : Type 0 where
   pub answers : List Answer
   pub net : Net
+
+-- the answers as bytes, by the paper's numbers
+unfoldable pub numbers : Ran → List ℕ
+numbers r = map numberOf (r .answers)
 
 unfoldable pub answered : Answer → Ran → Ran
 answered x r = record { answers = x ∷ r .answers; net = r .net }
@@ -23,9 +28,9 @@ pub data Outcome : Type 0 where
   refused : Fault → Outcome
   ran : Ran → Outcome
 
-unfoldable pub runIn : Reading → Net → List ℕ → Outcome
-runIn Reading.Accepted s picks = ran (ranFrom s picks)
-runIn (Reading.Refused f) s picks = refused f
+unfoldable pub runIn : Verdict → Net → List ℕ → Outcome
+runIn Verdict.Accepted s picks = ran (ranFrom s picks)
+runIn (Verdict.Refused f) s picks = refused f
 
 unfoldable pub runOf : List ℕ → List ℕ → Outcome
 runOf image picks = runIn (openedOf image .answer) (openedOf image .net) picks

@@ -1,27 +1,13 @@
 -- The types of the crates below that the definitions of this crate speak of.
 pub use Rattle.net.specs.declared.locality.Locality.{Locality}
-pub use Rattle.net.specs.declared.locality.Place.{Place}
-pub use Rattle.net.specs.declared.tuple.Value.{Value}
 pub use Rattle.net.specs.declared.tuple.Item.{Item}
-pub use Rattle.net.specs.declared.tuple.Field.{Field}
 pub use Rattle.net.specs.declared.tuple.Tuple.{Tuple}
-pub use Rattle.net.specs.declared.policy.Rights.{Rights}
-pub use Rattle.net.specs.declared.policy.Row.{Row}
 pub use Rattle.net.specs.declared.process.Process.{Process}
 pub use Rattle.net.specs.declared.node.Node.{Node}
-pub use Rattle.net.specs.declared.node.Slot.{Slot}
-pub use Rattle.net.specs.declared.instruction.Target.{Target}
-pub use Rattle.net.specs.declared.instruction.Action.{Action}
 pub use Rattle.net.specs.declared.instruction.Instruction.{Instruction}
 pub use Rattle.net.specs.declared.network.Net.{Net}
-pub use Rattle.net.specs.declared.matching.Evaluated.{Evaluated}
-pub use Rattle.net.specs.declared.matching.Found.{Found}
-pub use Rattle.net.specs.declared.matching.Matched.{Matched}
 pub use Rattle.image.specs.declared.reader.Fault.{Fault}
 pub use Rattle.image.specs.declared.reader.Opened.{Opened}
-pub use Rattle.image.specs.declared.reader.Answer.{Answer as Reading}
-pub use Rattle.step.specs.declared.request.Request.{Request}
+pub use Rattle.image.specs.declared.reader.Verdict.{Verdict}
 pub use Rattle.step.specs.declared.answer.Answer.{Answer}
 pub use Rattle.step.specs.declared.answer.Picked.{Picked}
-pub use Rattle.step.specs.declared.plan.Effect.{Effect}
-pub use Rattle.step.specs.declared.plan.Plan.{Plan}

@@ -3,4 +3,3 @@ mod lines;
 pub mod register;
 pub mod run;
 mod text;
-mod turn;

@@ -3,13 +3,14 @@ use crate::text::put;
 use crate::text::put_bytes;
 use crate::text::put_field;
 use crate::text::put_number;
-use crate::turn::host_of;
-use crate::turn::slot_of;
 use image::reader::Fault;
+use net::locality::Locality;
 use net::network::Net;
 use net::node::Node;
 use net::process::Process;
 use net::tuple::Tuple;
+use step::turn::host_of;
+use step::turn::slot_of;
 ghost use Prim.Native.Nat.{_+_, _<_, _≤_};
 ghost use mathlib.Core.List.{[], _∷_, _++_};
 ghost use mathlib.Core.Path.{_≡_};
@@ -67,11 +68,11 @@ pub fn put_net(out: &mut [u8], at: usize, n: usize, k: usize) -> usize
 
 // Address, slot and answer of a pick, and the line's end.
 fn end_pick(out: &mut [u8], at: usize, b: u8, answer: u8) -> usize
-    ensures { λ r. ⌜ Wrote (now (out .entry)) at (words (decimal (hostOf b) ∷ decimal (slotOf b) ∷ decimal answer ∷ [])) (now (out .exit)) r ⌝ }
+    ensures { λ r. ⌜ Wrote (now (out .entry)) at (words (decimal (hostOf b .0) ∷ decimal (slotOf b) ∷ decimal answer ∷ [])) (now (out .exit)) r ⌝ }
 {
     let a = host_of(b);
     let k = slot_of(b);
-    end_three(out, at, a, k, answer as usize)
+    end_three(out, at, a.0 as usize, k, answer as usize)
 }
 
 fn put_pick(out: &mut [u8], at: usize, i: usize, b: u8, answer: u8) -> usize
@@ -120,12 +121,12 @@ fn busy_slots(x: Node) -> usize
     n
 }
 
-fn put_node(out: &mut [u8], at: usize, a: usize, x: Node) -> usize
+fn put_node(out: &mut [u8], at: usize, a: Locality, x: Node) -> usize
     ensures { λ r. ⌜ Wrote (now (out .entry)) at (nodeLine a x) (now (out .exit)) r ⌝ }
 {
     let busy = busy_slots(x);
     let next = put_bytes(out, at, b"node");
-    end_three(out, next, a, x.stored, busy)
+    end_three(out, next, a.0 as usize, x.stored, busy)
 }
 
 fn put_fields(out: &mut [u8], at: usize, t: Tuple) -> usize
@@ -151,15 +152,15 @@ fn end_tuple(out: &mut [u8], at: usize, t: Tuple) -> usize
     put(out, next, 10)
 }
 
-fn put_tuple(out: &mut [u8], at: usize, a: usize, t: Tuple) -> usize
+fn put_tuple(out: &mut [u8], at: usize, a: Locality, t: Tuple) -> usize
     ensures { λ r. ⌜ Wrote (now (out .entry)) at (tupleLine a t) (now (out .exit)) r ⌝ }
 {
     let first = put_bytes(out, at, b"tuple");
-    let second = put_number(out, first, a);
+    let second = put_number(out, first, a.0 as usize);
     end_tuple(out, second, t)
 }
 
-fn put_tuples(out: &mut [u8], at: usize, a: usize, x: Node) -> usize
+fn put_tuples(out: &mut [u8], at: usize, a: Locality, x: Node) -> usize
     ensures { λ r. ⌜ Wrote (now (out .entry)) at (tupleLines a x) (now (out .exit)) r ⌝ }
 {
     let n = at_most(x.stored, 16);
@@ -174,7 +175,7 @@ fn put_tuples(out: &mut [u8], at: usize, a: usize, x: Node) -> usize
 }
 
 // A node's line, and its tuples.
-fn put_node_lines(out: &mut [u8], at: usize, a: usize, x: Node) -> usize
+fn put_node_lines(out: &mut [u8], at: usize, a: Locality, x: Node) -> usize
     ensures { λ r. ⌜ Wrote (now (out .entry)) at (nodeLines a x) (now (out .exit)) r ⌝ }
 {
     let next = put_node(out, at, a, x);
@@ -190,7 +191,7 @@ pub fn put_nodes(out: &mut [u8], at: usize, net: Net) -> usize
     let mut i = 0;
     while i < n {
         let x = net.nodes[i];
-        next = put_node_lines(out, next, i, x);
+        next = put_node_lines(out, next, Locality(i as u8), x);
         i += 1;
     }
     next

@@ -4,14 +4,14 @@ use crate::lines::put_nodes;
 use crate::lines::put_picks;
 use crate::lines::put_refused;
 use crate::run::make;
-use image::reader::Answer;
+use image::reader::Verdict;
 use image::reader::read_image;
 use net::network::Net;
 ghost use Prim.Native.Nat.{_≤_};
 ghost use mathlib.Core.Path.{_≡_};
 ghost use lib.ListN.{length, take};
 ghost use Rattle.writer.specs.Buffer.{over};
-ghost use Rattle.run.specs.Calls.{registeredOf};
+ghost use Rattle.run.specs.Calls.{registeredOf, registeredNumber, roomNumber};
 ghost use Rattle.run.specs.Making.{Startable};
 ghost use Rattle.run.specs.Register.{registerIn, registerOf};
 ghost use Rattle.run.specs.Run.{ran, ranFrom};
@@ -63,14 +63,15 @@ fn put_register(image: &[u8], picks: &[u8], out: &mut [u8]) -> usize
     let answer = opened.answer;
     let net = opened.net;
     match answer {
-        Answer::Accepted => put_first(net, picks, out),
-        Answer::Refused(fault) => put_refused(out, 0, fault),
+        Verdict::Accepted => put_first(net, picks, out),
+        Verdict::Refused(fault) => put_refused(out, 0, fault),
     }
 }
 
 // Writes the register of an image and its picks into the buffer.
 pub fn register(image: &[u8], picks: &[u8], out: &mut [u8]) -> Registered
     ensures { λ r. ⌜ r ≡ registeredOf (registerOf (now (image .entry)) (now (picks .entry))) (length (now (out .entry))) ⌝ }
+    ensures { λ r. ⌜ registeredNumber r ≡ roomNumber (length (registerOf (now (image .entry)) (now (picks .entry)))) (length (now (out .entry))) ⌝ }
     ensures { λ _. ⌜ now (out .exit) ≡ over (now (out .entry)) 0 (registerOf (now (image .entry)) (now (picks .entry))) ⌝ }
 {
     let end = put_register(image, picks, out);

@@ -1,23 +1,19 @@
 // A run: each pick goes to the net that the last one left, whatever its answer.
-use crate::turn::acts;
-use crate::turn::host_of;
-use crate::turn::index_of;
-use crate::turn::met_by;
-use crate::turn::number_of;
-use crate::turn::plan_of;
-use crate::turn::sends;
-use crate::turn::slot_of;
-use image::reader::Answer;
 use image::reader::Fault;
+use image::reader::Verdict;
 use image::reader::read_image;
-use net::locality::Locality;
 use net::network::Net;
-use step::request::ask;
-use step::step::changes_net;
-use step::step::count_after;
-use step::step::sent_within;
-use step::step::target_after;
-use step::step::target_index;
+use step::answer::number_of;
+use step::plan::host_after;
+use step::turn::changes_net;
+use step::turn::count_after;
+use step::turn::host_of;
+use step::turn::index_of;
+use step::turn::plan_of;
+use step::turn::sends;
+use step::turn::sent_within;
+use step::turn::slot_of;
+use step::turn::turn_of;
 ghost use Prim.Native.Nat.{_≤_};
 ghost use mathlib.Core.Path.{_≡_};
 ghost use lib.ListN.{length};
@@ -52,35 +48,28 @@ pub(crate) fn make(start: Net, picks: &[u8], answers: &mut [u8]) -> Net
         let a = host_of(b);
         let k = slot_of(b);
         let n = net.addresses;
-        let mut host = net.nodes[a];
+        let host_at = a.0 as usize;
+        let host = net.nodes[host_at];
         let p = host.processes[k];
         let at = index_of(p.at);
-        let c = met_by(b, n, p, net.code[at]);
-        let asked = ask(Locality(a as u8), p, c);
-        let request = asked.request;
-        let template = asked.template;
-        let l = target_index(a, n, request);
-        let y = net.nodes[l];
+        let turn = turn_of(b, n, p, net.code[at]);
+        let l = turn.target;
+        let target_at = l.0 as usize;
+        let y = net.nodes[target_at];
+        let request = turn.request;
         let mut within = true;
         if sends(request) {
             let code = net.code;
             within = sent_within(code, y.row, request);
         }
-        let plan = plan_of(b, n, host.row, p, y, template, within, request);
+        let plan = plan_of(b, n, host.row, p, y, turn, within);
         let answer = plan.answer;
         if changes_net(answer) {
-            let process = plan.process;
-            let row = plan.row;
-            let effect = plan.effect;
-            host.processes[k] = process;
-            host.row = row;
-            net.nodes[a] = host;
-            if acts(effect) {
-                let z = net.nodes[l];
-                let target = target_after(plan, z);
-                net.nodes[l] = target;
-            }
-            net.addresses = count_after(effect, n);
+            let target = plan.target;
+            net.nodes[target_at] = target;
+            let x = net.nodes[host_at];
+            net.nodes[host_at] = host_after(plan, k, l, x);
+            net.addresses = count_after(plan.opens, n);
         }
         answers[i] = number_of(answer);
         i += 1;
@@ -120,7 +109,7 @@ pub fn run(image: &[u8], picks: &[u8], answers: &mut [u8]) -> Finished
     let answer = opened.answer;
     let net = opened.net;
     match answer {
-        Answer::Accepted => run_net(net, picks, answers),
-        Answer::Refused(fault) => not_made(Finish::Refused(fault)),
+        Verdict::Accepted => run_net(net, picks, answers),
+        Verdict::Refused(fault) => not_made(Finish::Refused(fault)),
     }
 }

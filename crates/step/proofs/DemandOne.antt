@@ -11,10 +11,10 @@ use Rattle.step.specs.Types.{Locality, Action, Net}
 use Rattle.step.specs.Answer.{Answer, Picked, numberOf}
 use Rattle.step.specs.Request.{requestOf}
 use Rattle.step.specs.Pick.{hostOf, slotOf, unchanged, performed, stopped, processStep, stepOf, slotStep, pickOf}
-use Rattle.step.specs.Rules.{processIn, instructionIn, rowIn, Stands, Step, OUT, IN, READ, EVAL, NEW, FORK}
+use Rattle.step.specs.Rules.{processIn, instructionIn, rowIn, Stands, Reduces, OUT, IN, READ, EVAL, NEW, FORK}
 use Rattle.step.specs.DemandOne.{Held, out-held, in-held, read-held, eval-held, new-held, fork-held}
 use Rattle.step.specs.DemandOne.{pickedProcess, pickedAction, OnlyWithRight, RefusedChangesNothing}
-use Rattle.step.proofs.Outcomes.{Outcome, performs, refuses, ends, outcome}
+use Rattle.step.proofs.Outcomes.{ComesTo, performs, refuses, ends, outcome}
 use Rattle.step.proofs.Rules.{picked-step}
 
 -- ---- only with the right
@@ -24,7 +24,7 @@ module _ (s : Net) (a : Locality) (k : ℕ) where
       → Held (rowIn s a) a (processIn s a k) (instructionIn s a k .action)
   held-at x h r = rw (h .acts) r
 
-  held : (after : Net) → Step s a k after → Held (rowIn s a) a (processIn s a k) (instructionIn s a k .action)
+  held : (after : Net) → Reduces s a k after → Held (rowIn s a) a (processIn s a k) (instructionIn s a k .action)
   held _ (OUT h p d g room) = held-at _ h (out-held (p .points) g)
   held _ (IN h p d g o) = held-at _ h (in-held (p .points) g)
   held _ (READ h p d g o) = held-at _ h (read-held (p .points) g)
@@ -49,7 +49,7 @@ is-performed Answer.Unsound h = absurd (omega arith)
 pub onlyWithRight : OnlyWithRight
 unfolding OnlyWithRight pickedProcess pickedAction rowIn processIn instructionIn
 onlyWithRight s b h =
-    held s (record { 0 = hostOf b }) (slotOf b) (pickOf s b .net)
+    held s (hostOf b) (slotOf b) (pickOf s b .net)
     (picked-step s b (pickOf s b .net)
     (record { is = λ i. record { answer = is-performed (pickOf s b .answer) h i; net = pickOf s b .net } }))
 
@@ -59,7 +59,7 @@ data Left (s : Net) (r : Picked) : Type 0 where
   was-ended : r .answer ≡ Answer.Ended → Left s r
   as-it-was : r .net ≡ s → Left s r
 
-left : (s : Net) (a k : ℕ) (x : Action) (r : Picked) → Outcome s a k x r → Left s r
+left : (s : Net) (a : Locality) (k : ℕ) (x : Action) (r : Picked) → ComesTo s a k x r → Left s r
 unfolding performed unchanged stopped
 left s a k _ _ (performs n) = was-performed refl
 left s a k _ _ (refuses n l) = as-it-was refl
@@ -73,7 +73,7 @@ picked-left : (s : Net) (b : ℕ) → Left s (pickOf s b)
 unfolding pickOf stepOf slotStep processStep requestOf
 picked-left s b =
     or-refused s _ _ _ (or-refused s _ _ _ (or-refused s _ _ _ (or-refused s _ _ _
-    (left s (hostOf b) (slotOf b) _ _ (outcome s (record { 0 = hostOf b }) (slotOf b) _ _ _)))))
+    (left s (hostOf b) (slotOf b) _ _ (outcome s (hostOf b) (slotOf b) _ _ _)))))
 
 number-performed : numberOf Answer.Performed ≡ 0
 unfolding numberOf

@@ -23,8 +23,8 @@ use Rattle.net.proofs.tuple.Field as tupleField
 use Rattle.net.proofs.tuple.Tuple as tuple
 use Rattle.net.proofs.tuple.Variable as variable
 use Rattle.net.specs.Records.{processAt, tupleAt, nodeAt, instructionAt}
-use Rattle.step.specs.declared.step.Host.{Host}
-use Rattle.step.proofs.step.Host as host
+use Rattle.step.specs.declared.machine.Machine.{Machine}
+use Rattle.step.proofs.machine.Machine as machine
 use Rattle.step.specs.Types.{Tuple, Process, Node, Instruction, Net}
 use Rattle.step.specs.Shape.{ShapedTuple, ShapedProcess, ShapedNode, ShapedInstruction, Shaped}
 
@@ -82,9 +82,9 @@ net-shaped s vs h =
     record {
       nodes-are = long node.the-type (s .nodes) 16 _ nodes-known;
       code-is = long instruction.the-type (s .code) 512 _ code-known;
-      each-node = element node.the-type ShapedNode node-shaped (s .nodes) 16 _ nodes-known _;
-      each-instruction = element instruction.the-type ShapedInstruction instruction-shaped (s .code) 512 _ code-known _;
+      each-node = λ a. element node.the-type ShapedNode node-shaped (s .nodes) 16 _ nodes-known _ (a .0);
+      each-instruction = λ p. element instruction.the-type ShapedInstruction instruction-shaped (s .code) 512 _ code-known _ (p .0);
     }
 
-pub host-shaped : (h : Host) (vs : List Val) → Is (row host.the-type) h vs → Shaped (h .net)
-host-shaped h vs k = net-shaped (h .net) _ (k .1 .1 .0)
+pub machine-shaped : (m : Machine) (vs : List Val) → Is (row machine.the-type) m vs → Shaped (m .net)
+machine-shaped m vs k = net-shaped (m .net) _ (k .1 .1 .0)

@@ -1,7 +1,6 @@
 pub mod DemandOne
 pub mod Lengths
 pub mod Outcomes
-pub mod PickLaws
 pub mod PutBack
 pub mod ReadBack
 pub mod Rules
@@ -11,4 +10,5 @@ pub mod SoundKept
 pub mod SoundRequests
 pub mod StepFacts
 pub mod StepLaws
+pub mod TurnLaws
 pub mod Within

@@ -12,7 +12,7 @@ use Rattle.net.specs.Soundness.{soundOf}
 use Rattle.step.specs.Types.{Locality, Process, Evaluated, Net}
 use Rattle.step.specs.Answer.{Answer, Picked, numberOf}
 use Rattle.step.specs.Request.{Aim, Request, at, spoken, granted}
-use Rattle.step.specs.Pick.{hostOf, slotOf, spareOf, unchanged, done, isLack, acting, processStep, slotStep}
+use Rattle.step.specs.Pick.{hostOf, slotOf, spareOf, unchanged, carriedOut, acting, processStep, slotStep}
 use Rattle.step.specs.Pick.{stepOf, pickOf}
 
 -- what was picked is the answer w with the net after
@@ -42,18 +42,8 @@ module _ {w : Answer} {after : Net} where
     through n s true x l h = record { test = refl; rest = h }
     through n s false x l h = absurd (refused n s l h)
 
-    -- the same of a test that refuses where it holds
-    past :
-        (n : Answer) (s : Net) (b : Bool) (x : Picked)
-        → 1 < numberOf n
-        → Gave w after (choose b (unchanged n s) x)
-        → Gave w after x
-    unfolding choose
-    past n s true x l h = absurd (refused n s l h)
-    past n s false x l h = h
-
 -- ---- what acted: not a lack, and with the right
-module _ (w : Answer) (after : Net) (s : Net) (a k : ℕ) (p : Process) (e : Evaluated) where
+module _ (w : Answer) (after : Net) (s : Net) (a : Locality) (k : ℕ) (p : Process) (e : Evaluated) where
   -- the target pointed to an address
   pub record Aimed (aim : Aim) (f : Locality → Request) : Type 0 where
     pub l : Locality
@@ -65,18 +55,17 @@ module _ (w : Answer) (after : Net) (s : Net) (a k : ℕ) (p : Process) (e : Eva
     pub defined : d ≡ true
     pub aims : Aimed aim f
 
-module _ {w : Answer} {after : Net} (final : numberOf w ≤ 1) (s : Net) (a k : ℕ) (p : Process) (e : Evaluated) where
+module _ {w : Answer} {after : Net} (final : numberOf w ≤ 1) (s : Net) (a : Locality) (k : ℕ) (p : Process) (e : Evaluated) where
   lack : Gave w after (acting s a k p e Request.Lack) → ⊥
-  unfolding acting isLack choose numberOf
+  unfolding acting granted carriedOut choose numberOf
   lack h = refused final Answer.NotSet s (omega arith) h
 
   pub acted :
       (r : Request) → Gave w after (acting s a k p e r)
-      → Passed w after (granted (nodeAt s a .row) r) (done s a k p e r)
+      → Passed w after (granted (nodeAt s a .row) r) (carriedOut s a k p e r)
   unfolding acting numberOf
   acted r h =
-      through final Answer.NoRight s (granted (nodeAt s a .row) r) _ (omega arith)
-      (past final Answer.NotSet s (isLack r) _ (omega arith) h)
+      through final Answer.NoRight s (granted (nodeAt s a .row) r) _ (omega arith) h
 
   pub aimed :
       (aim : Aim) (f : Locality → Request) → Gave w after (acting s a k p e (at aim f))
@@ -104,12 +93,12 @@ module _ {w : Answer} {after : Net} (final : numberOf w ≤ 1) (s : Net) (a k : 
 pub record Seated (w : Answer) (after : Net) (s : Net) (b : ℕ) : Type 0 where
   pub sound : soundOf s ≡ true
   pub spare : spareOf b ≡ 0
-  pub used : hostOf b < s .addresses
+  pub used : hostOf b .0 < s .addresses
   pub busy : processAt (nodeAt s (hostOf b)) (slotOf b) .busy ≡ true
   pub acts :
       Gave w after
       (processStep s (hostOf b) (slotOf b) (processAt (nodeAt s (hostOf b)) (slotOf b))
-      (instructionAt (s .code) (processAt (nodeAt s (hostOf b)) (slotOf b) .at .0)))
+      (instructionAt (s .code) (processAt (nodeAt s (hostOf b)) (slotOf b) .at)))
 
 pub seated :
     {w : Answer} {after : Net} → numberOf w ≤ 1 → (s : Net) (b : ℕ) → Gave w after (pickOf s b) → Seated w after s b

@@ -11,7 +11,7 @@ use lib.Dec.{ltb}
 use lib.IntN.{ℤ}
 use borrow.Author.Tests.{ltb-true, lt-ltb}
 use Rattle.net.specs.Choice.{choose, both, all, fold}
-use Rattle.net.specs.Records.{variableAt, tupleAt, nodeAt, instructionAt, fieldAt}
+use Rattle.net.specs.Records.{variableAt, tupleAt, nodeAt, instructionAt, fieldAt, addressOf}
 use Rattle.net.specs.Records.{zeroField, zeroTuple, unsetVariable, freeProcess, noRights, zeroRow, zeroNode, allRights}
 use Rattle.net.specs.Records.{withVariable, withRights, withRow, withProcess, withTuple, withNode}
 use Rattle.net.specs.Records.{movedTo, copiedTo, afterTaking, withoutTuple}
@@ -22,9 +22,9 @@ use Rattle.net.proofs.Every.{chosen-lt, Every, every-replicate, every-set, ever
 use Rattle.net.proofs.Past.{pastProcess, pastTuple}
 use Rattle.net.proofs.MatchingPromise.{matchingPromise as promise}
 use Rattle.net.proofs.FoldLaws.{fold-keeps}
-use Rattle.step.specs.Types.{Value, Variable, Tuple, Row, Process, Node, Place, Net}
+use Rattle.step.specs.Types.{Locality, Value, Variable, Tuple, Row, Process, Node, Place, Net}
 use Rattle.step.specs.Shape.{ShapedTuple, ShapedProcess}
-use Rattle.step.specs.Pick.{withHost, added, taken, gaining, opened, created}
+use Rattle.step.specs.Pick.{withHost, added, taken, gaining, opened, unused, createdAt, created}
 use Rattle.step.proofs.SoundFacts.{Good, NodeOk, NetOk, node-apart, node-together, node-more, instruction-more}
 use Rattle.step.proofs.SoundFacts.{choose-e, pastRights, value-more}
 
@@ -158,39 +158,39 @@ zero-node n k = record {
 
 -- ---- a net
 module _ (s : Net) (ok : NetOk s) where
-  pub node-at : (a : ℕ) → a < s .addresses → NodeOk (s .addresses) (s .length) (nodeAt s a)
+  pub node-at : (a : Locality) → a .0 < s .addresses → NodeOk (s .addresses) (s .length) (nodeAt s a)
   unfolding nodeAt
-  node-at a h = node-apart _ _ _ (ok .nodes-ok .holds a (omega (arith, ok .addresses-most)) .used h)
+  node-at a h = node-apart _ _ _ (ok .nodes-ok .holds (a .0) (omega (arith, ok .addresses-most)) .used h)
 
   pub instruction-at :
-      (p : ℕ) → p < s .length → instructionSound (s .addresses) (s .length) (instructionAt (s .code) p) ≡ true
+      (p : Place) → p .0 < s .length → instructionSound (s .addresses) (s .length) (instructionAt (s .code) p) ≡ true
   unfolding instructionAt
-  instruction-at p h = ok .code-ok .holds p (omega (arith, ok .length-most)) .used h .passes
+  instruction-at p h = ok .code-ok .holds (p .0) (omega (arith, ok .length-most)) .used h .passes
 
   pub with-node :
-      (a : ℕ) (x : Node) → a < s .addresses → NodeOk (s .addresses) (s .length) x → NetOk (withNode s a x)
+      (a : Locality) (x : Node) → a .0 < s .addresses → NodeOk (s .addresses) (s .length) x → NetOk (withNode s a x)
   unfolding withNode
   with-node a x h g = record {
     addresses-least = ok .addresses-least;
     addresses-most = ok .addresses-most;
     length-least = ok .length-least;
     length-most = ok .length-most;
-    nodes-ok = filled-set a x h (node-together _ _ x g) (ok .nodes-ok);
+    nodes-ok = filled-set (a .0) x h (node-together _ _ x g) (ok .nodes-ok);
     code-ok = ok .code-ok;
   }
 
   pub with-host :
-      (a i : ℕ) (p : Process) → a < s .addresses → Good (processSound (s .addresses) (s .length)) ShapedProcess p
+      (a : Locality) (i : ℕ) (p : Process) → a .0 < s .addresses → Good (processSound (s .addresses) (s .length)) ShapedProcess p
       → NetOk (withHost s a i p)
   unfolding withHost
   with-host a i p h g = with-node a _ h (with-process _ _ _ (node-at a h) i p g)
 
   pub added-kept :
-      (l : ℕ) (t : Tuple) → l < s .addresses → Good (tupleSound (s .addresses)) ShapedTuple t → NetOk (added s l t)
+      (l : Locality) (t : Tuple) → l .0 < s .addresses → Good (tupleSound (s .addresses)) ShapedTuple t → NetOk (added s l t)
   unfolding added
   added-kept l t h g = with-node l _ h (with-tuple _ _ _ (node-at l h) t g)
 
-  pub taken-kept : (l i : ℕ) → l < s .addresses → i < nodeAt s l .stored → NetOk (taken s l i)
+  pub taken-kept : (l : Locality) (i : ℕ) → l .0 < s .addresses → i < nodeAt s l .stored → NetOk (taken s l i)
   unfolding taken
   taken-kept l i h g = with-node l _ h (without-tuple _ _ _ (node-at l h) i g)
 
@@ -214,12 +214,12 @@ good-more p q count m j x f = record {
 -- the row of the creator, and of the new node
 gaining-ok :
     (n : ℕ) (r : Row) → Every (λ l a. n ≤ l → isNone a ≡ true) pastRights 16 (r .rights)
-    → Every (λ l a. n + 1 ≤ l → isNone a ≡ true) pastRights 16 (gaining r n .rights)
+    → Every (λ l a. n + 1 ≤ l → isNone a ≡ true) pastRights 16 (gaining r (addressOf n) .rights)
 unfolding gaining withRights
 gaining-ok n r e = every-set n allRights e (λ j b d f l. f (omega arith)) (λ l. absurd (omega arith))
 
 module _
-    (s : Net) (ok : NetOk s) (a i : ℕ) (p : Process) (v : ℕ) (q : Place) (hosted : a < s .addresses)
+    (s : Net) (ok : NetOk s) (a : Locality) (i : ℕ) (p : Process) (v : ℕ) (q : Place) (hosted : a .0 < s .addresses)
     (room : s .addresses < 16) (runs : Running (s .addresses) (s .length) p) (next : q .0 < s .length)
   where
     more : s .addresses ≤ s .addresses + 1
@@ -228,9 +228,9 @@ module _
     creator :
         NodeOk (s .addresses + 1) (s .length)
         (withRow
-        (withProcess (nodeAt s a) i (movedTo (withVariable p v (Value.Address (record { 0 = s .addresses }))) q))
-        (gaining (nodeAt s a .row) (s .addresses)))
-    unfolding valueSound
+        (withProcess (nodeAt s a) i (movedTo (withVariable p v (Value.Address (unused s))) q))
+        (gaining (nodeAt s a .row) (unused s)))
+    unfolding valueSound unused
     creator =
         let n : ℕ = s .addresses in
         let k : ℕ = s .length in
@@ -245,7 +245,7 @@ module _
         _ (gaining-ok n _ (node-at s ok a hosted .row-ok))
 
     pub created-kept : NetOk (created s a i p v q)
-    unfolding created opened withNode
+    unfolding created createdAt unused opened withNode
     created-kept =
         let n : ℕ = s .addresses in
         let k : ℕ = s .length in
@@ -257,7 +257,7 @@ module _
           nodes-ok = filled-add _
               (node-together (n + 1) k _
               (with-row (n + 1) k zeroNode (zero-node (n + 1) k) _ (gaining-ok n _ (node-at s ok a hosted .row-ok))))
-              (filled-set a _ hosted (node-together (n + 1) k _ creator)
+              (filled-set (a .0) _ hosted (node-together (n + 1) k _ creator)
               (every-weaken (ok .nodes-ok)
               (good-more (nodeSound n k) (nodeSound (n + 1) k) n (node-more n (n + 1) more k))));
           code-ok = every-weaken (ok .code-ok)

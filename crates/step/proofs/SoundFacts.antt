@@ -12,7 +12,7 @@ use lib.ListN.{length, getD}
 use lib.Dec.{ltb, leb}
 use borrow.Author.Tests.{ltb-true, leb-true, lt-ltb, le-ltb, le-leb}
 use Rattle.net.specs.Choice.{choose, both, all}
-use Rattle.net.specs.Records.{variableAt, fieldAt, rightsAt, processAt, tupleAt, patternAt, nodeAt, instructionAt}
+use Rattle.net.specs.Records.{variableAt, fieldAt, rightsAt, processAt, tupleAt, patternAt, nodeAt, instructionAt, addressOf, placeOf}
 use Rattle.net.specs.Soundness.{inRange, itemSound, tupleSound, isZeroTuple, tuplesSound}
 use Rattle.net.specs.Soundness.{isNone, rowSound, valueSound, processSound, nodeSound, isZeroNode}
 use Rattle.net.specs.Soundness.{targetSound, patternSound, templateSound, actionSound, templateFor}
@@ -178,9 +178,9 @@ sound-apart s g h =
       length-least = in-range-low 1 k 512 length-in;
       length-most = in-range-high 1 k 512 length-in;
       nodes-ok = filled-apart (nodeSound n k) isZeroNode ShapedNode pastNode 16 n (s .nodes) (g .nodes-are)
-          (g .each-node) (both-l _ _ rest);
+          (λ a. g .each-node (addressOf a)) (both-l _ _ rest);
       code-ok = filled-apart (instructionSound n k) isZeroInstruction ShapedInstruction pastInstruction 512 k (s .code)
-          (g .code-is) (g .each-instruction) (both-r (nodesSound s) _ rest);
+          (g .code-is) (λ p. g .each-instruction (placeOf p)) (both-r (nodesSound s) _ rest);
     }
 
 module _ (s : Net) (ok : NetOk s) where
@@ -202,8 +202,8 @@ module _ (s : Net) (ok : NetOk s) where
   ok-shaped = record {
     nodes-are = ok .nodes-ok .size-is;
     code-is = ok .code-ok .size-is;
-    each-node = filled-shaped _ _ ShapedNode pastNode 16 _ (s .nodes) (ok .nodes-ok);
-    each-instruction = filled-shaped _ _ ShapedInstruction pastInstruction 512 _ (s .code) (ok .code-ok);
+    each-node = λ a. filled-shaped _ _ ShapedNode pastNode 16 _ (s .nodes) (ok .nodes-ok) (a .0);
+    each-instruction = λ p. filled-shaped _ _ ShapedInstruction pastInstruction 512 _ (s .code) (ok .code-ok) (p .0);
   }
 
 -- ---- what is sound with m addresses is sound with more

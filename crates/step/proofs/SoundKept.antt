@@ -15,11 +15,11 @@ use Rattle.net.specs.MatchingPromise.{OldestThatFits}
 use Rattle.net.proofs.Laws.{choose-true}
 use Rattle.net.proofs.Every.{chosen, chosen-lt}
 use Rattle.net.proofs.MatchingPromise.{matchingPromise as promise}
-use Rattle.step.specs.Types.{Place, Tuple, Process, Slot, Instruction, Net, Evaluated, Found}
+use Rattle.step.specs.Types.{Locality, Place, Tuple, Process, Slot, Instruction, Net, Evaluated, Found}
 use Rattle.step.specs.Answer.{Answer, Picked}
 use Rattle.step.specs.Request.{Request}
 use Rattle.step.specs.Pick.{hostOf, slotOf, unchanged, performed, withHost, stopped, out, inFound, input}
-use Rattle.step.specs.Pick.{readFound, read, startedIn, eval, fork, create, done, acting, processStep}
+use Rattle.step.specs.Pick.{readFound, read, startedIn, eval, fork, create, carriedOut, acting, processStep}
 use Rattle.step.specs.Pick.{slotStep, stepOf, pickOf}
 use Rattle.step.specs.Shape.{ShapedTuple, Shaped}
 use Rattle.step.specs.SoundKept.{SoundKept}
@@ -37,9 +37,9 @@ same-at f xs a l y d e =
     ∙ ap (λ (m : List ℕ). getD m l (f d)) (map-set-same f xs a y d e)
     ∙ List·getD-map f xs l d
 
-stored-same : (s : Net) (a i l : ℕ) (p : Process) → nodeAt (withHost s a i p) l .stored ≡ nodeAt s l .stored
+stored-same : (s : Net) (a l : Locality) (i : ℕ) (p : Process) → nodeAt (withHost s a i p) l .stored ≡ nodeAt s l .stored
 unfolding withHost withNode withProcess nodeAt
-stored-same s a i l p = same-at (λ x. x .stored) (s .nodes) a l _ _ refl
+stored-same s a l i p = same-at (λ x. x .stored) (s .nodes) (a .0) (l .0) _ _ refl
 
 -- ---- an answer's net
 record Kept (r : Picked) : Type 0 where
@@ -55,7 +55,7 @@ performed-kept s ok = record { net-ok = ok }
 
 -- ---- each request, of the process p that runs at a in slot i
 module _
-    (s : Net) (ok : NetOk s) (a i : ℕ) (hosted : a < s .addresses) (p : Process)
+    (s : Net) (ok : NetOk s) (a : Locality) (i : ℕ) (hosted : a .0 < s .addresses) (p : Process)
     (runs : Running (s .addresses) (s .length) p)
   where
     move-kept :
@@ -68,13 +68,13 @@ module _
     stopped-kept = record { net-ok = with-host s ok a i freeProcess hosted (free _ _) }
 
     out-kept :
-        (l : ℕ) (q : Place) (t : Tuple) → l < s .addresses → q .0 < s .length
+        (l : Locality) (q : Place) (t : Tuple) → l .0 < s .addresses → q .0 < s .length
         → Good (tupleSound (s .addresses)) ShapedTuple t → Kept (out s a i p l q t)
     unfolding out withHost withNode
     out-kept l q t h g u =
         chosen Kept _ _ _ (λ _. performed-kept _ (added-kept _ (move-kept p q runs g) l t h u)) (λ _. same-kept s _ ok)
 
-    module _ (l : ℕ) (q : Place) (e : Evaluated) (reached : l < s .addresses) (next : q .0 < s .length) where
+    module _ (l : Locality) (q : Place) (e : Evaluated) (reached : l .0 < s .addresses) (next : q .0 < s .length) where
       oldest : (j : ℕ) → matchedOf p (nodeAt s l) e .found ≡ Found.At j → OldestThatFits (nodeAt s l) e j
       oldest j = promise .finds p (nodeAt s l) e j (node-at s ok l reached .room) .0
 
@@ -95,7 +95,7 @@ module _
       unfolding inFound withHost withNode
       in-kept (Found.At j) h =
           performed-kept _
-          (taken-kept _ (move-kept _ q (bound-at j h) next) l j reached (rw (stored-same s a i l) (oldest j h .present)))
+          (taken-kept _ (move-kept _ q (bound-at j h) next) l j reached (rw (stored-same s a l i) (oldest j h .present)))
       in-kept Found.Nothing h = same-kept s _ ok
 
       read-kept :
@@ -118,15 +118,15 @@ module _
         chosen-lt Kept (s .addresses) 16 _ _
         (λ room. performed-kept _ (created-kept s ok a i p v q hosted room runs h)) (λ _. same-kept s _ ok)
 
-    done-kept : (e : Evaluated) (r : Request) → RequestOk (s .addresses) (s .length) e r → Kept (done s a i p e r)
-    unfolding done RequestOk input read eval fork
+    done-kept : (e : Evaluated) (r : Request) → RequestOk (s .addresses) (s .length) e r → Kept (carriedOut s a i p e r)
+    unfolding carriedOut RequestOk input read eval fork
     done-kept e Request.Lack h = same-kept s _ ok
     done-kept e Request.Stop h = stopped-kept
-    done-kept e (Request.Out l q) h = out-kept (l .0) q _ (h .0) (h .1) (h .2)
-    done-kept e (Request.In l q) h = in-kept (l .0) q e (h .0) (h .1) _ refl
-    done-kept e (Request.Read l q) h = read-kept (l .0) q e (h .0) (h .1) _ refl
+    done-kept e (Request.Out l q) h = out-kept l q _ (h .0) (h .1) (h .2)
+    done-kept e (Request.In l q) h = in-kept l q e (h .0) (h .1) _ refl
+    done-kept e (Request.Read l q) h = read-kept l q e (h .0) (h .1) _ refl
     done-kept e (Request.Eval l sent q) h =
-        chosen Kept _ _ _ (λ _. started-kept (l .0) q e (h .0) (h .2) sent (h .1) _) (λ _. same-kept s _ ok)
+        chosen Kept _ _ _ (λ _. started-kept l q e (h .0) (h .2) sent (h .1) _) (λ _. same-kept s _ ok)
     done-kept e (Request.New v q) h = create-kept v q h
     done-kept e (Request.Fork q r) h = started-kept a q e hosted (h .0) r (h .1) _
 
@@ -134,10 +134,8 @@ module _
         (c : Instruction) → instructionSound (s .addresses) (s .length) c ≡ true → Kept (processStep s a i p c)
     unfolding processStep acting
     step-kept c h =
-        chosen Kept _ _ _ (λ _. same-kept s _ ok)
-        (λ _. chosen Kept _ _ _
-        (λ _. done-kept _ _ (request-ok (s .addresses) (s .length) (record { 0 = a }) p c hosted runs h))
-        (λ _. same-kept s _ ok))
+        chosen Kept _ _ _ (λ _. done-kept _ _ (request-ok (s .addresses) (s .length) a p c hosted runs h))
+        (λ _. same-kept s _ ok)
 
 -- ---- a pick
 slot-below : (b : ℕ) → slotOf b < 4
@@ -148,7 +146,7 @@ pick-kept : (s : Net) (b : ℕ) → NetOk s → Kept (stepOf s b)
 unfolding stepOf slotStep processAt
 pick-kept s b ok =
     chosen Kept _ _ _
-    (λ _. chosen-lt Kept (hostOf b) (s .addresses) _ _
+    (λ _. chosen-lt Kept (hostOf b .0) (s .addresses) _ _
     (λ hosted. chosen Kept _ _ _
     (λ busy.
     let node-ok = node-at s ok (hostOf b) hosted in

@@ -26,9 +26,9 @@ used a b x y h l = sym (choose-true _ x y (lt-ltb a b l)) ∙ h
 pub record Facts (s : Net) : Type 0 where
   pub few : s .addresses ≤ 16
   pub short : s .length ≤ 512
-  pub nodes : (a : ℕ) → a < s .addresses → nodeSound (s .addresses) (s .length) (nodeAt s a) ≡ true
+  pub nodes : (a : Locality) → a .0 < s .addresses → nodeSound (s .addresses) (s .length) (nodeAt s a) ≡ true
   pub actions :
-      (p : ℕ) → p < s .length → actionSound (s .addresses) (s .length) (instructionAt (s .code) p .action) ≡ true
+      (p : Place) → p .0 < s .length → actionSound (s .addresses) (s .length) (instructionAt (s .code) p .action) ≡ true
 
 pub facts : (s : Net) → soundOf s ≡ true → Facts s
 unfolding soundOf nodesSound codeSound instructionSound
@@ -38,8 +38,8 @@ facts s h =
     record {
       few = few;
       short = short;
-      nodes = λ a l. used a _ _ _ (all-e 16 _ (both-l _ _ (both-r _ _ h)) a (omega arith)) l;
-      actions = λ p l. both-l _ _ (used p _ _ _ (all-e 512 _ (both-r _ _ (both-r _ _ h)) p (omega arith)) l);
+      nodes = λ a l. used (a .0) _ _ _ (all-e 16 _ (both-l _ _ (both-r _ _ h)) (a .0) (omega arith)) l;
+      actions = λ p l. both-l _ _ (used (p .0) _ _ _ (all-e 512 _ (both-r _ _ (both-r _ _ h)) (p .0) (omega arith)) l);
     }
 
 -- ---- a node
@@ -47,13 +47,13 @@ pub stored-few : (n k : ℕ) (x : Node) → nodeSound n k x ≡ true → x .stor
 unfolding nodeSound tuplesSound
 stored-few n k x h = leb-true _ _ (both-l _ _ (both-r _ _ (both-r _ _ h)))
 
-pub record Running (n k : ℕ) (p : Process) : Type 0 where
+pub record Runs (n k : ℕ) (p : Process) : Type 0 where
   pub placed : p .at .0 < k
   pub values : (v : ℕ) → v < 8 → valueSound n (variableAt p v) ≡ true
 
 pub running :
     (n k : ℕ) (x : Node) (i : ℕ) → nodeSound n k x ≡ true → i < 4 → processAt x i .busy ≡ true
-    → Running n k (processAt x i)
+    → Runs n k (processAt x i)
 unfolding nodeSound processSound
 running n k x i h l b =
     let sound : processSound n k (processAt x i) ≡ true = all-e 4 _ (both-l _ _ (both-r _ _ h)) i l in
@@ -72,7 +72,7 @@ held-exists n (Value.Address m) l h e = let same : m ≡ l = cc in rw (← same)
 
 pub target-exists :
     (n k : ℕ) (a : Locality) (p : Process) (t : Target) (l : Locality)
-    → a .0 < n → Running n k p → targetSound n t ≡ true → targetOf a p t ≡ Aim.At l → l .0 < n
+    → a .0 < n → Runs n k p → targetSound n t ≡ true → targetOf a p t ≡ Aim.At l → l .0 < n
 unfolding targetSound targetOf
 target-exists n k a p (Target.Written m) l h r g e = let same : m ≡ l = cc in rw (← same) (ltb-true _ _ g)
 target-exists n k a p Target.Own l h r g e = let same : a ≡ l = cc in rw (← same) h

@@ -5,15 +5,16 @@ use mathlib.Core.Bool.{Bool, true, false}
 use lib.ListN.{getD}
 use lib.IntN.{ℤ}
 use Rattle.net.specs.Choice.{choose}
-use Rattle.net.specs.Records.{rightsAt, withField}
+use Rattle.net.specs.Records.{rightsAt, withField, withRights, withRow, withVariable, movedTo, copiedTo, putIn, startedOn, zeroNode}
 use Rattle.net.specs.Keeping.{mayTake, mayRead, mayPut, maySend, mayCreate}
 use Rattle.net.specs.Matching.{wantAt}
 use Rattle.net.proofs.Laws.{choose-true, choose-false}
 use Rattle.net.proofs.KeepingPromise.{keepingPromise as keeping}
 use Rattle.net.proofs.MatchingPromise.{matchingPromise as matching}
-use Rattle.step.specs.Types.{Locality, Place, Item, Tuple, Rights, Row, Process, Slot, Want, Evaluated, Found, Matched}
-use Rattle.step.specs.Plan.{Effect, Plan, going, startPlan}
-use Rattle.step.specs.Pick.{itemOf}
+use Rattle.step.specs.Types.{Locality, Place, Value, Item, Tuple, Rights, Row, Process, Node, Changed, Want, Evaluated, Found, Matched}
+use Rattle.step.specs.Answer.{Answer}
+use Rattle.step.specs.Plan.{Plan, going, changing, opening}
+use Rattle.step.specs.Pick.{itemOf, gaining}
 use Rattle.step.specs.Request.{Aim, Request, at, spoken}
 
 -- ---- matches: the pattern y of an arm stands for the value x
@@ -59,7 +60,7 @@ module _ {A B C D E F G R : Type 0} (f : B → C → D → E → F → G → A �
 pub at-as : (x y : Aim) (f : Locality → Request) (r : Request) → x ≡ y → r ≡ at x f → r ≡ at y f
 at-as x y f r p q = q ∙ ap (λ (z : Aim). at z f) p
 
-module _ (row : Row) (l : Locality) (h : Rights) (e : h ≡ rightsAt row (l .0)) where
+module _ (row : Row) (l : Locality) (h : Rights) (e : h ≡ rightsAt row l) where
   pub takes : h .take ≡ mayTake row l
   takes = ap (λ (x : Rights). x .take) e ∙ sym (keeping .takes row l)
 
@@ -85,17 +86,43 @@ pub value-as :
 value-as t u e i x p q =
     q ∙ ap (λ (z : Item). withField t (record { item = z })) (p ∙ ap itemOf (sym (matching .reads e i)))
 
-pub going-as : (r r′ : Row) (p p′ : Process) (effect : Effect) (t t′ : Tuple) (started : Process) (x : Plan)
-    → r ≡ r′ → p ≡ p′ → t ≡ t′ → x ≡ going r p effect t started → x ≡ going r′ p′ effect t′ started
-going-as r r′ p p′ effect t t′ started x a b c d = rw (← a, ← b, ← c) d
+-- what comes of a change at the target
+module _ (p p′ : Process) (refusal : Answer) (c c′ : Changed) (x : Plan) where
+  pub changing-as : p ≡ p′ → c ≡ c′ → x ≡ changing p refusal c → x ≡ changing p′ refusal c′
+  changing-as a b d = rw (← a, ← b) d
 
-module _ (f : Row → Place → Found → Process → Plan) where
-  pub matched-as : (r : Row) (q : Place) (m n : Matched) (x : Plan) → m ≡ n → x ≡ f r q (m .found) (m .process) → x ≡ f r q (n .found) (n .process)
-  matched-as r q m n x e d = d ∙ ap (λ (z : Matched). f r q (z .found) (z .process)) e
+pub going-as : (p p′ : Process) (y : Node) (x : Plan) → p ≡ p′ → x ≡ going p y → x ≡ going p′ y
+going-as p p′ y x a d = rw (← a) d
 
-pub slot-as : (r : Row) (p : Process) (sent q : Place) (z s t : Slot) (x : Plan) → z ≡ s → z ≡ t → x ≡ startPlan r p sent q t → x ≡ startPlan r p sent q s
-slot-as r p sent q z s t x d e h = h ∙ ap (startPlan r p sent q) (sym e ∙ d)
+module _ (f : Process → Node → Place → Found → Plan) where
+  pub matched-as : (y : Node) (q : Place) (m n : Matched) (x : Plan) → m ≡ n → x ≡ f (m .process) y q (m .found) → x ≡ f (n .process) y q (n .found)
+  matched-as y q m n x e d = d ∙ ap (λ (z : Matched). f (z .process) y q (z .found)) e
 
 module _ {A B C R : Type 0} (f : A → B → C → R) where
   pub by-first3 : (x y : A) (b : B) (c : C) (r : R) → x ≡ y → r ≡ f y b c → r ≡ f x b c
   by-first3 x y b c r p q = rw p q
+
+-- ---- straight lines: each value is what its call promises
+pub put-as : (p p′ : Process) (q : Place) (y : Node) (t u : Tuple) (c : Changed) (x : Plan)
+    → t ≡ u → c ≡ putIn y t → p′ ≡ movedTo p q → x ≡ changing p′ Answer.NoRoom c → x ≡ changing (movedTo p q) Answer.NoRoom (putIn y u)
+put-as p p′ q y t u c x a b d e = e ∙ ap (λ (z : Process). changing z Answer.NoRoom c) d ∙ ap (changing (movedTo p q) Answer.NoRoom) (b ∙ ap (putIn y) a)
+
+pub start-as : (p p′ r : Process) (sent q : Place) (y : Node) (c : Changed) (x : Plan)
+    → r ≡ copiedTo p sent → c ≡ startedOn y r → p′ ≡ movedTo p q → x ≡ changing p′ Answer.NoRoom c
+    → x ≡ changing (movedTo p q) Answer.NoRoom (startedOn y (copiedTo p sent))
+start-as p p′ r sent q y c x a b d e = e ∙ ap (λ (z : Process). changing z Answer.NoRoom c) d ∙ ap (changing (movedTo p q) Answer.NoRoom) (b ∙ ap (startedOn y) a)
+
+pub rights-as : (row x : Row) (l : Locality) (r s : Rights) → r ≡ s → x ≡ withRights row l r → x ≡ withRights row l s
+rights-as row x l r s a d = d ∙ ap (withRights row l) a
+
+pub moved-as : (p r x : Process) (q : Place) → p ≡ r → x ≡ movedTo p q → x ≡ movedTo r q
+moved-as p r x q a d = d ∙ ap (λ (z : Process). movedTo z q) a
+
+pub row-as : (x y z : Node) (r s : Row) → x ≡ y → r ≡ s → z ≡ withRow x r → z ≡ withRow y s
+row-as x y z r s a b d = d ∙ ap (λ (w : Node). withRow w r) a ∙ ap (withRow y) b
+
+pub opening-as : (row : Row) (p r : Process) (v : ℕ) (q : Place) (l : Locality) (y : Node)
+    → r ≡ movedTo (withVariable p v (Value.Address l)) q → y ≡ withRow zeroNode (gaining row l)
+    → _≡_ {A = Plan} (record { answer = Answer.Performed; process = r; target = y; opens = true }) (opening row p v q l)
+unfolding opening
+opening-as row p r v q l y a b = rw (a, b)

@@ -1,7 +1,7 @@
 -- In a sound net the computed keeping of sent code is a right for each instruction reached: no place past the code length
 -- is reached.
 -- Assumes nothing.
-use Prim.Native.Nat.{ℕ, _<_}
+use Prim.Native.Nat.{_<_}
 use mathlib.Core.Path.{_≡_}
 use mathlib.Core.Bool.{true}
 use Rattle.net.specs.Records.{instructionAt}
@@ -13,8 +13,8 @@ use Rattle.net.proofs.KeepingPromise.{keepingPromise as promise}
 use Rattle.step.proofs.StepFacts.{Facts, follow-low}
 
 module _ (s : Net) (ok : Facts s) (sent : Place) (low : sent .0 < s .length) (l : Locality) (row : Row) where
-  closed : (i : ℕ) (q : Place) → i < s .length → Follows q (instructionAt (s .code) i .action) → q .0 < s .length
-  closed i q h f = follow-low (s .addresses) (s .length) q _ f (ok .actions i h)
+  closed : (p q : Place) → p .0 < s .length → Follows q (instructionAt (s .code) p .action) → q .0 < s .length
+  closed p q h f = follow-low (s .addresses) (s .length) q _ f (ok .actions p h)
 
   pub keeps-within : keepsOf (s .code) sent l row ≡ true → KeepsWithin (s .code) sent l row
   keeps-within h = record { permitted = promise .keeps (s .code) (s .length) (ok .short) closed sent l row low .0 h }

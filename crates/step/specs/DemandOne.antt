@@ -42,7 +42,7 @@ unfoldable pub pickedProcess : Net → ℕ → Process
 pickedProcess s b = processAt (nodeAt s (hostOf b)) (slotOf b)
 
 unfoldable pub pickedAction : Net → ℕ → Action
-pickedAction s b = instructionAt (s .code) (pickedProcess s b .at .0) .action
+pickedAction s b = instructionAt (s .code) (pickedProcess s b .at) .action
 
 -- demand 1, "No action is carried out whose right the hosting node's policy lacks": where the step is performed, the
 -- hosting node's row, as it stood before, held the right
@@ -50,7 +50,7 @@ unfoldable pub OnlyWithRight : Type 0
 OnlyWithRight =
     (s : Net) (b : ℕ)
     → numberOf (pickOf s b .answer) ≡ 0
-    → Held (nodeAt s (hostOf b) .row) (record { 0 = hostOf b }) (pickedProcess s b) (pickedAction s b)
+    → Held (nodeAt s (hostOf b) .row) (hostOf b) (pickedProcess s b) (pickedAction s b)
 
 -- demand 1, "no pick answered with a number above 1 changes the net"
 unfoldable pub RefusedChangesNothing : Type 0

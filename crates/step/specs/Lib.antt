@@ -6,4 +6,5 @@ pub mod Request
 pub mod Rules
 pub mod Shape
 pub mod SoundKept
+pub mod Turn
 pub mod Types

@@ -1,26 +1,23 @@
 -- One pick (document 01, "One pick"): the answer and the net after it, for every net and every byte. In what follows s
 -- is the net, a the hosting address, k the slot, p the process that stands there.
 use Prim.Native.Nat.{ℕ, _+_, _/_, _%_}
-use mathlib.Core.Bool.{Bool, true, false}
-use mathlib.Core.List.{List}
-use lib.ListN.{set, replicate}
 use lib.Dec.{eqb, ltb}
 use lib.IntN.{ℤ}
 use Rattle.net.specs.Choice.{choose, fold}
 use Rattle.net.specs.Records.{processAt, nodeAt, instructionAt, withProcess, withTuple, withNode, withRow, withRights}
 use Rattle.net.specs.Records.{withVariable, movedTo, copiedTo, withoutTuple, freeSlot, freeProcess, allRights, zeroNode}
-use Rattle.net.specs.Records.{zeroTuple, withField}
+use Rattle.net.specs.Records.{zeroTuple, withField, addressOf}
 use Rattle.net.specs.Matching.{evaluatedOf, matchedOf, wantAt}
 use Rattle.net.specs.Keeping.{keepsOf}
 use Rattle.net.specs.Soundness.{soundOf}
 use Rattle.step.specs.Answer.{Answer, Picked}
 use Rattle.step.specs.Request.{Request, requestOf, granted}
-use Rattle.step.specs.Types.{Locality, Place, Item, Tuple, Rights, Row, Process, Node, Slot, Net, Instruction, Value}
-use Rattle.step.specs.Types.{Field, Want, Evaluated, Found, Matched}
+use Rattle.step.specs.Types.{Locality, Place, Item, Tuple, Row, Process, Slot, Net, Instruction, Value}
+use Rattle.step.specs.Types.{Want, Evaluated, Found, Matched}
 
 -- ---- what a pick's byte names: address (4 bits), slot (2 bits), 2 zero bits
-unfoldable pub hostOf : ℕ → ℕ
-hostOf b = b / 16
+unfoldable pub hostOf : ℕ → Locality
+hostOf b = addressOf (b / 16)
 
 unfoldable pub slotOf : ℕ → ℕ
 slotOf b = b / 4 % 4
@@ -47,120 +44,114 @@ tupleOf e = fold 4 (λ i t. choose (ltb i (e .count)) (withField t (record { ite
 -- ---- what each request does
 
 -- the host with its process in slot k replaced
-unfoldable pub withHost : Net → ℕ → ℕ → Process → Net
+unfoldable pub withHost : Net → Locality → ℕ → Process → Net
 withHost s a k p = withNode s a (withProcess (nodeAt s a) k p)
 
 -- stop: the slot is freed
-unfoldable pub stopped : Net → ℕ → ℕ → Picked
+unfoldable pub stopped : Net → Locality → ℕ → Picked
 stopped s a k = record { answer = Answer.Ended; net = withHost s a k freeProcess }
 
 -- the tuple added at l, as the newest
-unfoldable pub added : Net → ℕ → Tuple → Net
+unfoldable pub added : Net → Locality → Tuple → Net
 added s l t = withNode s l (withTuple (nodeAt s l) t)
 
-unfoldable pub out : Net → ℕ → ℕ → Process → ℕ → Place → Tuple → Picked
+unfoldable pub out : Net → Locality → ℕ → Process → Locality → Place → Tuple → Picked
 out s a k p l q t =
     choose (ltb (nodeAt s l .stored) 16) (performed (added (withHost s a k (movedTo p q)) l t)) (unchanged Answer.NoRoom s)
 
 -- the tuple at place i taken at l
-unfoldable pub taken : Net → ℕ → ℕ → Net
+unfoldable pub taken : Net → Locality → ℕ → Net
 taken s l i = withNode s l (withoutTuple (nodeAt s l) i)
 
-unfoldable pub inFound : Net → ℕ → ℕ → ℕ → Place → Found → Process → Picked
+unfoldable pub inFound : Net → Locality → ℕ → Locality → Place → Found → Process → Picked
 inFound s a k l q (Found.At i) p = performed (taken (withHost s a k (movedTo p q)) l i)
 inFound s a k l q Found.Nothing p = unchanged Answer.NoTuple s
 
-unfoldable pub input : Net → ℕ → ℕ → ℕ → Place → Matched → Picked
+unfoldable pub input : Net → Locality → ℕ → Locality → Place → Matched → Picked
 input s a k l q m = inFound s a k l q (m .found) (m .process)
 
-unfoldable pub readFound : Net → ℕ → ℕ → Place → Found → Process → Picked
+unfoldable pub readFound : Net → Locality → ℕ → Place → Found → Process → Picked
 readFound s a k q (Found.At i) p = performed (withHost s a k (movedTo p q))
 readFound s a k q Found.Nothing p = unchanged Answer.NoTuple s
 
-unfoldable pub read : Net → ℕ → ℕ → Place → Matched → Picked
+unfoldable pub read : Net → Locality → ℕ → Place → Matched → Picked
 read s a k q m = readFound s a k q (m .found) (m .process)
 
 -- a copy of the process starts at the sent place in slot j of l
-unfoldable pub startedIn : Net → ℕ → ℕ → ℕ → Process → Place → Place → Slot → Picked
+unfoldable pub startedIn : Net → Locality → ℕ → Locality → Process → Place → Place → Slot → Picked
 startedIn s a k l p sent q (Slot.Number j) =
     performed (withHost (withHost s a k (movedTo p q)) l j (copiedTo p sent))
 startedIn s a k l p sent q Slot.Full = unchanged Answer.NoRoom s
 
 -- eval: the sent code has to keep within the target's row, where self means the target
-unfoldable pub eval : Net → ℕ → ℕ → Process → Locality → Place → Place → Picked
+unfoldable pub eval : Net → Locality → ℕ → Process → Locality → Place → Place → Picked
 eval s a k p l sent q =
-    choose (keepsOf (s .code) sent l (nodeAt s (l .0) .row))
-    (startedIn s a k (l .0) p sent q (freeSlot (nodeAt s (l .0))))
+    choose (keepsOf (s .code) sent l (nodeAt s l .row))
+    (startedIn s a k l p sent q (freeSlot (nodeAt s l)))
     (unchanged Answer.NotWithin s)
 
 -- fork: the first branch stays in its slot, the second enters the lowest free slot there
-unfoldable pub fork : Net → ℕ → ℕ → Process → Place → Place → Picked
+unfoldable pub fork : Net → Locality → ℕ → Process → Place → Place → Picked
 fork s a k p q r = startedIn s a k a p r q (freeSlot (nodeAt s a))
 
--- new: the lowest unused address n. Its row is a copy of the creator's as it stood, with every right on itself; the
+-- new: the lowest unused address l. Its row is a copy of the creator's as it stood, with every right on itself; the
 -- creator's row gains every right on it, and no other row changes
-unfoldable pub gaining : Row → ℕ → Row
-gaining r n = withRights r n allRights
+unfoldable pub gaining : Row → Locality → Row
+gaining r l = withRights r l allRights
 
 unfoldable pub opened : Net → Net
 opened s = record { addresses = s .addresses + 1; length = s .length; nodes = s .nodes; code = s .code }
 
-unfoldable pub created : Net → ℕ → ℕ → Process → ℕ → Place → Net
-created s a k p v q =
+-- the lowest unused address
+unfoldable pub unused : Net → Locality
+unused s = addressOf (s .addresses)
+
+unfoldable pub createdAt : Net → Locality → ℕ → Process → ℕ → Place → Locality → Net
+createdAt s a k p v q l =
     withNode
     (withNode (opened s) a
-    (withRow
-    (withProcess (nodeAt s a) k (movedTo (withVariable p v (Value.Address (record { 0 = s .addresses }))) q))
-    (gaining (nodeAt s a .row) (s .addresses))))
-    (s .addresses)
-    (withRow zeroNode (gaining (nodeAt s a .row) (s .addresses)))
+    (withRow (withProcess (nodeAt s a) k (movedTo (withVariable p v (Value.Address l)) q)) (gaining (nodeAt s a .row) l)))
+    l
+    (withRow zeroNode (gaining (nodeAt s a .row) l))
 
-unfoldable pub create : Net → ℕ → ℕ → Process → ℕ → Place → Picked
+unfoldable pub created : Net → Locality → ℕ → Process → ℕ → Place → Net
+created s a k p v q = createdAt s a k p v q (unused s)
+
+unfoldable pub create : Net → Locality → ℕ → Process → ℕ → Place → Picked
 create s a k p v q = choose (ltb (s .addresses) 16) (performed (created s a k p v q)) (unchanged Answer.NoRoom s)
 
-unfoldable pub done : Net → ℕ → ℕ → Process → Evaluated → Request → Picked
-done s a k p e Request.Lack = unchanged Answer.NotSet s
-done s a k p e Request.Stop = stopped s a k
-done s a k p e (Request.Out l q) = out s a k p (l .0) q (tupleOf e)
-done s a k p e (Request.In l q) = input s a k (l .0) q (matchedOf p (nodeAt s (l .0)) e)
-done s a k p e (Request.Read l q) = read s a k q (matchedOf p (nodeAt s (l .0)) e)
-done s a k p e (Request.Eval l sent q) = eval s a k p l sent q
-done s a k p e (Request.New v q) = create s a k p v q
-done s a k p e (Request.Fork q r) = fork s a k p q r
+-- what a request comes to whose right is held; a needed variable that is lacking is 6
+unfoldable pub carriedOut : Net → Locality → ℕ → Process → Evaluated → Request → Picked
+carriedOut s a k p e Request.Lack = unchanged Answer.NotSet s
+carriedOut s a k p e Request.Stop = stopped s a k
+carriedOut s a k p e (Request.Out l q) = out s a k p l q (tupleOf e)
+carriedOut s a k p e (Request.In l q) = input s a k l q (matchedOf p (nodeAt s l) e)
+carriedOut s a k p e (Request.Read l q) = read s a k q (matchedOf p (nodeAt s l) e)
+carriedOut s a k p e (Request.Eval l sent q) = eval s a k p l sent q
+carriedOut s a k p e (Request.New v q) = create s a k p v q
+carriedOut s a k p e (Request.Fork q r) = fork s a k p q r
 
 -- ---- the order of the tests: 9, 8, 7, then 1 at a stop, 6, 4, 5, then 3 or 2
-unfoldable pub isLack : Request → Bool
-isLack Request.Lack = true
-isLack Request.Stop = false
-isLack (Request.Out l q) = false
-isLack (Request.In l q) = false
-isLack (Request.Read l q) = false
-isLack (Request.Eval l sent q) = false
-isLack (Request.New v q) = false
-isLack (Request.Fork q r) = false
 
--- the process p hosted at a in slot k makes its step
-unfoldable pub acting : Net → ℕ → ℕ → Process → Evaluated → Request → Picked
-acting s a k p e r =
-    choose (isLack r) (unchanged Answer.NotSet s)
-    (choose (granted (nodeAt s a .row) r) (done s a k p e r) (unchanged Answer.NoRight s))
+-- the process p hosted at a in slot k makes its step. A lack and a stop need no right, so 6 and 1 come before 4
+unfoldable pub acting : Net → Locality → ℕ → Process → Evaluated → Request → Picked
+acting s a k p e r = choose (granted (nodeAt s a .row) r) (carriedOut s a k p e r) (unchanged Answer.NoRight s)
 
-unfoldable pub processStep : Net → ℕ → ℕ → Process → Instruction → Picked
-processStep s a k p c =
-    acting s a k p (evaluatedOf (record { 0 = a }) p c) (requestOf (record { 0 = a }) p c)
+unfoldable pub processStep : Net → Locality → ℕ → Process → Instruction → Picked
+processStep s a k p c = acting s a k p (evaluatedOf a p c) (requestOf a p c)
 
 -- the process in slot k of address a, if there is one
-unfoldable pub slotStep : Net → ℕ → ℕ → Picked
+unfoldable pub slotStep : Net → Locality → ℕ → Picked
 slotStep s a k =
     choose (processAt (nodeAt s a) k .busy)
-    (processStep s a k (processAt (nodeAt s a) k) (instructionAt (s .code) (processAt (nodeAt s a) k .at .0)))
+    (processStep s a k (processAt (nodeAt s a) k) (instructionAt (s .code) (processAt (nodeAt s a) k .at)))
     (unchanged Answer.FreeSlot s)
 
 -- a pick on a net that is known to be sound
 unfoldable pub stepOf : Net → ℕ → Picked
 stepOf s b =
     choose (eqb (spareOf b) 0)
-    (choose (ltb (hostOf b) (s .addresses)) (slotStep s (hostOf b) (slotOf b)) (unchanged Answer.NotInUse s))
+    (choose (ltb (hostOf b .0) (s .addresses)) (slotStep s (hostOf b) (slotOf b)) (unchanged Answer.NotInUse s))
     (unchanged Answer.Malformed s)
 
 -- a pick: 10 first

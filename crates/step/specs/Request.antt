@@ -2,12 +2,12 @@
 -- "Reaching and rights").
 pub use Rattle.step.specs.declared.request.Aim.{Aim}
 pub use Rattle.step.specs.declared.request.Request.{Request}
-use mathlib.Core.Bool.{Bool, true, false}
+use mathlib.Core.Bool.{Bool, true}
 use Rattle.net.specs.Choice.{choose}
 use Rattle.net.specs.Records.{variableAt}
 use Rattle.net.specs.Matching.{evaluatedOf}
 use Rattle.net.specs.Keeping.{mayTake, mayRead, mayPut, maySend, mayCreate}
-use Rattle.step.specs.Types.{Locality, Place, Value, Process, Row, Target, Action, Instruction, Evaluated}
+use Rattle.step.specs.Types.{Locality, Value, Process, Row, Target, Action, Instruction, Evaluated}
 
 -- the address that a variable holds
 unfoldable pub aimOf : Value → Aim

@@ -23,17 +23,17 @@ use Rattle.step.specs.Types.{Locality, Place, Row, Process, Node, Target
 
 -- the process in slot k of address a, the instruction at its place, and that instruction's template, evaluated
 unfoldable pub processIn : Net → Locality → ℕ → Process
-processIn s a k = processAt (nodeAt s (a .0)) k
+processIn s a k = processAt (nodeAt s a) k
 
 unfoldable pub instructionIn : Net → Locality → ℕ → Instruction
-instructionIn s a k = instructionAt (s .code) (processIn s a k .at .0)
+instructionIn s a k = instructionAt (s .code) (processIn s a k .at)
 
 unfoldable pub templateIn : Net → Locality → ℕ → Evaluated
 templateIn s a k = evaluatedOf a (processIn s a k) (instructionIn s a k)
 
 -- the row of the hosting node
 unfoldable pub rowIn : Net → Locality → Row
-rowIn s a = nodeAt s (a .0) .row
+rowIn s a = nodeAt s a .row
 
 -- ---- premises
 
@@ -55,11 +55,11 @@ pub record LowestFree (x : Node) (j : ℕ) : Type 0 where
 
 -- the code from the place `sent` keeps within the row of l: each instruction reached has its right
 pub record KeepsWithin (code : List Instruction) (sent : Place) (l : Locality) (row : Row) : Type 0 where
-  pub permitted : (q : Place) → Reaches code sent q → permits row l (instructionAt code (q .0) .action) ≡ true
+  pub permitted : (q : Place) → Reaches code sent q → permits row l (instructionAt code q .action) ≡ true
 
 -- ---- the rules. Above each stands the rule of document 004, in which l :: P is the process P at address l; nodes that
 -- stay as they are are left out of it
-pub data Step (s : Net) (a : Locality) (k : ℕ) : Net → Type 0 where
+pub data Reduces (s : Net) (a : Locality) (k : ℕ) : Net → Type 0 where
   -- l :: out(t)@l′.P ∥ l′ :: P′ ↣ l :: P ∥ l′ :: P′ ∥ l′ :: ⟨et⟩, where t evaluates to et.
   -- The tuple is the newest at its target, which has room for it
   OUT :
@@ -68,8 +68,8 @@ pub data Step (s : Net) (a : Locality) (k : ℕ) : Net → Type 0 where
       → Points s a k t l
       → templateIn s a k .defined ≡ true
       → mayPut (rowIn s a) l ≡ true
-      → nodeAt s (l .0) .stored < 16
-      → Step s a k (added (withHost s (a .0) k (movedTo (processIn s a k) q)) (l .0) (tupleOf (templateIn s a k)))
+      → nodeAt s l .stored < 16
+      → Reduces s a k (added (withHost s a k (movedTo (processIn s a k) q)) l (tupleOf (templateIn s a k)))
   -- l :: in(T)@l′.P ∥ l′ :: ⟨et⟩ ↣ l :: Pσ ∥ l′ :: nil, where T evaluated matches et with the substitution σ.
   -- The tuple is the oldest that fits, and σ sets the formals
   IN :
@@ -78,12 +78,12 @@ pub data Step (s : Net) (a : Locality) (k : ℕ) : Net → Type 0 where
       → Points s a k t l
       → templateIn s a k .defined ≡ true
       → mayTake (rowIn s a) l ≡ true
-      → OldestThatFits (nodeAt s (l .0)) (templateIn s a k) i
-      → Step s a k
+      → OldestThatFits (nodeAt s l) (templateIn s a k) i
+      → Reduces s a k
       (taken
-      (withHost s (a .0) k
-      (movedTo (boundOf (processIn s a k) (tupleAt (nodeAt s (l .0)) i) (templateIn s a k)) q))
-      (l .0)
+      (withHost s a k
+      (movedTo (boundOf (processIn s a k) (tupleAt (nodeAt s l) i) (templateIn s a k)) q))
+      l
       i)
   -- l :: read(T)@l′.P ∥ l′ :: ⟨et⟩ ↣ l :: Pσ ∥ l′ :: ⟨et⟩, where T evaluated matches et with the substitution σ
   READ :
@@ -92,10 +92,10 @@ pub data Step (s : Net) (a : Locality) (k : ℕ) : Net → Type 0 where
       → Points s a k t l
       → templateIn s a k .defined ≡ true
       → mayRead (rowIn s a) l ≡ true
-      → OldestThatFits (nodeAt s (l .0)) (templateIn s a k) i
-      → Step s a k
-      (withHost s (a .0) k
-      (movedTo (boundOf (processIn s a k) (tupleAt (nodeAt s (l .0)) i) (templateIn s a k)) q))
+      → OldestThatFits (nodeAt s l) (templateIn s a k) i
+      → Reduces s a k
+      (withHost s a k
+      (movedTo (boundOf (processIn s a k) (tupleAt (nodeAt s l) i) (templateIn s a k)) q))
   -- l :: eval(Q)@l′.P ∥ l′ :: P′ ↣ l :: P ∥ l′ :: P′ | Q.
   -- Q is the code at the sent place, judged by the row of l′; it has a copy of the variables
   EVAL :
@@ -103,10 +103,10 @@ pub data Step (s : Net) (a : Locality) (k : ℕ) : Net → Type 0 where
       → Stands s a k (Action.Eval t sent q)
       → Points s a k t l
       → maySend (rowIn s a) l ≡ true
-      → KeepsWithin (s .code) sent l (nodeAt s (l .0) .row)
-      → LowestFree (nodeAt s (l .0)) j
-      → Step s a k
-      (withHost (withHost s (a .0) k (movedTo (processIn s a k) q)) (l .0) j (copiedTo (processIn s a k) sent))
+      → KeepsWithin (s .code) sent l (nodeAt s l .row)
+      → LowestFree (nodeAt s l) j
+      → Reduces s a k
+      (withHost (withHost s a k (movedTo (processIn s a k) q)) l j (copiedTo (processIn s a k) sent))
   -- L ⊢ l :: newloc(u).P ↣ L ∪ {l′} ⊢ l :: P[l′/u] ∥ l′ :: nil, where l′ is not in L.
   -- L holds the addresses in use, and l′ is the lowest other one
   NEW :
@@ -114,19 +114,19 @@ pub data Step (s : Net) (a : Locality) (k : ℕ) : Net → Type 0 where
       → Stands s a k (Action.New v q)
       → mayCreate (rowIn s a) ≡ true
       → s .addresses < 16
-      → Step s a k (created s (a .0) k (processIn s a k) v q)
+      → Reduces s a k (created s a k (processIn s a k) v q)
   -- l :: P₁ | P₂ ≡ l :: P₁ ∥ l :: P₂, the law (CLONE), from left to right.
   -- P₁ stays in its slot, and P₂ has a copy of the variables
   FORK :
       {q r : Place} {j : ℕ}
       → Stands s a k (Action.Fork q r)
-      → LowestFree (nodeAt s (a .0)) j
-      → Step s a k
-      (withHost (withHost s (a .0) k (movedTo (processIn s a k) q)) (a .0) j (copiedTo (processIn s a k) r))
+      → LowestFree (nodeAt s a) j
+      → Reduces s a k
+      (withHost (withHost s a k (movedTo (processIn s a k) q)) a j (copiedTo (processIn s a k) r))
 
 -- l :: P | nil ≡ l :: P, the law (ABS), from left to right: a process that ends, whose slot is freed
-pub data Stop (s : Net) (a : Locality) (k : ℕ) : Net → Type 0 where
-  NIL : Stands s a k Action.Stop → Stop s a k (withHost s (a .0) k freeProcess)
+pub data Ends (s : Net) (a : Locality) (k : ℕ) : Net → Type 0 where
+  NIL : Stands s a k Action.Stop → Ends s a k (withHost s a k freeProcess)
 
 -- ---- the claims (demand 2, "A pick performs a step when document 01's rules, taken from µKLAIM, allow that step, and
 -- only then"). They hold for every byte: one that is not well formed, or of an unused address, allows no step.
@@ -138,7 +138,7 @@ StepIsPick =
     → soundOf s ≡ true
     → (b : ℕ) (after : Net)
     → (pickOf s b ≡ record { answer = Answer.Performed; net = after })
-    ↔ ((spareOf b ≡ 0) × (hostOf b < s .addresses) × Step s (record { 0 = hostOf b }) (slotOf b) after)
+    ↔ ((spareOf b ≡ 0) × (hostOf b .0 < s .addresses) × Reduces s (hostOf b) (slotOf b) after)
 
 -- and it is answered 1 and leaves a net when the process ends so, and only then
 unfoldable pub StopIsPick : Type 0
@@ -147,4 +147,4 @@ StopIsPick =
     → soundOf s ≡ true
     → (b : ℕ) (after : Net)
     → (pickOf s b ≡ record { answer = Answer.Ended; net = after })
-    ↔ ((spareOf b ≡ 0) × (hostOf b < s .addresses) × Stop s (record { 0 = hostOf b }) (slotOf b) after)
+    ↔ ((spareOf b ≡ 0) × (hostOf b .0 < s .addresses) × Ends s (hostOf b) (slotOf b) after)

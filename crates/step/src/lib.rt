@@ -1,5 +1,6 @@
 // One pick (document 01, "One pick"), above the crate `net`.
 pub mod answer;
+pub mod machine;
 pub mod plan;
-pub mod request;
-pub mod step;
+mod request;
+pub mod turn;

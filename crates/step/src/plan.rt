@@ -1,16 +1,16 @@
-// Plans: what a step does to the few records that it concerns.
+// Plans: what a step does to the few records that it concerns. In what follows p is the host's process and y
+// the node at the target.
 use crate::answer::Answer;
 use crate::request::Request;
 use crate::request::has_right;
-use crate::request::lacks;
 use net::locality::Locality;
 use net::locality::Place;
 use net::matching::Evaluated;
 use net::matching::Found;
 use net::matching::Want;
 use net::matching::match_template;
+use net::node::Changed;
 use net::node::Node;
-use net::node::Slot;
 use net::policy::Rights;
 use net::policy::Row;
 use net::process::Process;
@@ -23,30 +23,19 @@ ghost use mathlib.Core.Path.{_≡_};
 ghost use lib.Dec.{ltb};
 ghost use Rattle.net.specs.Choice.{choose};
 ghost use Rattle.net.specs.Matching.{wantAt, matchedOf};
-ghost use Rattle.net.specs.Records.{withField, withVariable, freeSlot, freeProcess, zeroTuple, movedTo, copiedTo};
+ghost use Rattle.net.specs.Records.{withField, withVariable, withRow, movedTo, takenFrom, zeroNode};
 ghost use Rattle.step.specs.Pick.{itemOf, tupleOf, gaining};
 ghost use Rattle.step.specs.Types.{Value};
-ghost use Rattle.step.specs.Plan.{Effect, still, going, stopPlan, outPlan, inPlan, readPlan, startPlan, evalPlan};
-ghost use Rattle.step.specs.Plan.{newPlan, donePlan, Planned};
+ghost use Rattle.step.specs.Plan.{going, refusing, changing, stopPlan, outPlan, inPlan, readPlan, startPlan, evalPlan};
+ghost use Rattle.step.specs.Plan.{opening, newPlan, grantedPlan, planOf, hostAfter};
 
-// What happens at the target: nothing, a tuple put, the tuple at a place taken, a process started in a
-// slot, or a new node opened.
-pub enum Effect {
-    Nothing,
-    Put,
-    Take(usize),
-    Start(usize),
-    Open,
-}
-
-// The answer; the host's process and row after it; and the effect, with its tuple or its new process.
+// The answer, the host's process and the target's node after the step, and whether the target is an address
+// that the step opens.
 pub struct Plan {
     pub answer: Answer,
     pub process: Process,
-    pub row: Row,
-    pub effect: Effect,
-    pub tuple: Tuple,
-    pub started: Process,
+    pub target: Node,
+    pub opens: bool,
 }
 
 // The value of an out's field.
@@ -77,7 +66,7 @@ fn with_value(t: Tuple, e: Evaluated, i: usize) -> Tuple
 }
 
 // The tuple of an out.
-pub fn tuple_of(e: Evaluated) -> Tuple
+fn tuple_of(e: Evaluated) -> Tuple
     ensures { λ r. ⌜ r ≡ tupleOf e ⌝ }
 {
     let mut t = Tuple::zero();
@@ -90,188 +79,173 @@ pub fn tuple_of(e: Evaluated) -> Tuple
 }
 
 // Nothing changes.
-pub fn no_change(answer: Answer) -> Plan
-    ensures { λ r. ⌜ r ≡ still answer ⌝ }
+pub fn refused(answer: Answer, y: Node) -> Plan
+    ensures { λ r. ⌜ r ≡ refusing answer y ⌝ }
 {
     let process = Process::free();
-    let row = Row::zero();
-    let effect = Effect::Nothing;
-    let tuple = Tuple::zero();
     Plan {
         answer,
         process,
-        row,
-        effect,
-        tuple,
-        started: process,
+        target: y,
+        opens: false,
     }
 }
 
-// The host goes on, with an effect that needs neither a tuple nor a process.
-fn goes_on(row: Row, process: Process, effect: Effect) -> Plan
-    ensures { λ r. ⌜ r ≡ going row process effect zeroTuple freeProcess ⌝ }
+// The process goes on, and y is the target's node.
+fn goes_on(process: Process, y: Node) -> Plan
+    ensures { λ r. ⌜ r ≡ going process y ⌝ }
 {
     let answer = Answer::Performed;
-    let tuple = Tuple::zero();
-    let started = Process::free();
     Plan {
         answer,
         process,
-        row,
-        effect,
-        tuple,
-        started,
+        target: y,
+        opens: false,
     }
 }
 
-fn stop_plan(row: Row) -> Plan
-    ensures { λ r. ⌜ r ≡ stopPlan row ⌝ }
+// What comes of a change at the target: the process goes on, or the change could not be made.
+fn changed(process: Process, refusal: Answer, c: Changed) -> Plan
+    ensures { λ r. ⌜ r ≡ changing process refusal c ⌝ }
+{
+    let node = c.node;
+    if c.done {
+        goes_on(process, node)
+    } else {
+        refused(refusal, node)
+    }
+}
+
+fn stop_plan(y: Node) -> Plan
+    ensures { λ r. ⌜ r ≡ stopPlan y ⌝ }
 {
     let answer = Answer::Ended;
     let process = Process::free();
-    let effect = Effect::Nothing;
-    let tuple = Tuple::zero();
     Plan {
         answer,
         process,
-        row,
-        effect,
-        tuple,
-        started: process,
+        target: y,
+        opens: false,
     }
 }
 
-fn put_plan(row: Row, process: Process, tuple: Tuple) -> Plan
-    ensures { λ r. ⌜ r ≡ going row process Effect.Put tuple freeProcess ⌝ }
+fn out_plan(p: Process, y: Node, q: Place, e: Evaluated) -> Plan
+    ensures { λ r. ⌜ r ≡ outPlan p y q (tupleOf e) ⌝ }
 {
-    let answer = Answer::Performed;
-    let effect = Effect::Put;
-    let started = Process::free();
-    Plan {
-        answer,
-        process,
-        row,
-        effect,
-        tuple,
-        started,
-    }
+    let tuple = tuple_of(e);
+    let put = y.put(tuple);
+    changed(p.moved_to(q), Answer::NoRoom, put)
 }
 
-fn out_plan(row: Row, p: Process, y: Node, q: Place, e: Evaluated) -> Plan
-    ensures { λ r. ⌜ r ≡ outPlan row p y q (tupleOf e) ⌝ }
+fn take_plan(p: Process, y: Node, q: Place, i: usize) -> Plan
+    ensures { λ r. ⌜ r ≡ changing (movedTo p q) Answer.NoTuple (takenFrom y i) ⌝ }
 {
-    if y.stored < 16 {
-        let tuple = tuple_of(e);
-        let moved = p.moved_to(q);
-        put_plan(row, moved, tuple)
-    } else {
-        no_change(Answer::NoRoom)
-    }
+    let taken = y.take(i);
+    changed(p.moved_to(q), Answer::NoTuple, taken)
 }
 
-fn in_plan(row: Row, q: Place, found: Found, p: Process) -> Plan
-    ensures { λ r. ⌜ r ≡ inPlan row q found p ⌝ }
+fn in_plan(p: Process, y: Node, q: Place, found: Found) -> Plan
+    ensures { λ r. ⌜ r ≡ inPlan p y q found ⌝ }
 {
     match found {
-        Found::At(i) => goes_on(row, p.moved_to(q), Effect::Take(i)),
-        Found::Nothing => no_change(Answer::NoTuple),
+        Found::At(i) => take_plan(p, y, q, i),
+        Found::Nothing => refused(Answer::NoTuple, y),
     }
 }
 
-fn read_plan(row: Row, q: Place, found: Found, p: Process) -> Plan
-    ensures { λ r. ⌜ r ≡ readPlan row q found p ⌝ }
+fn read_plan(p: Process, y: Node, q: Place, found: Found) -> Plan
+    ensures { λ r. ⌜ r ≡ readPlan p y q found ⌝ }
 {
     match found {
-        Found::At(_) => goes_on(row, p.moved_to(q), Effect::Nothing),
-        Found::Nothing => no_change(Answer::NoTuple),
+        Found::At(_) => goes_on(p.moved_to(q), y),
+        Found::Nothing => refused(Answer::NoTuple, y),
     }
 }
 
-fn in_request(row: Row, p: Process, y: Node, q: Place, e: Evaluated) -> Plan
-    ensures { λ r. ⌜ r ≡ inPlan row q (matchedOf p y e .found) (matchedOf p y e .process) ⌝ }
+fn in_request(p: Process, y: Node, q: Place, e: Evaluated) -> Plan
+    ensures { λ r. ⌜ r ≡ inPlan (matchedOf p y e .process) y q (matchedOf p y e .found) ⌝ }
 {
     let met = match_template(p, y, e);
     let found = met.found;
     let bound = met.process;
-    in_plan(row, q, found, bound)
+    in_plan(bound, y, q, found)
 }
 
-fn read_request(row: Row, p: Process, y: Node, q: Place, e: Evaluated) -> Plan
-    ensures { λ r. ⌜ r ≡ readPlan row q (matchedOf p y e .found) (matchedOf p y e .process) ⌝ }
+fn read_request(p: Process, y: Node, q: Place, e: Evaluated) -> Plan
+    ensures { λ r. ⌜ r ≡ readPlan (matchedOf p y e .process) y q (matchedOf p y e .found) ⌝ }
 {
     let met = match_template(p, y, e);
     let found = met.found;
     let bound = met.process;
-    read_plan(row, q, found, bound)
+    read_plan(bound, y, q, found)
 }
 
-fn start_in(row: Row, p: Process, sent: Place, q: Place, j: usize) -> Plan
-    ensures { λ r. ⌜ r ≡ going row (movedTo p q) (Effect.Start j) zeroTuple (copiedTo p sent) ⌝ }
+// A copy of the process starts at the place `sent` of the target, and the process goes on at q.
+fn start_plan(p: Process, y: Node, sent: Place, q: Place) -> Plan
+    ensures { λ r. ⌜ r ≡ startPlan p y sent q ⌝ }
 {
-    let answer = Answer::Performed;
-    let process = p.moved_to(q);
-    let effect = Effect::Start(j);
-    let tuple = Tuple::zero();
-    let started = p.copied_to(sent);
-    Plan {
-        answer,
-        process,
-        row,
-        effect,
-        tuple,
-        started,
-    }
+    let started = y.start(p.copied_to(sent));
+    changed(p.moved_to(q), Answer::NoRoom, started)
 }
 
-fn start_plan(row: Row, p: Process, sent: Place, q: Place, y: Node) -> Plan
-    ensures { λ r. ⌜ r ≡ startPlan row p sent q (freeSlot y) ⌝ }
-{
-    let slot = y.free_slot();
-    match slot {
-        Slot::Number(j) => start_in(row, p, sent, q, j),
-        Slot::Full => no_change(Answer::NoRoom),
-    }
-}
-
-fn eval_plan(row: Row, p: Process, y: Node, sent: Place, q: Place, within: bool) -> Plan
-    ensures { λ r. ⌜ r ≡ evalPlan row p y sent q within ⌝ }
+fn eval_plan(p: Process, y: Node, sent: Place, q: Place, within: bool) -> Plan
+    ensures { λ r. ⌜ r ≡ evalPlan p y sent q within ⌝ }
 {
     if within {
-        start_plan(row, p, sent, q, y)
+        start_plan(p, y, sent, q)
     } else {
-        no_change(Answer::NotWithin)
+        refused(Answer::NotWithin, y)
     }
 }
 
-// A row with every right on address n.
-fn gained(row: Row, n: usize) -> Row
-    ensures { λ r. ⌜ r ≡ gaining row n ⌝ }
+// A row with every right on an address.
+fn gained(row: Row, l: Locality) -> Row
+    ensures { λ r. ⌜ r ≡ gaining row l ⌝ }
 {
     let all = Rights::full();
-    row.with_rights(n, all)
+    row.with_rights(l, all)
 }
 
 // The creator's process, with the new address in its variable, at its next place.
-fn creator(p: Process, v: u8, n: usize, q: Place) -> Process
-    requires { ⌜ n < 16 ⌝ }
-    ensures { λ r. ⌜ r ≡ movedTo (withVariable p v (Value.Address (record { 0 = n }))) q ⌝ }
+fn creator(p: Process, v: u8, l: Locality, q: Place) -> Process
+    ensures { λ r. ⌜ r ≡ movedTo (withVariable p v (Value.Address l)) q ⌝ }
 {
-    let at = n as u8;
-    let l = Locality(at);
     let value = Value::Address(l);
     let set = p.with_variable(v as usize, value);
     set.moved_to(q)
 }
 
-fn new_plan(row: Row, p: Process, v: u8, q: Place, n: usize) -> Plan
-    ensures { λ r. ⌜ r ≡ newPlan row p v q n ⌝ }
+// A new node, whose row is the creator's with every right on itself.
+fn opened_node(row: Row, l: Locality) -> Node
+    ensures { λ r. ⌜ r ≡ withRow zeroNode (gaining row l) ⌝ }
+{
+    let zero = Node::zero();
+    let own = gained(row, l);
+    zero.with_row(own)
+}
+
+// A new address l, opened by a process under a row.
+fn open_plan(row: Row, p: Process, v: u8, q: Place, l: Locality) -> Plan
+    ensures { λ r. ⌜ r ≡ opening row p v q l ⌝ }
+{
+    let answer = Answer::Performed;
+    let process = creator(p, v, l, q);
+    let target = opened_node(row, l);
+    Plan {
+        answer,
+        process,
+        target,
+        opens: true,
+    }
+}
+
+fn new_plan(row: Row, p: Process, y: Node, v: u8, q: Place, n: usize) -> Plan
+    ensures { λ r. ⌜ r ≡ newPlan row p y v q n ⌝ }
 {
     if n < 16 {
-        let gained_row = gained(row, n);
-        let process = creator(p, v, n, q);
-        goes_on(gained_row, process, Effect::Open)
+        open_plan(row, p, v, q, Locality(n as u8))
     } else {
-        no_change(Answer::NoRoom)
+        refused(Answer::NoRoom, y)
     }
 }
 
@@ -285,22 +259,21 @@ fn granted_plan(
     within: bool,
     r: Request,
 ) -> Plan
-    ensures { λ x. ⌜ x ≡ donePlan row p y e n within r ⌝ }
+    ensures { λ x. ⌜ x ≡ grantedPlan row p y e n within r ⌝ }
 {
     match r {
-        Request::Lack => no_change(Answer::NotSet),
-        Request::Stop => stop_plan(row),
-        Request::Out(_, q) => out_plan(row, p, y, q, e),
-        Request::In(_, q) => in_request(row, p, y, q, e),
-        Request::Read(_, q) => read_request(row, p, y, q, e),
-        Request::Eval(_, sent, q) => eval_plan(row, p, y, sent, q, within),
-        Request::New(v, q) => new_plan(row, p, v, q, n),
-        Request::Fork(q, other) => start_plan(row, p, other, q, y),
+        Request::Lack => refused(Answer::NotSet, y),
+        Request::Stop => stop_plan(y),
+        Request::Out(_, q) => out_plan(p, y, q, e),
+        Request::In(_, q) => in_request(p, y, q, e),
+        Request::Read(_, q) => read_request(p, y, q, e),
+        Request::Eval(_, sent, q) => eval_plan(p, y, sent, q, within),
+        Request::New(v, q) => new_plan(row, p, y, v, q, n),
+        Request::Fork(q, other) => start_plan(p, y, other, q),
     }
 }
 
-// The plan of a request: y is the node at its target, n the address count, `within` whether sent code
-// keeps within y's row.
+// The plan of a request: n is the address count, `within` whether sent code keeps within y's row.
 pub fn plan_for(
     row: Row,
     p: Process,
@@ -310,13 +283,25 @@ pub fn plan_for(
     within: bool,
     r: Request,
 ) -> Plan
-    ensures { λ x. ⌜ Planned row p y e n within r x ⌝ }
+    ensures { λ x. ⌜ x ≡ planOf row p y e n within r ⌝ }
 {
-    if lacks(r) {
-        no_change(Answer::NotSet)
-    } else if has_right(row, r) {
+    if has_right(row, r) {
         granted_plan(row, p, y, e, n, within, r)
     } else {
-        no_change(Answer::NoRight)
+        refused(Answer::NoRight, y)
+    }
+}
+
+// The host after a plan: its process in slot k, and every right on the target l where the step opens it.
+pub fn host_after(plan: Plan, k: usize, l: Locality, x: Node) -> Node
+    ensures { λ r. ⌜ r ≡ hostAfter plan k l x ⌝ }
+{
+    let process = plan.process;
+    let moved = x.with_process(k, process);
+    if plan.opens {
+        let row = gained(x.row, l);
+        moved.with_row(row)
+    } else {
+        moved
     }
 }

@@ -16,7 +16,6 @@ ghost use Rattle.net.specs.Choice.{choose};
 ghost use Rattle.net.specs.Matching.{evaluatedOf};
 ghost use Rattle.net.specs.Records.{variableAt};
 ghost use Rattle.step.specs.Request.{Aim, Request, aimOf, targetOf, at, asked, requestOf, granted};
-ghost use Rattle.step.specs.Pick.{isLack};
 
 // Where a target points, if it points anywhere.
 pub enum Aim {
@@ -169,21 +168,5 @@ pub fn has_right(row: Row, r: Request) -> bool
         }
         Request::New(_, _) => row.create,
         Request::Fork(_, _) => true,
-    }
-}
-
-// Whether a needed variable is lacking.
-pub fn lacks(r: Request) -> bool
-    ensures { λ x. ⌜ x ≡ isLack r ⌝ }
-{
-    match r {
-        Request::Lack => true,
-        Request::Stop => false,
-        Request::Out(_, _) => false,
-        Request::In(_, _) => false,
-        Request::Read(_, _) => false,
-        Request::Eval(_, _, _) => false,
-        Request::New(_, _) => false,
-        Request::Fork(_, _) => false,
     }
 }

@@ -11,7 +11,7 @@ use lib.ListN.{getD, List·getD-eq-default}
 use lib.Seq.{ext-getD}
 use Rattle.net.specs.Choice.{choose}
 use Rattle.net.specs.Records.{freeProcess, startingAt, zeroTemplateField, zeroInstruction, withAction}
-use Rattle.net.specs.Records.{fieldAt, rightsAt, processAt, tupleAt, patternAt, nodeAt, instructionAt}
+use Rattle.net.specs.Records.{fieldAt, rightsAt, processAt, tupleAt, patternAt, nodeAt, instructionAt, addressOf, placeOf}
 use Rattle.net.proofs.Every.{Every, every-replicate, Filled}
 use Rattle.net.proofs.Past.{pastProcess, pastTuple}
 use Rattle.image.proofs.PastRecords.{pastField, pastRights, pastTemplate, pastNode, pastInstruction}
@@ -19,11 +19,11 @@ use Rattle.writer.proofs.WrittenRow.{RowOk}
 use Rattle.writer.proofs.WrittenProcesses.{Starts, ProcessesOk, node-is}
 use Rattle.writer.proofs.WrittenTuples.{TupleOk}
 use Rattle.writer.proofs.WrittenStore.{TuplesOk}
-use Rattle.writer.proofs.WrittenStages.{NodeOk}
+use Rattle.writer.proofs.WrittenStages.{WithTuples}
 use Rattle.writer.proofs.WrittenTemplate.{TemplateOk}
-use Rattle.writer.proofs.WrittenCode.{Spoken, Evaluated, Created, Forked, Acting, InstructionOk}
+use Rattle.writer.proofs.WrittenCode.{Communicated, Evaluated, Created, Forked, Acting, InstructionOk}
 use Rattle.writer.proofs.WrittenWhole.{NetOk}
-use Rattle.tenant.specs.Types.{Tuple, Row, Process, Node, Action, Instruction, Net}
+use Rattle.tenant.specs.Types.{Locality, Tuple, Row, Process, Node, Action, Instruction, Net}
 use Rattle.tenant.specs.TenantRule.{SameInstruction, SameCode, SamePolicy, SameTuple, SameTuples, SameStart, SameNode}
 use Rattle.tenant.proofs.Fence.{choose-both}
 
@@ -59,7 +59,7 @@ row-same : (n m : ℕ) (r r′ : Row) → n ≡ m → RowOk n r → RowOk m r′
 unfolding rightsAt
 row-same n m r r′ e ok ok′ same =
     let rights = filled-same pastRights 16 n m (r .rights) (r′ .rights) e (ok .rights-ok) (ok′ .rights-ok)
-    (λ l h _ _. same .rights l h) in
+    (λ l h _ _. same .rights (addressOf l) h) in
     λ i. record { create = same .creation i; rights = rights i }
 
 -- ---- tuples
@@ -103,7 +103,7 @@ slots-same k c k′ c′ x x′ ok ok′ same =
 
 -- ---- nodes
 node-same :
-    (n k m l : ℕ) (x x′ : Node) → n ≡ m → NodeOk n k x → NodeOk m l x′ → SameNode n x x′ → x ≡ x′
+    (n k m l : ℕ) (x x′ : Node) → n ≡ m → WithTuples n k x → WithTuples m l x′ → SameNode n x x′ → x ≡ x′
 node-same n k m l x x′ e ok ok′ same =
     node-is x′ _ _ _ _
     (row-same n m (x .row) (x′ .row) e (ok .row-ok) (ok′ .row-ok) (same .policy))
@@ -136,7 +136,7 @@ spoken-templated formals n c ok = record {
 
 module _ (n k : ℕ) (c : Instruction) where
   acting-templated : (v : ℕ) → Acting n k v c → Templated c
-  unfolding Acting Spoken Evaluated Created Forked
+  unfolding Acting Communicated Evaluated Created Forked
   acting-templated zero a = subst Templated a zero-templated
   acting-templated (suc zero) (t, _, (b, ok, (p, _, e))) = templated-with b c _ e (spoken-templated _ n b ok)
   acting-templated (suc (suc zero)) (t, _, (b, ok, (p, _, e))) = templated-with b c _ e (spoken-templated _ n b ok)
@@ -163,17 +163,17 @@ module _ (s t : Net) (ok : NetOk s) (ok′ : NetOk t) where
   code-same same =
       filled-same pastInstruction 512 (s .length) (t .length) (s .code) (t .code) (same .length) (ok .code-ok)
       (ok′ .code-ok)
-      (λ p h a b. instruction-same _ _ (templated _ _ _ a) (templated _ _ _ b) (same .instructions p h))
+      (λ p h a b. instruction-same _ _ (templated _ _ _ a) (templated _ _ _ b) (same .instructions (placeOf p) h))
 
   pub nodes-same :
-      (tenant : ℕ → Bool) → s .addresses ≡ t .addresses
-      → ((a : ℕ) → a < s .addresses → tenant a ≡ false → SameNode (s .addresses) (nodeAt s a) (nodeAt t a))
-      → (a : ℕ) → tenant a ≡ false → nodeAt s a ≡ nodeAt t a
+      (tenant : Locality → Bool) → s .addresses ≡ t .addresses
+      → ((a : Locality) → a .0 < s .addresses → tenant a ≡ false → SameNode (s .addresses) (nodeAt s a) (nodeAt t a))
+      → (a : Locality) → tenant a ≡ false → nodeAt s a ≡ nodeAt t a
   unfolding nodeAt
   nodes-same tenant e f a o =
-      under a 16
-      (λ u. let x = ok .nodes-ok .holds a u in let y = ok′ .nodes-ok .holds a u in
-      under a (s .addresses)
+      under (a .0) 16
+      (λ u. let x = ok .nodes-ok .holds (a .0) u in let y = ok′ .nodes-ok .holds (a .0) u in
+      under (a .0) (s .addresses)
       (λ h. node-same _ _ _ _ _ _ e (x .used h) (y .used (omega arith)) (f a h o))
       (λ h. sym (x .unused h) ∙ y .unused (omega arith)))
       (λ u. List·getD-eq-default (s .nodes) pastNode (omega (arith, ok .nodes-ok .size-is))

@@ -9,35 +9,35 @@ use Rattle.net.specs.Keeping.{mayTake, mayRead, mayPut, maySend, mayCreate}
 use Rattle.net.proofs.Every.{chosen}
 use Rattle.step.specs.Request.{granted}
 use Rattle.step.specs.Pick.{hostOf, unchanged, performed, withHost, stopped, added, out, taken, inFound, input}
-use Rattle.step.specs.Pick.{readFound, read, startedIn, eval, fork, created, create, done, acting}
+use Rattle.step.specs.Pick.{readFound, read, startedIn, eval, fork, unused, createdAt, created, create, carriedOut, acting}
 use Rattle.step.specs.Pick.{processStep, slotStep, stepOf}
-use Rattle.tenant.specs.Types.{Place, Tuple, Process, Slot, Net, Evaluated, Found, Request, Answer}
+use Rattle.tenant.specs.Types.{Locality, Place, Tuple, Process, Slot, Net, Evaluated, Found, Request, Answer}
 use Rattle.tenant.specs.Types.{Rights, Picked}
 use Rattle.tenant.proofs.View.{view, view-addresses, view-code, view-node, view-out, view-in, view-opened}
 use Rattle.tenant.proofs.View.{seen, seen-choose, seen-unchanged, seen-performed}
 use Rattle.tenant.proofs.Fence.{Fence, tested, never, choose-both, new-outside}
 
-module _ (tenant : ℕ → Bool) where
+module _ (tenant : Locality → Bool) where
   -- ---- changes outside the tenant
   host-out :
-      (s : Net) (a k : ℕ) (p : Process) → tenant a ≡ false
+      (s : Net) (a : Locality) (k : ℕ) (p : Process) → tenant a ≡ false
       → view tenant (withHost s a k p) ≡ withHost (view tenant s) a k p
   unfolding withHost
   host-out s a k p h = simp (view-out, view-node)
 
   added-out :
-      (s : Net) (l : ℕ) (t : Tuple) → tenant l ≡ false → view tenant (added s l t) ≡ added (view tenant s) l t
+      (s : Net) (l : Locality) (t : Tuple) → tenant l ≡ false → view tenant (added s l t) ≡ added (view tenant s) l t
   unfolding added
   added-out s l t h = simp (view-out, view-node)
 
-  taken-out : (s : Net) (l i : ℕ) → tenant l ≡ false → view tenant (taken s l i) ≡ taken (view tenant s) l i
+  taken-out : (s : Net) (l : Locality) (i : ℕ) → tenant l ≡ false → view tenant (taken s l i) ≡ taken (view tenant s) l i
   unfolding taken
   taken-out s l i h = simp (view-out, view-node)
 
   created-out :
-      (s : Net) (a k : ℕ) (p : Process) (v : ℕ) (q : Place) → tenant a ≡ false → tenant (s .addresses) ≡ false
+      (s : Net) (a : Locality) (k : ℕ) (p : Process) (v : ℕ) (q : Place) → tenant a ≡ false → tenant (unused s) ≡ false
       → view tenant (created s a k p v q) ≡ created (view tenant s) a k p v q
-  unfolding created
+  unfolding created createdAt unused
   created-out s a k p v q h g = simp (view-out, view-node, view-opened, view-addresses)
 
   ruleset outward = (
@@ -54,16 +54,16 @@ module _ (tenant : ℕ → Bool) where
   )
 
   -- ---- a pick outside the tenant
-  module _ (s : Net) (f : Fence tenant s) (a k : ℕ) (o : tenant a ≡ false) where
+  module _ (s : Net) (f : Fence tenant s) (a : Locality) (k : ℕ) (o : tenant a ≡ false) where
     -- the target of a right that an outside row has is outside
     target-out :
-        (l : ℕ) (right : Rights → Bool) → right noRights ≡ false → right (rightsAt (nodeAt s a .row) l) ≡ true
+        (l : Locality) (right : Rights → Bool) → right noRights ≡ false → right (rightsAt (nodeAt s a .row) l) ≡ true
         → tenant l ≡ false
     target-out l right n h =
         tested (tenant l) (λ t. never _ h (ap right (f .rows a .outside l o t) ∙ n)) (λ t. t)
 
     in-out :
-        (l : ℕ) (q : Place) (i : Found) (p : Process) → tenant l ≡ false
+        (l : Locality) (q : Place) (i : Found) (p : Process) → tenant l ≡ false
         → seen tenant (inFound s a k l q i p) ≡ inFound (view tenant s) a k l q i p
     unfolding inFound
     in-out l q (Found.At i) p h = simp outward
@@ -77,7 +77,7 @@ module _ (tenant : ℕ → Bool) where
     read-out q Found.Nothing p = simp outward
 
     started-out :
-        (l : ℕ) (p : Process) (sent q : Place) (j : Slot) → tenant l ≡ false
+        (l : Locality) (p : Process) (sent q : Place) (j : Slot) → tenant l ≡ false
         → seen tenant (startedIn s a k l p sent q j) ≡ startedIn (view tenant s) a k l p sent q j
     unfolding startedIn
     started-out l p sent q (Slot.Number j) h = simp outward
@@ -89,18 +89,18 @@ module _ (tenant : ℕ → Bool) where
 
     done-out :
         (p : Process) (e : Evaluated) (r : Request) → granted (nodeAt s a .row) r ≡ true
-        → seen tenant (done s a k p e r) ≡ done (view tenant s) a k p e r
-    unfolding done granted out input read eval create fork mayTake mayRead mayPut maySend noRights
+        → seen tenant (carriedOut s a k p e r) ≡ carriedOut (view tenant s) a k p e r
+    unfolding carriedOut granted out input read eval create fork mayTake mayRead mayPut maySend noRights
     done-out p e Request.Lack h = simp outward
     done-out p e Request.Stop h = stopped-out
     done-out p e (Request.Out l q) h =
-        let t : tenant (l .0) ≡ false = target-out (l .0) (λ x. x .put) refl h in simp outward
+        let t : tenant l ≡ false = target-out l (λ x. x .put) refl h in simp outward
     done-out p e (Request.In l q) h =
-        let t : tenant (l .0) ≡ false = target-out (l .0) (λ x. x .take) refl h in simp (outward, in-out)
+        let t : tenant l ≡ false = target-out l (λ x. x .take) refl h in simp (outward, in-out)
     done-out p e (Request.Read l q) h =
-        let t : tenant (l .0) ≡ false = target-out (l .0) (λ x. x .read) refl h in simp (outward, read-out)
+        let t : tenant l ≡ false = target-out l (λ x. x .read) refl h in simp (outward, read-out)
     done-out p e (Request.Eval l sent q) h =
-        let t : tenant (l .0) ≡ false = target-out (l .0) (λ x. x .send) refl h in simp (outward, started-out)
+        let t : tenant l ≡ false = target-out l (λ x. x .send) refl h in simp (outward, started-out)
     done-out p e (Request.New v q) h = let t = new-outside tenant s f in simp outward
     done-out p e (Request.Fork q r) h = simp (outward, started-out)
 
@@ -109,8 +109,7 @@ module _ (tenant : ℕ → Bool) where
         → seen tenant (acting s a k p e r) ≡ acting (view tenant s) a k p e r
     unfolding acting
     acting-out p e r =
-        simp outward
-        (choose-both _ _ _ _ _ (λ _. refl) (choose-both _ _ _ _ _ (λ h. done-out p e r h) refl))
+        simp outward (choose-both _ _ _ _ _ (λ h. done-out p e r h) refl)
 
     slot-out : seen tenant (slotStep s a k) ≡ slotStep (view tenant s) a k
     unfolding slotStep processStep
@@ -123,15 +122,15 @@ module _ (tenant : ℕ → Bool) where
   step-out s b f o = simp (outward, slot-out s f)
 
   -- ---- a pick of the tenant
-  host-in : (s : Net) (a k : ℕ) (p : Process) → tenant a ≡ true → view tenant (withHost s a k p) ≡ view tenant s
+  host-in : (s : Net) (a : Locality) (k : ℕ) (p : Process) → tenant a ≡ true → view tenant (withHost s a k p) ≡ view tenant s
   unfolding withHost
   host-in s a k p h = simp view-in
 
-  added-in : (s : Net) (l : ℕ) (t : Tuple) → tenant l ≡ true → view tenant (added s l t) ≡ view tenant s
+  added-in : (s : Net) (l : Locality) (t : Tuple) → tenant l ≡ true → view tenant (added s l t) ≡ view tenant s
   unfolding added
   added-in s l t h = simp view-in
 
-  taken-in : (s : Net) (l i : ℕ) → tenant l ≡ true → view tenant (taken s l i) ≡ view tenant s
+  taken-in : (s : Net) (l : Locality) (i : ℕ) → tenant l ≡ true → view tenant (taken s l i) ≡ view tenant s
   unfolding taken
   taken-in s l i h = simp view-in
 
@@ -148,12 +147,12 @@ module _ (tenant : ℕ → Bool) where
 
   ruleset inward = (host-in, added-in, taken-in)
 
-  module _ (s : Net) (f : Fence tenant s) (a k : ℕ) (o : tenant a ≡ true) where
+  module _ (s : Net) (f : Fence tenant s) (a : Locality) (k : ℕ) (o : tenant a ≡ true) where
     target-in :
-        (l : ℕ) (x : Bool) → x ≡ true → (tenant l ≡ false → x ≡ false) → tenant l ≡ true
+        (l : Locality) (x : Bool) → x ≡ true → (tenant l ≡ false → x ≡ false) → tenant l ≡ true
     target-in l x h g = tested (tenant l) (λ t. t) (λ t. never x h (g t))
 
-    in-in : (l : ℕ) (q : Place) (i : Found) (p : Process) → tenant l ≡ true → Unseen s (inFound s a k l q i p)
+    in-in : (l : Locality) (q : Place) (i : Found) (p : Process) → tenant l ≡ true → Unseen s (inFound s a k l q i p)
     unfolding inFound
     in-in l q (Found.At i) p h = unseen-performed s _ (simp inward)
     in-in l q Found.Nothing p h = unseen-unchanged s _
@@ -164,24 +163,24 @@ module _ (tenant : ℕ → Bool) where
     read-in q Found.Nothing p = unseen-unchanged s _
 
     started-in :
-        (l : ℕ) (p : Process) (sent q : Place) (j : Slot) → tenant l ≡ true → Unseen s (startedIn s a k l p sent q j)
+        (l : Locality) (p : Process) (sent q : Place) (j : Slot) → tenant l ≡ true → Unseen s (startedIn s a k l p sent q j)
     unfolding startedIn
     started-in l p sent q (Slot.Number j) h = unseen-performed s _ (simp inward)
     started-in l p sent q Slot.Full h = unseen-unchanged s _
 
     done-in :
-        (p : Process) (e : Evaluated) (r : Request) → granted (nodeAt s a .row) r ≡ true → Unseen s (done s a k p e r)
-    unfolding done granted stopped out input read eval create fork mayTake mayRead mayPut maySend mayCreate
+        (p : Process) (e : Evaluated) (r : Request) → granted (nodeAt s a .row) r ≡ true → Unseen s (carriedOut s a k p e r)
+    unfolding carriedOut granted stopped out input read eval create fork mayTake mayRead mayPut maySend mayCreate
     done-in p e Request.Lack h = unseen-unchanged s _
     done-in p e Request.Stop h = record { same = host-in s a k _ o }
     done-in p e (Request.Out l q) h =
-        let t : tenant (l .0) ≡ true = target-in (l .0) _ h (f .rows a .no-put (l .0) o) in
+        let t : tenant l ≡ true = target-in l _ h (f .rows a .no-put l o) in
         chosen (Unseen s) _ _ _ (λ _. unseen-performed s _ (simp inward)) (λ _. unseen-unchanged s _)
-    done-in p e (Request.In l q) h = in-in _ q _ _ (target-in (l .0) _ h (f .rows a .no-take (l .0) o))
+    done-in p e (Request.In l q) h = in-in _ q _ _ (target-in l _ h (f .rows a .no-take l o))
     done-in p e (Request.Read l q) h = read-in q _ _
     done-in p e (Request.Eval l sent q) h =
         chosen (Unseen s) _ _ _
-        (λ _. started-in _ p sent q _ (target-in (l .0) _ h (f .rows a .no-send (l .0) o)))
+        (λ _. started-in _ p sent q _ (target-in l _ h (f .rows a .no-send l o)))
         (λ _. unseen-unchanged s _)
     done-in p e (Request.New v q) h = never _ h (f .rows a .no-creation o)
     done-in p e (Request.Fork q r) h = started-in a p r q _ o
@@ -192,8 +191,7 @@ module _ (tenant : ℕ → Bool) where
       chosen (Unseen s) _ _ _
       (λ _. chosen (Unseen s) _ _ _
       (λ _. chosen (Unseen s) _ _ _
-      (λ _. chosen (Unseen s) _ _ _ (λ _. unseen-unchanged s _)
-      (λ _. chosen (Unseen s) _ _ _ (λ h. done-in s f _ _ o _ _ _ h) (λ _. unseen-unchanged s _)))
+      (λ _. chosen (Unseen s) _ _ _ (λ h. done-in s f _ _ o _ _ _ h) (λ _. unseen-unchanged s _))
       (λ _. unseen-unchanged s _)) (λ _. unseen-unchanged s _)) (λ _. unseen-unchanged s _)
 
   pub step-in :

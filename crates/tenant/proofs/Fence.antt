@@ -8,15 +8,15 @@ use native.Mathlib.Omega.{arith}
 use lib.ListN.{getD, set}
 use lib.Seq.{getD-set-other}
 use Rattle.net.specs.Choice.{choose}
-use Rattle.net.specs.Records.{nodeAt, rightsAt, noRights}
+use Rattle.net.specs.Records.{nodeAt, rightsAt, noRights, addressOf}
 use Rattle.net.specs.Records.{withNode, withProcess, withTuple, withoutTuple, withRow, withRights}
 use Rattle.net.specs.Keeping.{mayCreate}
 use Rattle.net.proofs.Every.{chosen}
 use Rattle.step.specs.Request.{granted}
 use Rattle.step.specs.Pick.{unchanged, performed, withHost, stopped, added, out, taken, inFound, input}
-use Rattle.step.specs.Pick.{readFound, read, startedIn, eval, fork, gaining, opened, created, create, done, acting}
+use Rattle.step.specs.Pick.{readFound, read, startedIn, eval, fork, gaining, opened, unused, createdAt, created, create, carriedOut, acting}
 use Rattle.step.specs.Pick.{processStep, slotStep, stepOf}
-use Rattle.tenant.specs.Types.{Place, Tuple, Process, Row, Node, Slot, Net, Evaluated, Found, Request, Answer}
+use Rattle.tenant.specs.Types.{Locality, Place, Tuple, Process, Row, Node, Slot, Net, Evaluated, Found, Request, Answer}
 use Rattle.tenant.specs.Types.{Picked}
 
 -- what a test comes to
@@ -44,29 +44,29 @@ at-set P (x ∷ xs) (suc a) zero y d f p = p
 at-set P (x ∷ xs) (suc a) (suc b) y d f p = at-set P xs a b y d (λ e. f (omega arith)) p
 
 -- ---- what is asked of the row of one address
-pub record FencedRow (tenant : ℕ → Bool) (a : ℕ) (r : Row) : Type 0 where
-  pub outside : (l : ℕ) → tenant a ≡ false → tenant l ≡ true → rightsAt r l ≡ noRights
+pub record FencedRow (tenant : Locality → Bool) (a : Locality) (r : Row) : Type 0 where
+  pub outside : (l : Locality) → tenant a ≡ false → tenant l ≡ true → rightsAt r l ≡ noRights
   pub no-creation : tenant a ≡ true → r .create ≡ false
-  pub no-take : (l : ℕ) → tenant a ≡ true → tenant l ≡ false → rightsAt r l .take ≡ false
-  pub no-put : (l : ℕ) → tenant a ≡ true → tenant l ≡ false → rightsAt r l .put ≡ false
-  pub no-send : (l : ℕ) → tenant a ≡ true → tenant l ≡ false → rightsAt r l .send ≡ false
+  pub no-take : (l : Locality) → tenant a ≡ true → tenant l ≡ false → rightsAt r l .take ≡ false
+  pub no-put : (l : Locality) → tenant a ≡ true → tenant l ≡ false → rightsAt r l .put ≡ false
+  pub no-send : (l : Locality) → tenant a ≡ true → tenant l ≡ false → rightsAt r l .send ≡ false
 
-pub record Fence (tenant : ℕ → Bool) (s : Net) : Type 0 where
-  pub below : (a : ℕ) → tenant a ≡ true → a < s .addresses
-  pub rows : (a : ℕ) → FencedRow tenant a (nodeAt s a .row)
+pub record Fence (tenant : Locality → Bool) (s : Net) : Type 0 where
+  pub below : (a : Locality) → tenant a ≡ true → a .0 < s .addresses
+  pub rows : (a : Locality) → FencedRow tenant a (nodeAt s a .row)
 
-module _ (tenant : ℕ → Bool) where
+module _ (tenant : Locality → Bool) where
   -- ---- changes that leave rows as they are
   with-node :
-      (s : Net) (a : ℕ) (x : Node) → Fence tenant s → FencedRow tenant a (x .row) → Fence tenant (withNode s a x)
+      (s : Net) (a : Locality) (x : Node) → Fence tenant s → FencedRow tenant a (x .row) → Fence tenant (withNode s a x)
   unfolding withNode nodeAt
   with-node s a x f g = record {
     below = f .below;
-    rows = λ b. at-set (λ y. FencedRow tenant b (y .row)) (s .nodes) a b x _
-        (λ e. subst (λ (c : ℕ). FencedRow tenant c (x .row)) (sym e) g) (f .rows b);
+    rows = λ b. at-set (λ y. FencedRow tenant b (y .row)) (s .nodes) (a .0) (b .0) x _
+        (λ e. subst (λ (c : ℕ). FencedRow tenant (addressOf c) (x .row)) (sym e) g) (f .rows b);
   }
 
-  with-host : (s : Net) (a k : ℕ) (p : Process) → Fence tenant s → Fence tenant (withHost s a k p)
+  with-host : (s : Net) (a : Locality) (k : ℕ) (p : Process) → Fence tenant s → Fence tenant (withHost s a k p)
   unfolding withHost withProcess
   with-host s a k p f = with-node s a _ f (f .rows a)
 
@@ -74,25 +74,26 @@ module _ (tenant : ℕ → Bool) where
   unfolding withTuple
   tuple-row x t = chosen (λ (y : Node). y .row ≡ x .row) _ _ _ (λ _. refl) (λ _. refl)
 
-  added-kept : (s : Net) (l : ℕ) (t : Tuple) → Fence tenant s → Fence tenant (added s l t)
+  added-kept : (s : Net) (l : Locality) (t : Tuple) → Fence tenant s → Fence tenant (added s l t)
   unfolding added
   added-kept s l t f = with-node s l _ f (subst (FencedRow tenant l) (sym (tuple-row _ t)) (f .rows l))
 
-  taken-kept : (s : Net) (l i : ℕ) → Fence tenant s → Fence tenant (taken s l i)
+  taken-kept : (s : Net) (l : Locality) (i : ℕ) → Fence tenant s → Fence tenant (taken s l i)
   unfolding taken withoutTuple
   taken-kept s l i f = with-node s l _ f (f .rows l)
 
   -- ---- a new address
-  pub new-outside : (s : Net) → Fence tenant s → tenant (s .addresses) ≡ false
-  new-outside s f = tested (tenant (s .addresses)) (λ e. absurd (omega (arith, f .below _ e))) (λ e. e)
+  pub new-outside : (s : Net) → Fence tenant s → tenant (unused s) ≡ false
+  unfolding unused
+  new-outside s f = tested (tenant (unused s)) (λ e. absurd (omega (arith, f .below _ e))) (λ e. e)
 
   gaining-kept :
-      (s : Net) (r : Row) (b : ℕ) → Fence tenant s → tenant b ≡ false
-      → ((l : ℕ) → tenant l ≡ true → rightsAt r l ≡ noRights) → FencedRow tenant b (gaining r (s .addresses))
-  unfolding gaining withRights rightsAt
+      (s : Net) (r : Row) (b : Locality) → Fence tenant s → tenant b ≡ false
+      → ((l : Locality) → tenant l ≡ true → rightsAt r l ≡ noRights) → FencedRow tenant b (gaining r (unused s))
+  unfolding gaining unused withRights rightsAt
   gaining-kept s r b f o g = record {
     outside = λ l _ h.
-        getD-set-other (r .rights) (s .addresses) l _ _ (λ e. absurd (omega (arith, f .below l h))) ∙ g l h;
+        getD-set-other (r .rights) (s .addresses) (l .0) _ _ (λ e. absurd (omega (arith, f .below l h))) ∙ g l h;
     no-creation = λ e. never _ e o;
     no-take = λ l e. never _ e o;
     no-put = λ l e. never _ e o;
@@ -104,9 +105,9 @@ module _ (tenant : ℕ → Bool) where
   opened-kept s f = record { below = λ a h. omega (arith, f .below a h); rows = f .rows }
 
   created-kept :
-      (s : Net) (a k : ℕ) (p : Process) (v : ℕ) (q : Place) → Fence tenant s → tenant a ≡ false
+      (s : Net) (a : Locality) (k : ℕ) (p : Process) (v : ℕ) (q : Place) → Fence tenant s → tenant a ≡ false
       → Fence tenant (created s a k p v q)
-  unfolding created withRow
+  unfolding created createdAt withRow
   created-kept s a k p v q f h =
       with-node _ _ _ (with-node _ a _ (opened-kept s f) (gaining-kept s _ a f h (λ l. f .rows a .outside l h)))
       (gaining-kept s _ _ f (new-outside s f) (λ l. f .rows a .outside l h))
@@ -123,8 +124,8 @@ module _ (tenant : ℕ → Bool) where
   unfolding performed
   performed-kept s f = record { fenced = f }
 
-  module _ (s : Net) (f : Fence tenant s) (a k : ℕ) where
-    in-kept : (l : ℕ) (q : Place) (i : Found) (p : Process) → Kept (inFound s a k l q i p)
+  module _ (s : Net) (f : Fence tenant s) (a : Locality) (k : ℕ) where
+    in-kept : (l : Locality) (q : Place) (i : Found) (p : Process) → Kept (inFound s a k l q i p)
     unfolding inFound
     in-kept l q (Found.At i) p = performed-kept _ (taken-kept _ l i (with-host s a k _ f))
     in-kept l q Found.Nothing p = same-kept s _ f
@@ -134,14 +135,14 @@ module _ (tenant : ℕ → Bool) where
     read-kept q (Found.At i) p = performed-kept _ (with-host s a k _ f)
     read-kept q Found.Nothing p = same-kept s _ f
 
-    started-kept : (l : ℕ) (p : Process) (sent q : Place) (j : Slot) → Kept (startedIn s a k l p sent q j)
+    started-kept : (l : Locality) (p : Process) (sent q : Place) (j : Slot) → Kept (startedIn s a k l p sent q j)
     unfolding startedIn
     started-kept l p sent q (Slot.Number j) = performed-kept _ (with-host _ l j _ (with-host s a k _ f))
     started-kept l p sent q Slot.Full = same-kept s _ f
 
     done-kept :
-        (p : Process) (e : Evaluated) (r : Request) → granted (nodeAt s a .row) r ≡ true → Kept (done s a k p e r)
-    unfolding done granted stopped out input read eval create fork mayCreate
+        (p : Process) (e : Evaluated) (r : Request) → granted (nodeAt s a .row) r ≡ true → Kept (carriedOut s a k p e r)
+    unfolding carriedOut granted stopped out input read eval create fork mayCreate
     done-kept p e Request.Lack h = same-kept s _ f
     done-kept p e Request.Stop h = record { fenced = with-host s a k _ f }
     done-kept p e (Request.Out l q) h =
@@ -162,8 +163,7 @@ module _ (tenant : ℕ → Bool) where
       chosen Kept _ _ _
       (λ _. chosen Kept _ _ _
       (λ _. chosen Kept _ _ _
-      (λ _. chosen Kept _ _ _ (λ _. same-kept s _ f)
-      (λ _. chosen Kept _ _ _ (λ h. done-kept s f _ _ _ _ _ h) (λ _. same-kept s _ f)))
+      (λ _. chosen Kept _ _ _ (λ h. done-kept s f _ _ _ _ _ h) (λ _. same-kept s _ f))
       (λ _. same-kept s _ f)) (λ _. same-kept s _ f)) (λ _. same-kept s _ f)
 
   pub fence-kept : (s : Net) (b : ℕ) → Fence tenant s → Fence tenant (stepOf s b .net)

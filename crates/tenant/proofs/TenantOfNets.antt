@@ -5,16 +5,16 @@ use Prim.Native.Nat.{ℕ}
 use mathlib.Core.Path.{_≡_, refl, sym, ap, _∙_}
 use mathlib.Core.Bool.{Bool, true, false}
 use mathlib.Core.List.{List, [], _∷_}
-use Rattle.net.specs.Records.{nodeAt}
+use Rattle.net.specs.Records.{nodeAt, addressOf}
 use Rattle.net.specs.Soundness.{soundOf}
 use Rattle.net.proofs.Laws.{choose-true, choose-false}
 use Rattle.step.specs.Pick.{hostOf, stepOf, pickOf}
 use Rattle.step.specs.Shape.{Shaped}
 use Rattle.step.proofs.SoundKept.{step-sound-kept}
-use Rattle.tenant.specs.Types.{Node, Net, Answer, Picked}
+use Rattle.tenant.specs.Types.{Locality, Node, Net, Answer, Picked}
 use Rattle.run.specs.Run.{Ran, answered, ranFrom}
 use Rattle.tenant.specs.TenantRule.{struck, remaining, Equal, Agree}
-use Rattle.tenant.proofs.View.{blanked-same, view, view-node, seen}
+use Rattle.tenant.proofs.View.{blanked-same, counted, view, view-node, seen}
 use Rattle.tenant.proofs.Fence.{Fence, tested, fence-kept}
 use Rattle.tenant.proofs.Erasure.{step-out, step-in}
 
@@ -32,7 +32,7 @@ same-run s (b ∷ bs) g h =
     rw (choose-true (soundOf s) (stepOf s b)) (ap (answered (stepOf s b .answer)) (same-run _ bs (k .1) (k .0)))
 
 -- ---- the view of a run
-module _ (tenant : ℕ → Bool) where
+module _ (tenant : Locality → Bool) where
   unfoldable viewed : List ℕ → Ran → Ran
   viewed bs r = record { answers = remaining tenant bs (r .answers); net = view tenant (r .net) }
 
@@ -83,10 +83,10 @@ module _ (tenant : ℕ → Bool) where
   -- ---- two nets
   same-view :
       (s t : Net) → Shaped s → Shaped t → s .addresses ≡ t .addresses → s .code ≡ t .code
-      → ((a : ℕ) → tenant a ≡ false → nodeAt s a ≡ nodeAt t a) → view tenant s ≡ view tenant t
+      → ((a : Locality) → tenant a ≡ false → nodeAt s a ≡ nodeAt t a) → view tenant s ≡ view tenant t
   unfolding view nodeAt
   same-view s t g g′ n c f =
-      let e = blanked-same tenant (s .nodes) (t .nodes) _ (g .nodes-are ∙ sym (g′ .nodes-are)) f in
+      let e = blanked-same (counted tenant) (s .nodes) (t .nodes) _ (g .nodes-are ∙ sym (g′ .nodes-are)) (λ i. f (addressOf i)) in
       λ i. record { addresses = n i; length = 0; nodes = e i; code = c i }
 
   equal-node : (x y : Node) → x ≡ y → Equal x y
@@ -114,7 +114,7 @@ module _ (tenant : ℕ → Bool) where
 
   pub tenant-of-nets :
       (s t : Net) (bs bs′ : List ℕ) → soundOf s ≡ true → soundOf t ≡ true → Shaped s → Shaped t
-      → s .addresses ≡ t .addresses → s .code ≡ t .code → ((a : ℕ) → tenant a ≡ false → nodeAt s a ≡ nodeAt t a)
+      → s .addresses ≡ t .addresses → s .code ≡ t .code → ((a : Locality) → tenant a ≡ false → nodeAt s a ≡ nodeAt t a)
       → Fence tenant s → Fence tenant t
       → struck tenant bs ≡ struck tenant bs′ → Agree tenant bs bs′ (ranFrom s bs) (ranFrom t bs′)
   tenant-of-nets s t bs bs′ h h′ g g′ n c nodes f f′ e =

@@ -19,51 +19,51 @@ use Rattle.image.proofs.PastRecords.{pastRights, pastNode}
 use Rattle.writer.proofs.WrittenWhole.{NetOk}
 use Rattle.writer.proofs.AcceptedWritten.{opened-ok}
 use Rattle.step.proofs.SoundFacts.{in-range-low}
-use Rattle.tenant.specs.Types.{Rights, Node, Net, Reading}
+use Rattle.tenant.specs.Types.{Locality, Rights, Node, Net, Verdict}
 use Rattle.run.specs.Run.{Ran, ran, ranFrom, runIn, runOf}
 use Rattle.tenant.specs.TenantRule.{grants, creates, Fenced, Agree, TenantRule}
-use Rattle.run.proofs.Whole.{whole-shaped, opened-whole}
+use Rattle.run.proofs.OpenedShaped.{opened-shaped}
 use Rattle.tenant.proofs.Fence.{Fence}
 use Rattle.tenant.proofs.Equal.{under, code-same, nodes-same}
 use Rattle.tenant.proofs.TenantOfNets.{tenant-of-nets}
 
 module _ (s : Net) (ok : NetOk s) where
   -- ---- no policy grants a right over an unused address
-  over-unused : (a l : ℕ) → a < s .addresses → s .addresses ≤ l → grants s a l ≡ noRights
+  over-unused : (a l : Locality) → a .0 < s .addresses → s .addresses ≤ l .0 → grants s a l ≡ noRights
   unfolding grants rightsAt nodeAt noRights
   over-unused a l h g =
-      let rights = ok .nodes-ok .holds a (omega (arith, ok .addresses-ok .below)) .used h .row-ok .rights-ok in
-      under l 16 (λ u. sym (rights .holds l u .unused g))
+      let rights = ok .nodes-ok .holds (a .0) (omega (arith, ok .addresses-ok .below)) .used h .row-ok .rights-ok in
+      under (l .0) 16 (λ u. sym (rights .holds (l .0) u .unused g))
       (λ u. List·getD-eq-default (nodeAt s a .row .rights) pastRights (omega (arith, rights .size-is)))
 
   -- ---- and an unused address grants none
-  zero-grants : (l : ℕ) → l < 16 → rightsAt (zeroNode .row) l ≡ noRights
+  zero-grants : (l : Locality) → l .0 < 16 → rightsAt (zeroNode .row) l ≡ noRights
   unfolding rightsAt zeroNode zeroRow
-  zero-grants l h = getD-replicate 16 l noRights _ h
+  zero-grants l h = getD-replicate 16 (l .0) noRights _ h
 
-  of-unused : (a l : ℕ) → s .addresses ≤ a → l < 16 → grants s a l ≡ noRights
+  of-unused : (a l : Locality) → s .addresses ≤ a .0 → l .0 < 16 → grants s a l ≡ noRights
   unfolding grants rightsAt nodeAt noRights
   of-unused a l h g =
-      under a 16
-      (λ u. ap (λ (x : Node). rightsAt (x .row) l) (sym (ok .nodes-ok .holds a u .unused h)) ∙ zero-grants l g)
+      under (a .0) 16
+      (λ u. ap (λ (x : Node). rightsAt (x .row) l) (sym (ok .nodes-ok .holds (a .0) u .unused h)) ∙ zero-grants l g)
       (λ u. ap (λ (x : Node). rightsAt (x .row) l)
       (List·getD-eq-default (s .nodes) pastNode (omega (arith, ok .nodes-ok .size-is))))
 
   -- ---- the fence over all numbers
-  module _ (tenant : ℕ → Bool) (below : (a : ℕ) → tenant a ≡ true → a < s .addresses) (f : Fenced tenant s) where
+  module _ (tenant : Locality → Bool) (below : (a : Locality) → tenant a ≡ true → a .0 < s .addresses) (f : Fenced tenant s) where
     no-right :
         (right : Rights → Bool) → right noRights ≡ false
-        → ((a l : ℕ) → tenant a ≡ true → l < s .addresses → tenant l ≡ false → right (grants s a l) ≡ false)
-        → (a l : ℕ) → tenant a ≡ true → tenant l ≡ false → right (grants s a l) ≡ false
+        → ((a l : Locality) → tenant a ≡ true → l .0 < s .addresses → tenant l ≡ false → right (grants s a l) ≡ false)
+        → (a l : Locality) → tenant a ≡ true → tenant l ≡ false → right (grants s a l) ≡ false
     no-right right n g a l t o =
-        under l (s .addresses) (λ h. g a l t h o) (λ h. ap right (over-unused a l (below a t) h) ∙ n)
+        under (l .0) (s .addresses) (λ h. g a l t h o) (λ h. ap right (over-unused a l (below a t) h) ∙ n)
 
     fence : Fence tenant s
     unfolding grants creates noRights
     fence = record {
       below = below;
       rows = λ a. record {
-        outside = λ l o t. under a (s .addresses) (λ h. f .outside a l h o t)
+        outside = λ l o t. under (a .0) (s .addresses) (λ h. f .outside a l h o t)
             (λ h. of-unused a l h (omega (arith, below l t, ok .addresses-ok .below)));
         no-creation = f .no-creation a;
         no-take = no-right (λ r. r .take) refl (λ b m t h o. f .at-most-read b m t h o .no-take) a;
@@ -73,17 +73,17 @@ module _ (s : Net) (ok : NetOk s) where
     }
 
 -- ---- a run is of an accepted image
-record Began (x : Reading) (s : Net) (picks : List ℕ) (r : Ran) : Type 0 where
-  is-accepted : x ≡ Reading.Accepted
+record Began (x : Verdict) (s : Net) (picks : List ℕ) (r : Ran) : Type 0 where
+  is-accepted : x ≡ Verdict.Accepted
   ran-is : ranFrom s picks ≡ r
 
-began : (x : Reading) (s : Net) (picks : List ℕ) (r : Ran) → runIn x s picks ≡ ran r → Began x s picks r
+began : (x : Verdict) (s : Net) (picks : List ℕ) (r : Ran) → runIn x s picks ≡ ran r → Began x s picks r
 unfolding runIn
-began Reading.Accepted s picks r e = record { is-accepted = refl; ran-is = cc }
-began (Reading.Refused f) s picks r e = let z : _≡_ {A = ℕ} 0 1 = cc in absurd (omega arith)
+began Verdict.Accepted s picks r e = record { is-accepted = refl; ran-is = cc }
+began (Verdict.Refused f) s picks r e = let z : _≡_ {A = ℕ} 0 1 = cc in absurd (omega arith)
 
 -- the net of an accepted image is sound, and one that an image can write: the empty net is not sound
-sound-opened : (image : List ℕ) → openedOf image .answer ≡ Reading.Accepted → soundOf (openedOf image .net) ≡ true
+sound-opened : (image : List ℕ) → openedOf image .answer ≡ Verdict.Accepted → soundOf (openedOf image .net) ≡ true
 unfolding AcceptedIsSound
 sound-opened image e = accepted-is-sound image e
 
@@ -110,8 +110,7 @@ tenantRule tenant image image′ picks picks′ r r′ e e′ alike same =
     let ok = written image sound in
     let ok′ = written image′ sound′ in
     subst₂ (Agree tenant picks picks′) (b .ran-is) (b′ .ran-is)
-    (tenant-of-nets tenant s t picks picks′ sound sound′ (whole-shaped s (opened-whole image))
-    (whole-shaped t (opened-whole image′)) (alike .addresses) (code-same s t ok ok′ (alike .code))
+    (tenant-of-nets tenant s t picks picks′ sound sound′ (opened-shaped image) (opened-shaped image′) (alike .addresses) (code-same s t ok ok′ (alike .code))
     (nodes-same s t ok ok′ tenant (alike .addresses) (alike .nodes))
     (fence s ok tenant (alike .below) (alike .fenced))
     (fence t ok′ tenant (λ a h. omega (arith, alike .below a h, alike .addresses)) (alike .fenced′)) same)

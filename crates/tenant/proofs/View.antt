@@ -8,10 +8,10 @@ use mathlib.Core.Bool.{Bool, true, false}
 use mathlib.Core.List.{List, [], _∷_}
 use lib.ListN.{length, getD, set}
 use Rattle.net.specs.Choice.{choose}
-use Rattle.net.specs.Records.{zeroNode, nodeAt, withNode}
+use Rattle.net.specs.Records.{zeroNode, nodeAt, withNode, addressOf}
 use Rattle.net.proofs.Laws.{choose-true, choose-false}
 use Rattle.step.specs.Pick.{unchanged, performed, opened}
-use Rattle.tenant.specs.Types.{Node, Net, Answer, Picked}
+use Rattle.tenant.specs.Types.{Locality, Node, Net, Answer, Picked}
 
 -- ---- the nodes
 unfoldable pub blanked : (ℕ → Bool) → List Node → List Node
@@ -67,9 +67,13 @@ blanked-same tenant (x ∷ xs) (y ∷ ys) d e f =
     go false g = ap (choose false zeroNode) (g refl)
 
 -- ---- the net
-module _ (tenant : ℕ → Bool) where
+module _ (tenant : Locality → Bool) where
+  -- the addresses as the nodes are counted
+  abbrev pub counted : ℕ → Bool
+  counted i = tenant (addressOf i)
+
   unfoldable pub view : Net → Net
-  view s = record { addresses = s .addresses; length = 0; nodes = blanked tenant (s .nodes); code = s .code }
+  view s = record { addresses = s .addresses; length = 0; nodes = blanked counted (s .nodes); code = s .code }
 
   pub view-addresses : (s : Net) → view s .addresses ≡ s .addresses
   unfolding view
@@ -79,20 +83,20 @@ module _ (tenant : ℕ → Bool) where
   unfolding view
   view-code s = refl
 
-  pub view-node : (s : Net) (a : ℕ) → tenant a ≡ false → nodeAt (view s) a ≡ nodeAt s a
+  pub view-node : (s : Net) (a : Locality) → tenant a ≡ false → nodeAt (view s) a ≡ nodeAt s a
   unfolding view nodeAt
-  view-node s a h = getD-blanked tenant (s .nodes) a _ h
+  view-node s a h = getD-blanked counted (s .nodes) (a .0) _ h
 
-  pub view-out : (s : Net) (a : ℕ) (x : Node) → tenant a ≡ false → view (withNode s a x) ≡ withNode (view s) a x
+  pub view-out : (s : Net) (a : Locality) (x : Node) → tenant a ≡ false → view (withNode s a x) ≡ withNode (view s) a x
   unfolding view withNode
   view-out s a x h i =
-      let ns = blanked-out tenant (s .nodes) a x h in
+      let ns = blanked-out counted (s .nodes) (a .0) x h in
       record { addresses = s .addresses; length = 0; nodes = ns i; code = s .code }
 
-  pub view-in : (s : Net) (a : ℕ) (x : Node) → tenant a ≡ true → view (withNode s a x) ≡ view s
+  pub view-in : (s : Net) (a : Locality) (x : Node) → tenant a ≡ true → view (withNode s a x) ≡ view s
   unfolding view withNode
   view-in s a x h i =
-      let ns = blanked-in tenant (s .nodes) a x h in
+      let ns = blanked-in counted (s .nodes) (a .0) x h in
       record { addresses = s .addresses; length = 0; nodes = ns i; code = s .code }
 
   pub view-opened : (s : Net) → view (opened s) ≡ opened (view s)

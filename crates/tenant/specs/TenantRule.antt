@@ -8,17 +8,17 @@ use Rattle.net.specs.Choice.{choose}
 use Rattle.net.specs.Records.{nodeAt, rightsAt, processAt, tupleAt, fieldAt, instructionAt, patternAt, noRights}
 use Rattle.image.specs.Image.{openedOf}
 use Rattle.step.specs.Pick.{hostOf}
-use Rattle.tenant.specs.Types.{Tuple, Rights, Row, Process, Node, Instruction, Net, Answer}
+use Rattle.tenant.specs.Types.{Locality, Place, Tuple, Rights, Row, Process, Node, Instruction, Net, Answer}
 use Rattle.run.specs.Run.{Ran, ran, runOf}
 
 -- ---- "picks of tenant addresses are struck out, whether or not a pick performs a step"; "a pick is of the address in its
 -- first 4 bits, in use or not"
-unfoldable pub struck : (ℕ → Bool) → List ℕ → List ℕ
+unfoldable pub struck : (Locality → Bool) → List ℕ → List ℕ
 struck tenant [] = []
 struck tenant (b ∷ bs) = choose (tenant (hostOf b)) (struck tenant bs) (b ∷ struck tenant bs)
 
 -- "the remaining answers", in order
-unfoldable pub remaining : (ℕ → Bool) → List ℕ → List Answer → List Answer
+unfoldable pub remaining : (Locality → Bool) → List ℕ → List Answer → List Answer
 remaining tenant [] xs = []
 remaining tenant (b ∷ bs) [] = []
 remaining tenant (b ∷ bs) (x ∷ xs) =
@@ -36,12 +36,12 @@ pub record SameInstruction (c c′ : Instruction) : Type 0 where
 -- "equal .. code": codes of one length, equal in every instruction below it
 pub record SameCode (s t : Net) : Type 0 where
   pub length : s .length ≡ t .length
-  pub instructions : (p : ℕ) → p < s .length → SameInstruction (instructionAt (s .code) p) (instructionAt (t .code) p)
+  pub instructions : (p : Place) → p .0 < s .length → SameInstruction (instructionAt (s .code) p) (instructionAt (t .code) p)
 
 -- "policies in every right": n, and the rights over each address below the address count
 pub record SamePolicy (addresses : ℕ) (r r′ : Row) : Type 0 where
   pub creation : r .create ≡ r′ .create
-  pub rights : (l : ℕ) → l < addresses → rightsAt r l ≡ rightsAt r′ l
+  pub rights : (l : Locality) → l .0 < addresses → rightsAt r l ≡ rightsAt r′ l
 
 -- a tuple "whole": each of its fields
 pub record SameTuple (u u′ : Tuple) : Type 0 where
@@ -67,10 +67,10 @@ pub record SameNode (addresses : ℕ) (x x′ : Node) : Type 0 where
 
 -- ---- what is asked of each image. "A policy grants what its row holds": the rights of address a's policy over address l,
 -- and its right to create
-unfoldable pub grants : Net → ℕ → ℕ → Rights
+unfoldable pub grants : Net → Locality → Locality → Rights
 grants s a l = rightsAt (nodeAt s a .row) l
 
-unfoldable pub creates : Net → ℕ → Bool
+unfoldable pub creates : Net → Locality → Bool
 creates s a = nodeAt s a .row .create
 
 -- "at most read means no i, o or e"
@@ -81,20 +81,20 @@ pub record AtMostRead (r : Rights) : Type 0 where
 
 -- "no outside policy grants a right over a tenant's address; a tenant's policy grants no creation and, outside, at most
 -- read"
-pub record Fenced (tenant : ℕ → Bool) (s : Net) : Type 0 where
-  pub outside : (a l : ℕ) → a < s .addresses → tenant a ≡ false → tenant l ≡ true → grants s a l ≡ noRights
-  pub no-creation : (a : ℕ) → tenant a ≡ true → creates s a ≡ false
+pub record Fenced (tenant : Locality → Bool) (s : Net) : Type 0 where
+  pub outside : (a l : Locality) → a .0 < s .addresses → tenant a ≡ false → tenant l ≡ true → grants s a l ≡ noRights
+  pub no-creation : (a : Locality) → tenant a ≡ true → creates s a ≡ false
   pub at-most-read :
-      (a l : ℕ) → tenant a ≡ true → l < s .addresses → tenant l ≡ false → AtMostRead (grants s a l)
+      (a l : Locality) → tenant a ≡ true → l .0 < s .addresses → tenant l ≡ false → AtMostRead (grants s a l)
 
 -- ---- the premises on the nets of the two images. "The tenant's addresses are any set of those below the image's count, the
 -- empty and the full one among them"; "equal address counts and code and, at addresses outside the tenant's, equal
 -- policies, tuples and starting processes"; and the fence "in each image"
-pub record Alike (tenant : ℕ → Bool) (s t : Net) : Type 0 where
-  pub below : (a : ℕ) → tenant a ≡ true → a < s .addresses
+pub record Alike (tenant : Locality → Bool) (s t : Net) : Type 0 where
+  pub below : (a : Locality) → tenant a ≡ true → a .0 < s .addresses
   pub addresses : s .addresses ≡ t .addresses
   pub code : SameCode s t
-  pub nodes : (a : ℕ) → a < s .addresses → tenant a ≡ false → SameNode (s .addresses) (nodeAt s a) (nodeAt t a)
+  pub nodes : (a : Locality) → a .0 < s .addresses → tenant a ≡ false → SameNode (s .addresses) (nodeAt s a) (nodeAt t a)
   pub fenced : Fenced tenant s
   pub fenced′ : Fenced tenant t
 
@@ -108,16 +108,16 @@ pub record Equal (x y : Node) : Type 0 where
 
 -- "the remaining answers are equal in order, as are the final count of addresses and, at each outside address, policy,
 -- tuples and processes with their variables"; "all others, opened ones too, are outside"
-pub record Agree (tenant : ℕ → Bool) (picks picks′ : List ℕ) (r r′ : Ran) : Type 0 where
+pub record Agree (tenant : Locality → Bool) (picks picks′ : List ℕ) (r r′ : Ran) : Type 0 where
   pub answers : remaining tenant picks (r .answers) ≡ remaining tenant picks′ (r′ .answers)
   pub count : r .net .addresses ≡ r′ .net .addresses
-  pub nodes : (a : ℕ) → tenant a ≡ false → Equal (nodeAt (r .net) a) (nodeAt (r′ .net) a)
+  pub nodes : (a : Locality) → tenant a ≡ false → Equal (nodeAt (r .net) a) (nodeAt (r′ .net) a)
 
 -- the rule: of every two runs, each of an accepted image (a refused one makes none) and a list of picks, "for every two
 -- lists of picks that agree once picks of tenant addresses are struck out"
 unfoldable pub TenantRule : Type 0
 TenantRule =
-    (tenant : ℕ → Bool) (image image′ picks picks′ : List ℕ) (r r′ : Ran)
+    (tenant : Locality → Bool) (image image′ picks picks′ : List ℕ) (r r′ : Ran)
     → runOf image picks ≡ ran r
     → runOf image′ picks′ ≡ ran r′
     → Alike tenant (openedOf image .net) (openedOf image′ .net)

@@ -1,4 +1,5 @@
 -- The types of the crates below that the definitions of this crate speak of.
+pub use Rattle.net.specs.declared.locality.Locality.{Locality}
 pub use Rattle.net.specs.declared.locality.Place.{Place}
 pub use Rattle.net.specs.declared.tuple.Tuple.{Tuple}
 pub use Rattle.net.specs.declared.policy.Rights.{Rights}
@@ -11,7 +12,7 @@ pub use Rattle.net.specs.declared.instruction.Instruction.{Instruction}
 pub use Rattle.net.specs.declared.network.Net.{Net}
 pub use Rattle.net.specs.declared.matching.Evaluated.{Evaluated}
 pub use Rattle.net.specs.declared.matching.Found.{Found}
-pub use Rattle.image.specs.declared.reader.Answer.{Answer as Reading}
+pub use Rattle.image.specs.declared.reader.Verdict.{Verdict}
 pub use Rattle.step.specs.declared.request.Request.{Request}
 pub use Rattle.step.specs.declared.answer.Answer.{Answer}
 pub use Rattle.step.specs.declared.answer.Picked.{Picked}

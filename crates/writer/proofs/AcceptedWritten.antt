@@ -1,6 +1,6 @@
 -- An image is accepted with a net exactly when the net is fresh and the image is what is written for it: the claims of
 -- `specs/WrittenClaims.antt`. Assumes nothing.
-use Prim.Native.Nat.{ℕ, _+_, _-_}
+use Prim.Native.Nat.{ℕ, _+_}
 use mathlib.Core.Path.{_≡_, refl, sym, ap, subst, _∙_}
 use mathlib.Core.Bool.{Bool, true, false}
 use mathlib.Core.List.{List}
@@ -8,13 +8,13 @@ use mathlib.Core.Logic.{_⊎_, inl, inr}
 use native.Mathlib.Omega.{arith}
 use lib.ListN.{length}
 use Rattle.net.specs.Choice.{choose, all}
-use Rattle.net.specs.Records.{emptyNet, nodeAt}
+use Rattle.net.specs.Records.{emptyNet, nodeAt, addressOf}
 use Rattle.net.specs.Soundness.{soundOf}
 use Rattle.writer.specs.Types.{Net}
-use Rattle.image.specs.BitReader.{Outcome, got, fault, Reader, done, andThen, require, numbered, _>>=_, _>>_}
+use Rattle.image.specs.BitReader.{Parsed, got, fault, Reader, pure, andThen, require, numbered, _>>=_, _>>_}
 use Rattle.writer.specs.Types.{Fault}
 use Rattle.image.specs.Image.{header, rows, allProcesses, allTuples, code, endsAt, ending, layout}
-use Rattle.writer.specs.Types.{Answer, Opened}
+use Rattle.writer.specs.Types.{Verdict, Opened}
 use Rattle.image.specs.Image.{admits, refused, accepted, judgedNet, openedOf}
 use Rattle.image.specs.ImageClaims.{AcceptedIsSound}
 use Rattle.writer.specs.ImageOf.{netBits, imageOf}
@@ -23,7 +23,7 @@ use Rattle.writer.specs.WrittenClaims.{Bytes, AcceptedIsWritten, Written
 use Rattle.net.proofs.Laws.{both-i, both-l, both-r, choose-true}
 use Rattle.image.proofs.AcceptedSound.{accepted-is-sound}
 use Rattle.image.proofs.Budget.{no-fault}
-use Rattle.writer.proofs.Stands.{Stands}
+use Rattle.writer.proofs.BitsAt.{BitsAt}
 use Rattle.writer.proofs.WrittenNet.{body}
 use Rattle.writer.proofs.WrittenWhole.{NetOk, reads-body}
 use Rattle.writer.proofs.WrittenBytes.{bytes-small, stands-bytes, bytes-stand, bytes-end}
@@ -36,12 +36,12 @@ module _ {A B C : Type 0} (m : Reader A) (f : A → Reader B) (g : B → Reader 
   unfolding _>>=_ andThen
   regroup e s p = go (m s p)
     where
-      go : (o : Outcome A) → andThen o s h ≡ andThen (andThen o s f) s g
+      go : (o : Parsed A) → andThen o s h ≡ andThen (andThen o s f) s g
       go (got a q) = e a s q
       go (fault n) = refl
 
 closing : Net → Reader Net
-closing s = ending >> done s
+closing s = ending >> pure s
 
 layout-is : (s : List ℕ) (p : ℕ) → layout s p ≡ (body >>= closing) s p
 unfolding layout body closing
@@ -52,27 +52,27 @@ layout-is =
 -- ---- what the layout gives
 record Laid (s : List ℕ) (net : Net) : Type 0 where
   net-ok : NetOk net
-  stands : Stands s 0 (netBits net)
+  stands : BitsAt s 0 (netBits net)
   ends : endsAt s (length (netBits net)) ≡ true
 
 closing-only : (s : List ℕ) (p : ℕ) (x net : Net) (q : ℕ) → closing x s p ≡ got net q → (endsAt s p ≡ true) × (x ≡ net)
-unfolding closing ending _>>_ _>>=_ require andThen done choose
+unfolding closing ending _>>_ _>>=_ require andThen pure choose
 closing-only s p x net q = go (endsAt s p)
   where
-    go : (b : Bool) → andThen (choose b (got tt p) (fault (numbered 29))) s (λ (u : Unit {0}). done x) ≡ got net q
+    go : (b : Bool) → andThen (choose b (got tt p) (fault (numbered 29))) s (λ (u : Unit {0}). pure x) ≡ got net q
         → (b ≡ true) × (x ≡ net)
     go true e = (refl, cc)
     go false e = no-fault e
 
 closing-back : (s : List ℕ) (p : ℕ) (net : Net) → endsAt s p ≡ true → closing net s p ≡ got net p
-unfolding closing ending _>>_ _>>=_ require andThen done
-closing-back s p net e = ap (λ o. andThen o s (λ (u : Unit {0}). done net)) (choose-true (endsAt s p) _ _ e)
+unfolding closing ending _>>_ _>>=_ require andThen pure
+closing-back s p net e = ap (λ o. andThen o s (λ (u : Unit {0}). pure net)) (choose-true (endsAt s p) _ _ e)
 
 layout-only : (s : List ℕ) (net : Net) (q : ℕ) → layout s 0 ≡ got net q → Laid s net
 unfolding _>>=_ andThen
 layout-only s net q e = go (body s 0) refl (sym (layout-is s 0) ∙ e)
   where
-    go : (o : Outcome Net) → body s 0 ≡ o → andThen o s closing ≡ got net q → Laid s net
+    go : (o : Parsed Net) → body s 0 ≡ o → andThen o s closing ≡ got net q → Laid s net
     go (fault n) d f = no-fault f
     go (got x p) d f =
         let w = reads-body .only s 0 x p (omega arith) d in
@@ -93,14 +93,14 @@ layout-back s net l =
 refused-not : {C : Type 0} (f : Fault) (net : Net) → refused f ≡ accepted net → C
 unfolding refused accepted
 refused-not f net e =
-    let d : Answer.Refused f ≡ Answer.Accepted = ap (λ (r : Opened). r .answer) e in
+    let d : Verdict.Refused f ≡ Verdict.Accepted = ap (λ (r : Opened). r .answer) e in
     let z : _≡_ {A = ℕ} 0 1 = cc d in absurd (omega arith)
 
 same-net : (x net : Net) → accepted x ≡ accepted net → x ≡ net
 unfolding accepted
 same-net x net e = ap (λ (r : Opened). r .net) e
 
-judged-only : (s : List ℕ) (net : Net) (o : Outcome Net) → layout s 0 ≡ o → judgedNet o ≡ accepted net
+judged-only : (s : List ℕ) (net : Net) (o : Parsed Net) → layout s 0 ≡ o → judgedNet o ≡ accepted net
     → Laid s net × (admits net ≡ true)
 unfolding judgedNet choose
 judged-only s net (fault f) d e = refused-not f net e
@@ -112,7 +112,7 @@ judged-only s net (got x q) d e = go (admits x) refl e
     go false a f = refused-not _ net f
 
 -- the net that is opened, whether accepted or not
-judged-ok : (s : List ℕ) (o : Outcome Net) → layout s 0 ≡ o → NetOk (judgedNet o .net) ⊎ (emptyNet ≡ judgedNet o .net)
+judged-ok : (s : List ℕ) (o : Parsed Net) → layout s 0 ≡ o → NetOk (judgedNet o .net) ⊎ (emptyNet ≡ judgedNet o .net)
 unfolding judgedNet choose accepted refused
 judged-ok s (fault f) d = inr refl
 judged-ok s (got x q) d = go (admits x)
@@ -136,7 +136,7 @@ unfolding freshOf
 fresh-only net h =
     let g = both-r (netFits net) _ h in
     let i = both-r (soundOf net) _ g in
-    (fresh-ok net (both-l _ _ h) (both-l _ _ g) (both-l _ _ i), both-r (all 16 (λ a. nodeStarts (nodeAt net a))) _ i)
+    (fresh-ok net (both-l _ _ h) (both-l _ _ g) (both-l _ _ i), both-r (all 16 (λ a. nodeStarts (nodeAt net (addressOf a)))) _ i)
 
 only : (s : List ℕ) (net : Net) → Bytes s → openedOf s ≡ accepted net → (freshOf net ≡ true) × (s ≡ imageOf net)
 unfolding openedOf imageOf accepted AcceptedIsSound

@@ -6,7 +6,7 @@ use native.Mathlib.Omega.{arith}
 use lib.Dec.{eqb, leb}
 use borrow.Author.Tests.{eqb-true, leb-true}
 use Rattle.net.specs.Choice.{choose, both, all}
-use Rattle.net.specs.Records.{processAt, tupleAt, nodeAt, instructionAt}
+use Rattle.net.specs.Records.{processAt, tupleAt, nodeAt, instructionAt, addressOf, placeOf}
 use Rattle.net.specs.Soundness.{inRange, tupleSound, isZeroTuple, tuplesSound, rowSound, processSound, nodeSound, isZeroNode}
 use Rattle.net.specs.Soundness.{isZeroRow, isFree, templateSound, noTemplate, actionSound, templateFor}
 use Rattle.net.specs.Soundness.{instructionSound, isStop, isZeroInstruction, nodesSound, codeSound, soundOf}
@@ -94,17 +94,17 @@ counts-of s h =
     record {
       addresses-few = range-high 1 n 16 (both-l _ _ counts);
       length-few = range-high 1 k 512 (both-r (inRange 1 n 16) _ counts);
-      nodes-few = λ a l. either _ _ _ _ (all-e 16 _ (both-l (nodesSound s) _ records) a l) (sound-node n k _) (zero-node _);
+      nodes-few = λ a l. either _ _ _ _ (all-e 16 _ (both-l (nodesSound s) _ records) (a .0) l) (sound-node n k _) (zero-node _);
       code-few = λ p l.
-          either _ _ _ _ (all-e 512 _ (both-r (nodesSound s) _ records) p l) (sound-instruction n k _) (zero-instruction _);
+          either _ _ _ _ (all-e 512 _ (both-r (nodesSound s) _ records) (p .0) l) (sound-instruction n k _) (zero-instruction _);
     }
 
 -- ---- as the code uses them
-pub few-node : (s : Net) (a n : ℕ) → Counts s → a < n → n ≤ 16 → NodeCounts (nodeAt s a)
-few-node s a n h l g = h .nodes-few a (omega arith)
+pub few-node : (s : Net) (a n : ℕ) → Counts s → a < n → n ≤ 16 → NodeCounts (nodeAt s (addressOf a))
+few-node s a n h l g = h .nodes-few (addressOf a) (omega arith)
 
-pub few-code : (s : Net) (p n : ℕ) → Counts s → p < n → n ≤ 512 → instructionAt (s .code) p .count ≤ 4
-few-code s p n h l g = h .code-few p (omega arith)
+pub few-code : (s : Net) (p n : ℕ) → Counts s → p < n → n ≤ 512 → instructionAt (s .code) (placeOf p) .count ≤ 4
+few-code s p n h l g = h .code-few (placeOf p) (omega arith)
 
 pub few-fields : (x : Node) (i n : ℕ) → NodeCounts x → i < n → n ≤ 16 → tupleAt x i .count ≤ 4
 few-fields x i n h l g = h .fields-few i (omega arith)

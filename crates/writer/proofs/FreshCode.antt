@@ -1,6 +1,6 @@
 -- An instruction that passes the tests of `specs/Fresh.antt` is one that an image can write (`WrittenCode.antt`).
 -- Assumes nothing.
-use Prim.Native.Nat.{ℕ, _-_, _<_}
+use Prim.Native.Nat.{ℕ, _<_}
 use mathlib.Core.Path.{_≡_, refl, sym, ap, _∙_}
 use mathlib.Core.Bool.{Bool, true, false, not}
 use native.Mathlib.Omega.{arith}
@@ -18,7 +18,7 @@ use Rattle.writer.specs.Fresh.{instructionFits}
 use Rattle.net.proofs.Laws.{both-l, both-r, implies-e, all-e}
 use Rattle.writer.proofs.ReadsCells.{zeros-are}
 use Rattle.writer.proofs.WrittenTemplate.{TemplateOk, anew-as}
-use Rattle.writer.proofs.WrittenCode.{Spoken, Evaluated, Created, Forked, Acting, InstructionOk}
+use Rattle.writer.proofs.WrittenCode.{Communicated, Evaluated, Created, Forked, Acting, InstructionOk}
 use Rattle.writer.proofs.FreshZero.{never, filled-tests, zero-reading}
 use Rattle.writer.proofs.FreshNode.{range-low, range-high}
 use Rattle.image.proofs.PastRecords.{pastTemplate}
@@ -131,7 +131,7 @@ remade c a e = ap (λ (x : Action). record { action = x; count = c .count; templ
 -- ---- an instruction, by its action
 module _ (n k : ℕ) (c : Instruction) (f : instructionFits c ≡ true) where
   acting : (a : Action) → c .action ≡ a → actionSound n k a ≡ true → templateFor n a c ≡ true → InstructionOk n k c
-  unfolding actionSound templateFor InstructionOk Acting Spoken Evaluated Created Forked
+  unfolding actionSound templateFor InstructionOk Acting Communicated Evaluated Created Forked
   acting Action.Stop e h t = (0, omega arith, stopped c f e t)
   acting (Action.Out to p) e h t = (
     1,

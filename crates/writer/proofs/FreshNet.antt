@@ -1,6 +1,6 @@
 -- The nets that the layout of an image gives (`WrittenWhole.antt`) pass the tests of `specs/Fresh.antt` on arrays, readings
 -- and starting processes; and a net that passes these and is sound is one of them. Assumes nothing.
-use Prim.Native.Nat.{ℕ, zero, suc, _-_, _<_, _≤_}
+use Prim.Native.Nat.{ℕ, zero, suc, _<_, _≤_}
 use mathlib.Core.Path.{_≡_, refl, sym, ap, subst, _∙_}
 use mathlib.Core.Bool.{Bool, true, false, not}
 use mathlib.Core.List.{List}
@@ -10,7 +10,7 @@ use lib.ListN.{length, getD}
 use lib.Dec.{eqb, ltb}
 use borrow.Author.Tests.{eqb-true, eq-eqb, lt-ltb, le-ltb}
 use Rattle.net.specs.Choice.{choose, both, all, fold}
-use Rattle.net.specs.Records.{startingAt, zeroField, zeroTuple, unsetVariable, freeProcess, zeroRow, zeroNode}
+use Rattle.net.specs.Records.{startingAt, zeroField, zeroTuple, unsetVariable, freeProcess, zeroRow, zeroNode, addressOf}
 use Rattle.net.specs.Records.{zeroTemplateField, zeroInstruction, fieldAt, variableAt, processAt, tupleAt, patternAt, nodeAt}
 use Rattle.net.specs.Records.{instructionAt, withAction}
 use Rattle.writer.specs.Types.{Place, Tuple, Process, Node, Target, Action, Instruction, Net}
@@ -23,8 +23,8 @@ use Rattle.net.proofs.Laws.{both-i, both-l, both-r, choose-true, choose-false, 
 use Rattle.net.proofs.Every.{Every, Filled}
 use Rattle.writer.proofs.WrittenTuples.{TupleOk}
 use Rattle.writer.proofs.WrittenTemplate.{TemplateOk}
-use Rattle.writer.proofs.WrittenCode.{Spoken, Evaluated, Created, Forked, Acting, InstructionOk}
-use Rattle.writer.proofs.WrittenStages.{NodeOk}
+use Rattle.writer.proofs.WrittenCode.{Communicated, Evaluated, Created, Forked, Acting, InstructionOk}
+use Rattle.writer.proofs.WrittenStages.{WithTuples}
 use Rattle.writer.proofs.WrittenWhole.{NetOk}
 use Rattle.writer.proofs.FreshZero.{filled-tests, zero-node}
 use Rattle.writer.proofs.FreshNode.{range-low, range-high, node-ok}
@@ -55,7 +55,7 @@ pub zero-node-fits : nodeFits zeroNode ≡ true
 unfolding nodeFits zeroNode zeroRow processAt tupleAt freeProcess zeroTuple processFits tupleFits fieldAt zeroField itemFits readingFits all both
 zero-node-fits = refl
 
-node-fits : (n k : ℕ) (x : Node) → NodeOk n k x → nodeFits x ≡ true
+node-fits : (n k : ℕ) (x : Node) → WithTuples n k x → nodeFits x ≡ true
 unfolding nodeFits processAt tupleAt processFits freeProcess tupleFits zeroTuple fieldAt zeroField itemFits readingFits all both
 node-fits n k x ok =
     both-i _ _ (eq-eqb _ _ (ok .row-ok .rights-ok .size-is))
@@ -81,8 +81,8 @@ unfolding instructionFits patternAt withAction
 fits-with c b a e h = ap instructionFits (sym e) ∙ h
 
 module _ (n k : ℕ) (c : Instruction) where
-  spoken-fits : (make : Target → Place → Action) (formals : Bool) → Spoken make formals n k c → instructionFits c ≡ true
-  unfolding Spoken
+  spoken-fits : (make : Target → Place → Action) (formals : Bool) → Communicated make formals n k c → instructionFits c ≡ true
+  unfolding Communicated
   spoken-fits make formals (t, _, (b, ok, (p, _, e))) = fits-with b c (make t p) e (template-fits formals n b ok)
 
   acting-fits : (v : ℕ) → Acting n k v c → instructionFits c ≡ true
@@ -137,22 +137,22 @@ zero-node-starts : nodeStarts zeroNode ≡ true
 unfolding nodeStarts slotStarts zeroNode processAt processCount variableAt freeProcess unsetVariable isUnset fold choose all both
 zero-node-starts = refl
 
-pub net-starts : (s : Net) → NetOk s → all 16 (λ a. nodeStarts (nodeAt s a)) ≡ true
+pub net-starts : (s : Net) → NetOk s → all 16 (λ a. nodeStarts (nodeAt s (addressOf a))) ≡ true
 unfolding nodeAt
 net-starts s ok =
     passes nodeStarts (ok .nodes-ok)
     (λ x g. node-starts (s .length) (g .slots-ok .count) x (g .slots-ok .slots)) zero-node-starts
 
 -- ---- and back
-pub fresh-ok : (s : Net) → netFits s ≡ true → soundOf s ≡ true → all 16 (λ a. nodeStarts (nodeAt s a)) ≡ true → NetOk s
+pub fresh-ok : (s : Net) → netFits s ≡ true → soundOf s ≡ true → all 16 (λ a. nodeStarts (nodeAt s (addressOf a))) ≡ true → NetOk s
 unfolding netFits soundOf nodesSound codeSound nodeAt instructionAt
 fresh-ok s f h g =
     let n : ℕ = s .addresses in
     let k : ℕ = s .length in
     let counts = both-l (both (inRange 1 n 16) (inRange 1 k 512)) _ h in
     let sound = both-r (both (inRange 1 n 16) (inRange 1 k 512)) _ h in
-    let nodes = both-l (both (eqb (length (s .nodes)) 16) (all 16 (λ a. nodeFits (nodeAt s a)))) _ f in
-    let code = both-r (both (eqb (length (s .nodes)) 16) (all 16 (λ a. nodeFits (nodeAt s a)))) _ f in
+    let nodes = both-l (both (eqb (length (s .nodes)) 16) (all 16 (λ a. nodeFits (nodeAt s (addressOf a))))) _ f in
+    let code = both-r (both (eqb (length (s .nodes)) 16) (all 16 (λ a. nodeFits (nodeAt s (addressOf a))))) _ f in
     let n₁ = range-low 1 n 16 (both-l _ _ counts) in
     let n₂ = range-high 1 n 16 (both-l _ _ counts) in
     let k₁ = range-low 1 k 512 (both-r (inRange 1 n 16) _ counts) in

@@ -1,6 +1,6 @@
 -- A node that passes the tests of `specs/Fresh.antt` is one that an image can write (`WrittenStages.antt`).
 -- Assumes nothing.
-use Prim.Native.Nat.{ℕ, zero, suc, _+_, _-_, _<_, _≤_}
+use Prim.Native.Nat.{ℕ, zero, suc, _+_, _<_, _≤_}
 use mathlib.Core.Path.{_≡_, sym, ap, _∙_}
 use mathlib.Core.Bool.{Bool, true, false, not}
 use native.Mathlib.Omega.{arith}
@@ -20,7 +20,7 @@ use Rattle.net.proofs.Every.{chosen}
 use Rattle.net.proofs.Past.{pastTuple}
 use Rattle.writer.proofs.WrittenTuples.{TupleOk}
 use Rattle.writer.proofs.WrittenPasses.{Slots}
-use Rattle.writer.proofs.WrittenStages.{NodeOk}
+use Rattle.writer.proofs.WrittenStages.{WithTuples}
 use Rattle.writer.proofs.FreshZero.{not-true, filled-tests, zero-field, zero-tuple, zero-rights, unset-are}
 use Rattle.writer.proofs.FreshZero.{zero-process, NodeFit, node-fit}
 use Rattle.image.proofs.PastRecords.{pastField}
@@ -133,7 +133,7 @@ module _ (n k : ℕ) (x : Node) (f : NodeFit x) (h : all 4 (λ i. processSound n
     };
   }
 
-pub node-ok : (n k : ℕ) (x : Node) → nodeFits x ≡ true → nodeSound n k x ≡ true → nodeStarts x ≡ true → NodeOk n k x
+pub node-ok : (n k : ℕ) (x : Node) → nodeFits x ≡ true → nodeSound n k x ≡ true → nodeStarts x ≡ true → WithTuples n k x
 unfolding nodeSound
 node-ok n k x f h s =
     let fit = node-fit x f in

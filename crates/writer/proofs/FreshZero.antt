@@ -1,7 +1,7 @@
 -- The tests of soundness and of fit (`specs/Soundness.antt` of `net`, `specs/Fresh.antt`) taken apart: a record that passes
 -- the test for zero is the zero record, and an array filled up to a count holds good records and zero records.
 -- Assumes nothing.
-use Prim.Native.Nat.{ℕ, _-_, _<_}
+use Prim.Native.Nat.{ℕ, _<_}
 use mathlib.Core.Path.{_≡_, refl, sym, ap, _∙_}
 use mathlib.Core.Bool.{Bool, true, false, not}
 use mathlib.Core.List.{List}
@@ -13,7 +13,7 @@ use borrow.Author.Tests.{eqb-true, lt-ltb, le-ltb}
 use Rattle.net.specs.Choice.{choose, both, all}
 use Rattle.net.specs.declared.tuple.Value.{Value}
 use Rattle.net.specs.Records.{zeroField, zeroTuple, unsetVariable, freeProcess, noRights, zeroRow, zeroNode}
-use Rattle.net.specs.Records.{fieldAt, variableAt, rightsAt, processAt, tupleAt}
+use Rattle.net.specs.Records.{placeOf, fieldAt, variableAt, rightsAt, processAt, tupleAt}
 use Rattle.writer.specs.Types.{Item, Field, Tuple, Rights, Row, Process, Node}
 use Rattle.net.specs.Matching.{sameReading}
 use Rattle.net.specs.Soundness.{isZeroItem, isZeroTuple, isNone, isZeroRow, isUnset, isFree, isZeroNode}
@@ -108,9 +108,9 @@ pub zero-process : (p : Process) → processFits p ≡ true → isFree p ≡ tru
 unfolding isFree freeProcess
 zero-process p f h =
     let g = both-r (not (p .busy)) _ h in
-    ap (λ (b : Bool). record { busy = b; at = record { 0 = 0 }; variables = replicate 8 unsetVariable })
+    ap (λ (b : Bool). record { busy = b; at = placeOf 0; variables = replicate 8 unsetVariable })
     (not-true (p .busy) (both-l _ _ h))
-    ∙ ap (λ (a : ℕ). record { busy = p .busy; at = record { 0 = a }; variables = replicate 8 unsetVariable })
+    ∙ ap (λ (a : ℕ). record { busy = p .busy; at = placeOf a; variables = replicate 8 unsetVariable })
     (sym (eqb-true (p .at .0) 0 (both-l _ _ g)))
     ∙ ap (λ y. record { busy = p .busy; at = p .at; variables = y }) (unset-are p f (both-r (eqb (p .at .0) 0) _ g))
 

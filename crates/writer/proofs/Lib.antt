@@ -1,4 +1,5 @@
 pub mod AcceptedWritten
+pub mod BitsAt
 pub mod ByteLaws
 pub mod CountLaws
 pub mod FreshCode
@@ -13,7 +14,6 @@ pub mod ReadsCells
 pub mod ReadsParts
 pub mod ReadsWrites
 pub mod SignedLaws
-pub mod Stands
 pub mod WritingLaws
 pub mod WrittenBytes
 pub mod WrittenCode

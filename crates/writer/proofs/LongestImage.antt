@@ -8,15 +8,15 @@ use native.Mathlib.Omega.{arith}
 use lib.ListN.{length, replicate, length-append, length-replicate, getD-replicate}
 use borrow.Author.Tests.{eq-eqb, lt-ltb}
 use Rattle.net.specs.Choice.{choose, both, implies, all, fold}
-use Rattle.net.specs.Records.{startingAt, zeroField, unsetVariable, allRights, zeroTemplateField}
+use Rattle.net.specs.Records.{startingAt, zeroField, unsetVariable, allRights, zeroTemplateField, addressOf, placeOf}
 use Rattle.net.specs.Records.{fieldAt, variableAt, rightsAt, processAt, tupleAt, patternAt, nodeAt, instructionAt}
 use Rattle.writer.specs.Types.{Locality, Place, Tuple, Node, Target, Action, Instruction, Net}
 use Rattle.net.specs.Soundness.{inRange, itemSound, tupleSound, tuplesSound, rowSound, isUnset, valueSound, processSound}
 use Rattle.net.specs.Soundness.{nodeSound, targetSound, patternSound, templateSound, isActual, actualsOnly, actionSound}
 use Rattle.net.specs.Soundness.{templateFor, instructionSound, nodesSound, codeSound, soundOf}
 use Rattle.net.specs.Keeping.{mayPut, atTarget, permits, permitsMarked, keepsOf}
-use Rattle.image.specs.Image.{admitsProcess, admitsNode, admits, accepted, openedOf}
-use Rattle.writer.specs.Types.{Answer, Opened}
+use Rattle.image.specs.Image.{admitsProcess, admitsNode, admitsAt, admits, accepted, openedOf}
+use Rattle.writer.specs.Types.{Verdict, Opened}
 use Rattle.writer.specs.ImageOf.{bitsOf, joined, addressBits, placeBits, readingBits, headerBits, rightsBits, rowBits}
 use Rattle.writer.specs.ImageOf.{processCount, processesBits, itemBits, tupleBits, tuplesBits, targetBits, patternBits}
 use Rattle.writer.specs.ImageOf.{templateBits, actionBits, instructionBits, rowsBits, allProcessesBits, allTuplesBits}
@@ -36,14 +36,14 @@ fullTuple = record { count = 4; fields = replicate 4 zeroField }
 fullNode : Node
 fullNode = record {
   row = record { create = false; rights = replicate 16 allRights };
-  processes = replicate 4 (startingAt (record { 0 = 0 }));
+  processes = replicate 4 (startingAt (placeOf 0));
   stored = 16;
   tuples = replicate 16 fullTuple;
 }
 
 fullInstruction : Instruction
 fullInstruction = record {
-  action = Action.Out (Target.Written (record { 0 = 0 })) (record { 0 = 0 });
+  action = Action.Out (Target.Written (addressOf 0)) (placeOf 0);
   count = 4;
   template = replicate 4 zeroTemplateField;
 }
@@ -51,13 +51,13 @@ fullInstruction = record {
 fullNet : Net
 fullNet = record { addresses = 16; length = 512; nodes = replicate 16 fullNode; code = replicate 512 fullInstruction }
 
-node-is-full : (a : ℕ) → a < 16 → nodeAt fullNet a ≡ fullNode
+node-is-full : (a : Locality) → a .0 < 16 → nodeAt fullNet a ≡ fullNode
 unfolding nodeAt fullNet
-node-is-full a h = getD-replicate 16 a fullNode pastNode h
+node-is-full a h = getD-replicate 16 (a .0) fullNode pastNode h
 
-code-is-full : (p : ℕ) → p < 512 → instructionAt (fullNet .code) p ≡ fullInstruction
+code-is-full : (p : Place) → p .0 < 512 → instructionAt (fullNet .code) p ≡ fullInstruction
 unfolding instructionAt fullNet
-code-is-full p h = getD-replicate 512 p fullInstruction pastInstruction h
+code-is-full p h = getD-replicate 512 (p .0) fullInstruction pastInstruction h
 
 -- ---- it is fresh
 node-fits : nodeFits fullNode ≡ true
@@ -92,9 +92,9 @@ net-fits : netFits fullNet ≡ true
 unfolding netFits
 net-fits =
     both-i _ _
-    (both-i _ _ (eq-eqb _ _ nodes-length) (all-i 16 _ (λ a h. ap nodeFits (node-is-full a h) ∙ node-fits)))
+    (both-i _ _ (eq-eqb _ _ nodes-length) (all-i 16 _ (λ a h. ap nodeFits (node-is-full (addressOf a) h) ∙ node-fits)))
     (both-i _ _ (eq-eqb _ _ code-length)
-    (all-i 512 _ (λ p h. ap instructionFits (code-is-full p h) ∙ instruction-fits)))
+    (all-i 512 _ (λ p h. ap instructionFits (code-is-full (placeOf p) h) ∙ instruction-fits)))
 
 abbrev n : ℕ
 n = fullNet .addresses
@@ -119,12 +119,12 @@ net-sound =
     (both-i _ _
     (all-i 16 _ (λ a h.
     choose-true _ _ _ (lt-ltb a n (omega (arith, addresses-are)))
-    ∙ ap (nodeSound n k) (node-is-full a h)
+    ∙ ap (nodeSound n k) (node-is-full (addressOf a) h)
     ∙ ap (λ (i : ℕ). nodeSound i k fullNode) addresses-are ∙ ap (λ (i : ℕ). nodeSound 16 i fullNode) length-is
     ∙ node-sound))
     (all-i 512 _ (λ p h.
     choose-true _ _ _ (lt-ltb p k (omega (arith, length-is)))
-    ∙ ap (instructionSound n k) (code-is-full p h)
+    ∙ ap (instructionSound n k) (code-is-full (placeOf p) h)
     ∙ ap (λ (i : ℕ). instructionSound i k fullInstruction) addresses-are
     ∙ ap (λ (i : ℕ). instructionSound 16 i fullInstruction) length-is
     ∙ instruction-sound)))
@@ -137,13 +137,13 @@ kept : (p : Place) (a : Locality) → keepsOf (fullNet .code) p a (fullNode .row
 unfolding keepsOf permitsMarked
 kept p a =
     all-i 512 _ (λ q h. implies-i _ _ (λ _.
-    ap (λ (c : Instruction). permits (fullNode .row) a (c .action)) (code-is-full q h) ∙ permitted a))
+    ap (λ (c : Instruction). permits (fullNode .row) a (c .action)) (code-is-full (placeOf q) h) ∙ permitted a))
 
 net-admitted : admits fullNet ≡ true
-unfolding admits admitsNode admitsProcess
+unfolding admits admitsAt admitsNode admitsProcess
 net-admitted =
     all-i 16 _ (λ a h. implies-i _ _ (λ _.
-    ap (admitsNode (fullNet .code) a) (node-is-full a h)
+    ap (admitsNode (fullNet .code) (addressOf a)) (node-is-full (addressOf a) h)
     ∙ all-i 4 _ (λ i l. implies-i _ _ (λ _. kept _ _))))
 
 net-fresh : freshOf fullNet ≡ true
@@ -151,7 +151,7 @@ unfolding freshOf
 net-fresh =
     both-i _ _ net-fits
     (both-i _ _ net-sound
-    (both-i _ _ (all-i 16 _ (λ a h. ap nodeStarts (node-is-full a h) ∙ node-starts)) net-admitted))
+    (both-i _ _ (all-i 16 _ (λ a h. ap nodeStarts (node-is-full (addressOf a) h) ∙ node-starts)) net-admitted))
 
 -- ---- its bits
 joined-length : (m w : ℕ) (f : ℕ → List Bool) → ((i : ℕ) → i < m → length (f i) ≡ w) → length (joined m f) ≡ m * w
@@ -187,27 +187,27 @@ header-length = refl
 rows-length : length (rowsBits fullNet) ≡ 1040
 unfolding rowsBits
 rows-length =
-    ap (λ (i : ℕ). length (joined i (λ a. rowBits i (nodeAt fullNet a .row)))) addresses-are
-    ∙ joined-length 16 65 _ (λ a h. ap (λ (x : Node). length (rowBits 16 (x .row))) (node-is-full a h) ∙ row-length)
+    ap (λ (i : ℕ). length (joined i (λ a. rowBits i (nodeAt fullNet (addressOf a) .row)))) addresses-are
+    ∙ joined-length 16 65 _ (λ a h. ap (λ (x : Node). length (rowBits 16 (x .row))) (node-is-full (addressOf a) h) ∙ row-length)
 
 all-processes-length : length (allProcessesBits fullNet) ≡ 624
 unfolding allProcessesBits
 all-processes-length =
-    ap (λ (i : ℕ). length (joined i (λ a. processesBits (nodeAt fullNet a)))) addresses-are
-    ∙ joined-length 16 39 _ (λ a h. ap (λ (x : Node). length (processesBits x)) (node-is-full a h) ∙ processes-length)
+    ap (λ (i : ℕ). length (joined i (λ a. processesBits (nodeAt fullNet (addressOf a))))) addresses-are
+    ∙ joined-length 16 39 _ (λ a h. ap (λ (x : Node). length (processesBits x)) (node-is-full (addressOf a) h) ∙ processes-length)
 
 all-tuples-length : length (allTuplesBits fullNet) ≡ 34384
 unfolding allTuplesBits
 all-tuples-length =
-    ap (λ (i : ℕ). length (joined i (λ a. tuplesBits (nodeAt fullNet a)))) addresses-are
-    ∙ joined-length 16 2149 _ (λ a h. ap (λ (x : Node). length (tuplesBits x)) (node-is-full a h) ∙ tuples-length)
+    ap (λ (i : ℕ). length (joined i (λ a. tuplesBits (nodeAt fullNet (addressOf a))))) addresses-are
+    ∙ joined-length 16 2149 _ (λ a h. ap (λ (x : Node). length (tuplesBits x)) (node-is-full (addressOf a) h) ∙ tuples-length)
 
 code-bits-length : length (codeBits fullNet) ≡ 81920
 unfolding codeBits
 code-bits-length =
-    ap (λ (i : ℕ). length (joined i (λ p. instructionBits (instructionAt (fullNet .code) p)))) length-is
+    ap (λ (i : ℕ). length (joined i (λ p. instructionBits (instructionAt (fullNet .code) (placeOf p))))) length-is
     ∙ joined-length 512 160 _
-    (λ p h. ap (λ (c : Instruction). length (instructionBits c)) (code-is-full p h) ∙ instruction-length)
+    (λ p h. ap (λ (c : Instruction). length (instructionBits c)) (code-is-full (placeOf p) h) ∙ instruction-length)
 
 net-length : length (netBits fullNet) ≡ 117987
 unfolding netBits
@@ -219,7 +219,7 @@ net-length =
     (rowsBits fullNet ++ (allProcessesBits fullNet ++ (allTuplesBits fullNet ++ codeBits fullNet)))
     ∙ omega (arith, header-length, rows-length, all-processes-length, all-tuples-length, code-bits-length)
 
-full-accepted : openedOf (imageOf fullNet) .answer ≡ Answer.Accepted
+full-accepted : openedOf (imageOf fullNet) .answer ≡ Verdict.Accepted
 unfolding accepted
 full-accepted = ap (λ (r : Opened). r .answer) (fresh-accepted fullNet net-fresh)
 

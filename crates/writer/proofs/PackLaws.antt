@@ -9,7 +9,7 @@ use lib.Dec.{ltb}
 use lib.ListN.{length, getD, replicate, length-replicate, getD-replicate, List·getD-append, List·getD-eq-default, drop}
 use lib.Seq.{sets-eq, getD-append-add, getD-drop}
 use Rattle.net.specs.Choice.{choose, both, all}
-use Rattle.net.specs.Records.{variableAt, processAt, nodeAt}
+use Rattle.net.specs.Records.{variableAt, processAt, nodeAt, addressOf}
 use Rattle.net.specs.Soundness.{isUnset, soundOf}
 use Rattle.net.proofs.Laws.{both-l, both-r, choose-true, choose-false}
 use Rattle.image.specs.Image.{accepted, admits}
@@ -162,6 +162,6 @@ module _ (net : Net) (answer : Bool) (e : answer ≡ freshOf net) where
 -- the test leaves away what holds of every net of a running program
 pub fresh-tested :
     (net : Net) (r : Bool) → netFits net ≡ true
-    → r ≡ both (soundOf net) (both (all 16 (λ a. nodeStarts (nodeAt net a))) (admits net)) → r ≡ freshOf net
+    → r ≡ both (soundOf net) (both (all 16 (λ a. nodeStarts (nodeAt net (addressOf a)))) (admits net)) → r ≡ freshOf net
 unfolding freshOf
 fresh-tested net r f e = e ∙ sym (both-true (netFits net) _ f)

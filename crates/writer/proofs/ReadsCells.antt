@@ -1,21 +1,21 @@
 -- Loops that read the records of an array, one a turn (`each` of `specs/BitReader.antt`): what such a loop gives is what
 -- writes down the records, one after another. One law over the array, the record and what else the value holds.
 -- Assumes nothing.
-use Prim.Native.Nat.{ℕ, suc, _-_, _<_, _≤_}
+use Prim.Native.Nat.{ℕ, suc, _<_, _≤_}
 use mathlib.Core.Path.{_≡_, refl, sym, ap, subst, _∙_}
 use mathlib.Core.Bool.{Bool}
 use mathlib.Core.List.{List}
 use native.Mathlib.Omega.{arith}
 use lib.ListN.{length, getD, set, replicate, length-replicate, getD-replicate}
 use lib.Seq.{getD-set-same, getD-set-other, ext-getD}
-use Rattle.image.specs.BitReader.{Reader, done, _>>=_, each}
+use Rattle.image.specs.BitReader.{Reader, pure, _>>=_, each}
 use Rattle.writer.specs.ImageOf.{joined}
 use Rattle.net.proofs.Every.{Every, every-set, Filled}
 use Rattle.writer.proofs.ReadsWrites.{Reads, reads-map, reads-each}
 
 -- place j of an array once i turns are done: below i a good record, which undone gives what stood there before; from i
 -- on what stood there before
-pub record Changed {R : Type 0} (U : R → Type 0) (undo : R → R) (d : R) (before : List R) (i j : ℕ) (x : R) : Type 0 where
+pub record Rewritten {R : Type 0} (U : R → Type 0) (undo : R → R) (d : R) (before : List R) (i j : ℕ) (x : R) : Type 0 where
   pub good : j < i → U x
   pub undone : j < i → undo x ≡ getD before j d
   pub kept : i ≤ j → getD before j d ≡ x
@@ -40,7 +40,7 @@ module _ {A R : Type 0} (v : Arrayed A R) (a₀ : A) where
 
   -- the array once i turns are done
   abbrev Cells : ℕ → List R → Type 0
-  Cells i = Every (Changed (v .Good) (v .undo) (v .past) (v .cells a₀) i) (v .past) (v .size)
+  Cells i = Every (Rewritten (v .Good) (v .undo) (v .past) (v .cells a₀) i) (v .past) (v .size)
 
   -- a value once i turns are done
   pub record Through (i : ℕ) (b : A) : Type 0 where
@@ -64,7 +64,7 @@ module _ {A R : Type 0} (v : Arrayed A R) (a₀ : A) where
         → ((x : C) → P x → v .Good (cell x) × (v .undo (cell x) ≡ at a₀ i) × v .Extra i a (cell x))
         → ((x : C) → P x → w (cell x) ≡ u x)
         → ((r : R) → v .Good r → v .undo r ≡ at a₀ i → v .Extra i a r → (x : C) × P x × (cell x ≡ r))
-        → Reads (m >>= (λ x. done (v .put i a (cell x)))) (λ b. w (at b i)) (Turned i a)
+        → Reads (m >>= (λ x. pure (v .put i a (cell x)))) (λ b. w (at b i)) (Turned i a)
     reads-turn w cell l e r keeps writes parts =
         reads-map (λ x. v .put i a (cell x)) r
         (λ x h.
@@ -167,10 +167,10 @@ module _ {A R : Type 0} (v : Arrayed A R) (a₀ : A) where
 
 -- ---- an array that held zero records: filled up to i
 module _ {R : Type 0} {U : R → Type 0} {z d : R} {size i : ℕ} {xs : List R} where
-  pub changed-filled :
-      {c : ℕ} → c ≡ i → Every (Changed U (λ _. z) d (replicate size z) i) d size xs
+  pub rewritten-filled :
+      {c : ℕ} → c ≡ i → Every (Rewritten U (λ _. z) d (replicate size z) i) d size xs
       → Every (Filled U (λ x. z ≡ x) c) d size xs
-  changed-filled q e = record {
+  rewritten-filled q e = record {
     size-is = e .size-is;
     holds = λ j h. record {
       used = λ l. e .holds j h .good (omega arith);
@@ -178,10 +178,10 @@ module _ {R : Type 0} {U : R → Type 0} {z d : R} {size i : ℕ} {xs : List R} 
     };
   }
 
-  pub filled-changed :
+  pub filled-rewritten :
       {c : ℕ} → i ≡ c → Every (Filled U (λ x. z ≡ x) i) d size xs
-      → Every (Changed U (λ _. z) d (replicate size z) c) d size xs
-  filled-changed q e = record {
+      → Every (Rewritten U (λ _. z) d (replicate size z) c) d size xs
+  filled-rewritten q e = record {
     size-is = e .size-is;
     holds = λ j h. record {
       good = λ l. e .holds j h .used (omega arith);

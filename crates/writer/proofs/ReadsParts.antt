@@ -4,7 +4,7 @@ use Prim.Native.Nat.{ℕ, _+_}
 use mathlib.Core.Path.{_≡_, refl, sym, ap, subst, _∙_}
 use mathlib.Core.Bool.{Bool, true}
 use mathlib.Core.List.{List, _++_, append-nil}
-use Rattle.image.specs.BitReader.{Reader, done, require, _>>=_, _>>_}
+use Rattle.image.specs.BitReader.{Reader, pure, require, _>>=_, _>>_}
 use Rattle.writer.proofs.ReadsWrites.{Reads, reads-then, reads-require}
 
 -- a good value of that kind
@@ -40,7 +40,7 @@ module _ {A B : Type 0} {w : A → List Bool} {P : A → Type 0} {v : A → B �
 -- a value that is tested once it is read
 pub reads-tested :
     {A : Type 0} {w : A → List Bool} {P : A → Type 0} {m : Reader A} (test : A → Bool) (n : ℕ) → Reads m w P
-    → Reads (m >>= (λ a. require (test a) n >> done a)) w (λ a. P a × (test a ≡ true))
+    → Reads (m >>= (λ a. require (test a) n >> pure a)) w (λ a. P a × (test a ≡ true))
 reads-tested {w} {P} test n r =
     reads-then r (λ a h. reads-require (test a) n a)
     (record {

@@ -1,7 +1,7 @@
 -- A logic of readers and writers: a reader (`specs/BitReader.antt`) gives a value exactly where the value is in range
 -- and its bits (`specs/ImageOf.antt`) stand, and goes on behind them. One law for each way to make a reader.
 -- Assumes nothing.
-use Prim.Native.Nat.{ℕ, zero, suc, _+_, _-_, _*_, _^_, _<_, _≤_}
+use Prim.Native.Nat.{ℕ, zero, suc, _+_, _*_, _^_, _<_, _≤_}
 use mathlib.Core.Path.{_≡_, refl, sym, ap, subst, _∙_}
 use mathlib.Core.Bool.{Bool, true, false}
 use mathlib.Core.List.{List, [], _++_, append-nil}
@@ -10,39 +10,38 @@ use lib.ListN.{length, length-append}
 use lib.Dec.{leb, ltb}
 use borrow.Author.Tests.{leb-true, ltb-true, le-leb, lt-ltb}
 use Rattle.net.specs.Choice.{choose, both}
-use Rattle.image.specs.BitReader.{Outcome, got, fault, Reader, done, andThen, _>>=_, _>>_, turns, each}
-use Rattle.writer.specs.Types.{Fault}
+use Rattle.image.specs.BitReader.{Parsed, got, fault, Reader, pure, andThen, _>>=_, _>>_, turns, each}
 use Rattle.image.specs.BitReader.{require, numberAt, judged, field, bits}
 use Rattle.writer.specs.ImageOf.{bitsOf, joined}
 use Rattle.net.proofs.Laws.{both-i, both-l, both-r, choose-true}
 use Rattle.image.proofs.Budget.{no-fault, choose-got}
-use Rattle.writer.proofs.Stands.{Stands, stands-append, stands-first, stands-rest, stands-none}
-use Rattle.writer.proofs.Stands.{bits-length, number-stands, stands-number}
+use Rattle.writer.proofs.BitsAt.{BitsAt, stands-append, stands-first, stands-rest, stands-none}
+use Rattle.writer.proofs.BitsAt.{bits-length, number-stands, stands-number}
 
 -- from place p to place q stand the bits of a value in range
-pub record Wrote {A : Type 0} (w : A → List Bool) (P : A → Type 0) (s : List ℕ) (p : ℕ) (a : A) (q : ℕ) : Type 0 where
+pub record Bears {A : Type 0} (w : A → List Bool) (P : A → Type 0) (s : List ℕ) (p : ℕ) (a : A) (q : ℕ) : Type 0 where
   pub holds : P a
-  pub stands : Stands s p (w a)
+  pub stands : BitsAt s p (w a)
   pub ends : q ≡ p + length (w a)
 
 -- m gives exactly the values of which P holds, where the bits that w writes for them stand
 pub record Reads {A : Type 0} (m : Reader A) (w : A → List Bool) (P : A → Type 0) : Type 0 where
-  pub only : (s : List ℕ) (p : ℕ) (a : A) (q : ℕ) → p ≤ 8 * length s → m s p ≡ got a q → Wrote w P s p a q
-  pub back : (s : List ℕ) (p : ℕ) (a : A) → P a → Stands s p (w a) → m s p ≡ got a (p + length (w a))
+  pub only : (s : List ℕ) (p : ℕ) (a : A) (q : ℕ) → p ≤ 8 * length s → m s p ≡ got a q → Bears w P s p a q
+  pub back : (s : List ℕ) (p : ℕ) (a : A) → P a → BitsAt s p (w a) → m s p ≡ got a (p + length (w a))
 
 -- ---- a value, with nothing read
-pub reads-done : {A : Type 0} (a : A) → Reads (done a) (λ _. []) (λ b. a ≡ b)
-unfolding done
-reads-done {A} a = record { only = only; back = back }
+pub reads-pure : {A : Type 0} (a : A) → Reads (pure a) (λ _. []) (λ b. a ≡ b)
+unfolding pure
+reads-pure {A} a = record { only = only; back = back }
   where
-    only : (s : List ℕ) (p : ℕ) (b : A) (q : ℕ) → p ≤ 8 * length s → done a s p ≡ got b q
-        → Wrote (λ _. []) (λ c. a ≡ c) s p b q
+    only : (s : List ℕ) (p : ℕ) (b : A) (q : ℕ) → p ≤ 8 * length s → pure a s p ≡ got b q
+        → Bears (λ _. []) (λ c. a ≡ c) s p b q
     only s p b q h e =
         let d : a ≡ b = cc in
         let r : p ≡ q = cc in
         record { holds = d; stands = stands-none s p h; ends = omega arith }
 
-    back : (s : List ℕ) (p : ℕ) (b : A) → a ≡ b → Stands s p [] → done a s p ≡ got b (p + 0)
+    back : (s : List ℕ) (p : ℕ) (b : A) → a ≡ b → BitsAt s p [] → pure a s p ≡ got b (p + 0)
     back s p b e f = let r : p ≡ p + 0 = omega arith in cc
 
 -- ---- one reader after another
@@ -60,8 +59,8 @@ module _ {A B : Type 0} {w : A → List Bool} {P : A → Type 0} {v : A → B �
   unfolding _>>=_ andThen
   reads-then r g j = record { only = λ s p b q h e. only s p b q h (m s p) refl e; back = back }
     where
-      only : (s : List ℕ) (p : ℕ) (b : B) (q : ℕ) → p ≤ 8 * length s → (o : Outcome A) → m s p ≡ o
-          → andThen o s f ≡ got b q → Wrote w′ P′ s p b q
+      only : (s : List ℕ) (p : ℕ) (b : B) (q : ℕ) → p ≤ 8 * length s → (o : Parsed A) → m s p ≡ o
+          → andThen o s f ≡ got b q → Bears w′ P′ s p b q
       only s p b q h (fault n) d e = no-fault e
       only s p b q h (got a k) d e =
           let x = r .only s p a k h d in
@@ -69,19 +68,19 @@ module _ {A B : Type 0} {w : A → List Bool} {P : A → Type 0} {v : A → B �
           let y = g a (x .holds) .only s k b q (omega (arith, x .ends)) e in
           let i = j .writes a b (x .holds) (y .holds) in
           let at = x .ends in
-          let st = stands-append s p (w a) (v a b) (x .stands) (subst (λ (z : ℕ). Stands s z (v a b)) at (y .stands)) in
+          let st = stands-append s p (w a) (v a b) (x .stands) (subst (λ (z : ℕ). BitsAt s z (v a b)) at (y .stands)) in
           let l : length (w′ b) ≡ length (w a) + length (v a b) = ap length i ∙ length-append (w a) (v a b) in
           record {
             holds = j .keeps a b (x .holds) (y .holds);
-            stands = subst (Stands s p) (sym i) st;
+            stands = subst (BitsAt s p) (sym i) st;
             ends = omega (arith, y .ends);
           }
 
-      back : (s : List ℕ) (p : ℕ) (b : B) → P′ b → Stands s p (w′ b) → andThen (m s p) s f ≡ got b (p + length (w′ b))
+      back : (s : List ℕ) (p : ℕ) (b : B) → P′ b → BitsAt s p (w′ b) → andThen (m s p) s f ≡ got b (p + length (w′ b))
       back s p b h st =
           let (a, x, y) = j .parts b h in
           let i = j .writes a b x y in
-          let st′ : Stands s p (w a ++ v a b) = subst (Stands s p) i st in
+          let st′ : BitsAt s p (w a ++ v a b) = subst (BitsAt s p) i st in
           let l : length (w′ b) ≡ length (w a) + length (v a b) = ap length i ∙ length-append (w a) (v a b) in
           let at : p + length (w a) + length (v a b) ≡ p + length (w′ b) = omega arith in
           let d = r .back s p a x (stands-first s p (w a) (v a b) st′) in
@@ -98,7 +97,7 @@ unfolding field judged
 reads-field w low end n fits = record { only = only; back = back }
   where
     only : (s : List ℕ) (p v q : ℕ) → p ≤ 8 * length s → field w low end n s p ≡ got v q
-        → Wrote (bitsOf w) (Ranged low end) s p v q
+        → Bears (bitsOf w) (Ranged low end) s p v q
     only s p v q l e =
         let g = choose-got (leb (p + w) (8 * length s)) _ e in
         let h = choose-got (both (leb low (numberAt s p w)) (ltb (numberAt s p w) end)) _ (g .1) in
@@ -110,11 +109,11 @@ reads-field w low end n fits = record { only = only; back = back }
         let b = bits-length w v in
         record {
           holds = record { above = omega arith; below = omega arith };
-          stands = subst (λ (k : ℕ). Stands s p (bitsOf w k)) d (number-stands s p w z);
+          stands = subst (λ (k : ℕ). BitsAt s p (bitsOf w k)) d (number-stands s p w z);
           ends = omega arith;
         }
 
-    back : (s : List ℕ) (p v : ℕ) → Ranged low end v → Stands s p (bitsOf w v)
+    back : (s : List ℕ) (p v : ℕ) → Ranged low end v → BitsAt s p (bitsOf w v)
         → field w low end n s p ≡ got v (p + length (bitsOf w v))
     back s p v h f =
         let b = bits-length w v in
@@ -133,20 +132,20 @@ module _ {A : Type 0} {w w′ : A → List Bool} {P P′ : A → Type 0} where
       → Reads m w′ P′
   reads-as {m} r f g e = record { only = only; back = back }
     where
-      only : (s : List ℕ) (p : ℕ) (a : A) (q : ℕ) → p ≤ 8 * length s → m s p ≡ got a q → Wrote w′ P′ s p a q
+      only : (s : List ℕ) (p : ℕ) (a : A) (q : ℕ) → p ≤ 8 * length s → m s p ≡ got a q → Bears w′ P′ s p a q
       only s p a q h d =
           let x = r .only s p a q h d in
           let i = e a (x .holds) in
           record {
             holds = f a (x .holds);
-            stands = subst (Stands s p) (sym i) (x .stands);
+            stands = subst (BitsAt s p) (sym i) (x .stands);
             ends = x .ends ∙ ap (λ (b : List Bool). p + length b) (sym i);
           }
 
-      back : (s : List ℕ) (p : ℕ) (a : A) → P′ a → Stands s p (w′ a) → m s p ≡ got a (p + length (w′ a))
+      back : (s : List ℕ) (p : ℕ) (a : A) → P′ a → BitsAt s p (w′ a) → m s p ≡ got a (p + length (w′ a))
       back s p a h st =
           let i = e a (g a h) in
-          r .back s p a (g a h) (subst (Stands s p) i st) ∙ ap (λ (b : List Bool). got a (p + length b)) (sym i)
+          r .back s p a (g a h) (subst (BitsAt s p) i st) ∙ ap (λ (b : List Bool). got a (p + length b)) (sym i)
 
 pub reads-equal :
     {A : Type 0} {w : A → List Bool} {P : A → Type 0} {m : Reader A} (k : Reader A)
@@ -167,9 +166,9 @@ reads-bits w =
 module _ {A B : Type 0} {w : A → List Bool} {P : A → Type 0} {w′ : B → List Bool} {P′ : B → Type 0} {m : Reader A} where
   pub reads-map :
       (h : A → B) → Reads m w P → ((a : A) → P a → P′ (h a)) → ((a : A) → P a → w′ (h a) ≡ w a)
-      → ((b : B) → P′ b → (a : A) × P a × (h a ≡ b)) → Reads (m >>= (λ a. done (h a))) w′ P′
+      → ((b : B) → P′ b → (a : A) × P a × (h a ≡ b)) → Reads (m >>= (λ a. pure (h a))) w′ P′
   reads-map h r keeps writes parts =
-      reads-then r (λ a x. reads-done (h a))
+      reads-then r (λ a x. reads-pure (h a))
       (record {
         keeps = λ a b x e. subst P′ e (keeps a x);
         writes = λ a b x e. ap w′ (sym e) ∙ writes a x ∙ sym (append-nil (w a));
@@ -178,10 +177,10 @@ module _ {A B : Type 0} {w : A → List Bool} {P : A → Type 0} {w′ : B → L
 
 -- ---- a test, then a value
 pub reads-require : {A : Type 0} (ok : Bool) (n : ℕ) (a : A)
-    → Reads (require ok n >> done a) (λ _. []) (λ b. (ok ≡ true) × (a ≡ b))
-unfolding require _>>_ _>>=_ andThen done choose
+    → Reads (require ok n >> pure a) (λ _. []) (λ b. (ok ≡ true) × (a ≡ b))
+unfolding require _>>_ _>>=_ andThen pure choose
 reads-require true n a =
-    reads-as (reads-done a) (λ b e. (refl, e)) (λ b e. e .1) (λ b e. refl)
+    reads-as (reads-pure a) (λ b e. (refl, e)) (λ b e. e .1) (λ b e. refl)
 reads-require false n a = record {
   only = λ s p b q h e. no-fault e;
   back = λ s p b h st. let z : _≡_ {A = ℕ} 0 1 = cc (h .0) in absurd (omega arith);
@@ -189,28 +188,28 @@ reads-require false n a = record {
 
 -- ---- turns, the last one apart
 module _ {A : Type 0} (f : ℕ → A → Reader A) where
-  then-done : (o : Outcome A) (s : List ℕ) (g : A → Reader A) → ((a : A) (q : ℕ) → g a s q ≡ got a q) → andThen o s g ≡ o
+  then-pure : (o : Parsed A) (s : List ℕ) (g : A → Reader A) → ((a : A) (q : ℕ) → g a s q ≡ got a q) → andThen o s g ≡ o
   unfolding andThen
-  then-done (got a q) s g h = h a q
-  then-done (fault n) s g h = refl
+  then-pure (got a q) s g h = h a q
+  then-pure (fault n) s g h = refl
 
-  then-same : (o : Outcome A) (s : List ℕ) (g h : A → Reader A) → ((a : A) (q : ℕ) → g a s q ≡ h a s q)
+  then-same : (o : Parsed A) (s : List ℕ) (g h : A → Reader A) → ((a : A) (q : ℕ) → g a s q ≡ h a s q)
       → andThen o s g ≡ andThen o s h
   unfolding andThen
   then-same (got a q) s g h e = e a q
   then-same (fault n) s g h e = refl
 
-  then-then : (o : Outcome A) (s : List ℕ) (g h : A → Reader A)
+  then-then : (o : Parsed A) (s : List ℕ) (g h : A → Reader A)
       → andThen o s (λ a. g a >>= h) ≡ andThen (andThen o s g) s h
   unfolding andThen _>>=_
   then-then (got a q) s g h = refl
   then-then (fault n) s g h = refl
 
   turns-last : (k i : ℕ) (a : A) (s : List ℕ) (p : ℕ) → turns (suc k) i f a s p ≡ (turns k i f a >>= f (k + i)) s p
-  unfolding turns _>>=_ andThen done
+  unfolding turns _>>=_ andThen pure
   turns-last zero i a s p =
       let e : i ≡ 0 + i = omega arith in
-      then-done (f i a s p) s (turns 0 (suc i) f) (λ b q. refl) ∙ ap (λ (j : ℕ). f j a s p) e
+      then-pure (f i a s p) s (turns 0 (suc i) f) (λ b q. refl) ∙ ap (λ (j : ℕ). f j a s p) e
   turns-last (suc k) i a s p =
       let e : k + suc i ≡ suc k + i = omega arith in
       then-same (f i a s p) s (turns (suc k) (suc i) f) (λ b. turns k (suc i) f b >>= f (k + suc i))
@@ -245,7 +244,7 @@ module _ {A : Type 0} {f : ℕ → A → Reader A} {n : ℕ} {w : ℕ → A → 
   reads-to : Turning f n w S T a₀ → (k : ℕ) → k ≤ n → Reads (each k f a₀) (λ b. joined k (λ i. w i b)) (S k)
   unfolding each turns joined
   reads-to t zero h =
-      reads-as (reads-done a₀) (λ b e. subst (S 0) e (t .begins)) (t .starts) (λ b e. refl)
+      reads-as (reads-pure a₀) (λ b e. subst (S 0) e (t .begins)) (t .starts) (λ b e. refl)
   reads-to t (suc k) h =
       reads-equal _ (each-last f k a₀)
       (reads-then (reads-to t k (omega arith)) (t .turn k h)

@@ -17,7 +17,7 @@ use Rattle.image.specs.Image.{padding, endsAt}
 use Rattle.writer.specs.ImageOf.{digit, joined, numberIn, bytesOf}
 use Rattle.writer.specs.WrittenClaims.{Bytes}
 use Rattle.net.proofs.Laws.{both-i, both-l, both-r, split}
-use Rattle.writer.proofs.Stands.{Stands}
+use Rattle.writer.proofs.BitsAt.{BitsAt}
 use Rattle.writer.proofs.WrittenFields.{digit-small}
 
 -- ---- a byte and its bits
@@ -161,7 +161,7 @@ unfolding digit
 past-digit bits p h = ap digit (List·getD-eq-default bits false h)
 
 -- ---- an image that ends with the bits that stand in it
-module _ (s : List ℕ) (bits : List Bool) (f : Stands s 0 bits) (e : endsAt s (length bits) ≡ true) where
+module _ (s : List ℕ) (bits : List Bool) (f : BitsAt s 0 bits) (e : endsAt s (length bits) ≡ true) where
   size : length s ≡ (length bits + 7) / 8
   unfolding endsAt
   size = eqb-true _ _ (both-l _ _ e)
@@ -190,7 +190,7 @@ module _ (s : List ℕ) (bits : List Bool) (f : Stands s 0 bits) (e : endsAt s (
       ∙ sym (bytes-at bits i (omega (arith, size, bytes-length bits))))
 
 -- the bytes of bits end with them
-pub bytes-stand : (bits : List Bool) → Stands (bytesOf bits) 0 bits
+pub bytes-stand : (bits : List Bool) → BitsAt (bytesOf bits) 0 bits
 bytes-stand bits =
     let l = bytes-length bits in
     record {

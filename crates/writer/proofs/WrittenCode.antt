@@ -1,17 +1,17 @@
 -- Instructions (`specs/Image.antt`, `specs/ImageOf.antt`, 5): what is read is what is written.
 -- Assumes nothing.
-use Prim.Native.Nat.{ℕ, zero, suc, _+_, _-_, _<_, _≤_}
+use Prim.Native.Nat.{ℕ, zero, suc, _+_, _<_, _≤_}
 use mathlib.Core.Path.{_≡_, refl, sym, ap, subst, _∙_}
 use mathlib.Core.Bool.{Bool, true, false}
 use mathlib.Core.List.{List, [], _∷_, _++_}
 use native.Mathlib.Omega.{arith}
 use Rattle.writer.specs.Types.{Place, Target, Action, Instruction}
-use Rattle.net.specs.Records.{zeroInstruction, withAction, patternAt}
+use Rattle.net.specs.Records.{placeOf, zeroInstruction, withAction, patternAt}
 use Rattle.net.specs.Soundness.{targetSound}
-use Rattle.image.specs.BitReader.{done, alternative}
+use Rattle.image.specs.BitReader.{pure, alternative}
 use Rattle.image.specs.Image.{communication, evaluation, creation, forking, instruction}
 use Rattle.writer.specs.ImageOf.{bitsOf, placeBits, variableBits, targetBits, templateBits, actionBits, instructionBits}
-use Rattle.writer.proofs.ReadsWrites.{Reads, Ranged, reads-map, reads-done, reads-field}
+use Rattle.writer.proofs.ReadsWrites.{Reads, Ranged, reads-map, reads-pure, reads-field}
 use Rattle.writer.proofs.ReadsParts.{reads-in}
 use Rattle.writer.proofs.WrittenFields.{reads-place, reads-variable}
 use Rattle.writer.proofs.WrittenPatterns.{reads-target}
@@ -29,7 +29,7 @@ targetOf (Action.Fork p q) = Target.Own
 
 -- the place before the last one: what an eval sends, where a fork goes first
 firstOf : Action → Place
-firstOf Action.Stop = record { 0 = 0 }
+firstOf Action.Stop = placeOf 0
 firstOf (Action.Out t p) = p
 firstOf (Action.In t p) = p
 firstOf (Action.Read t p) = p
@@ -38,7 +38,7 @@ firstOf (Action.New v p) = p
 firstOf (Action.Fork p q) = p
 
 lastOf : Action → Place
-lastOf Action.Stop = record { 0 = 0 }
+lastOf Action.Stop = placeOf 0
 lastOf (Action.Out t p) = p
 lastOf (Action.In t p) = p
 lastOf (Action.Read t p) = p
@@ -63,8 +63,8 @@ abbrev spokenBits : Instruction → List Bool
 spokenBits c = targetBits (targetOf (c .action)) ++ (templateBits c ++ lastBits c)
 
 -- target, template and next place in range
-unfoldable pub Spoken : (Target → Place → Action) → Bool → ℕ → ℕ → Instruction → Type 0
-Spoken make formals n k b =
+unfoldable pub Communicated : (Target → Place → Action) → Bool → ℕ → ℕ → Instruction → Type 0
+Communicated make formals n k b =
     (t : Target) × (targetSound n t ≡ true)
     × ((c : Instruction) × TemplateOk formals n c × ((p : Place) × (p .0 < k) × (withAction c (make t p) ≡ b)))
 
@@ -86,9 +86,9 @@ module _ (n k : ℕ) where
   -- an instruction, by the number of its action
   unfoldable pub Acting : ℕ → Instruction → Type 0
   Acting zero b = zeroInstruction ≡ b
-  Acting (suc zero) b = Spoken Action.Out false n k b
-  Acting (suc (suc zero)) b = Spoken Action.In true n k b
-  Acting (suc (suc (suc zero))) b = Spoken Action.Read true n k b
+  Acting (suc zero) b = Communicated Action.Out false n k b
+  Acting (suc (suc zero)) b = Communicated Action.In true n k b
+  Acting (suc (suc (suc zero))) b = Communicated Action.Read true n k b
   Acting (suc (suc (suc (suc zero)))) b = Evaluated b
   Acting (suc (suc (suc (suc (suc zero))))) b = Created b
   Acting (suc (suc (suc (suc (suc (suc v)))))) b = Forked b
@@ -122,8 +122,8 @@ module _ (n k : ℕ) (h : n ≤ 16) (l : k ≤ 512) where
   reads-spoken :
       (make : Target → Place → Action) (formals : Bool) → ((t : Target) (p : Place) → targetOf (make t p) ≡ t)
       → ((t : Target) (p : Place) → lastOf (make t p) ≡ p)
-      → Reads (communication make formals n k) spokenBits (Spoken make formals n k)
-  unfolding communication Spoken withAction templateBits patternAt
+      → Reads (communication make formals n k) spokenBits (Communicated make formals n k)
+  unfolding communication Communicated withAction templateBits patternAt
   reads-spoken make formals e d =
       reads-in spokenBits (reads-target n h)
       (λ t ok. reads-in (λ b. templateBits b ++ lastBits b) (reads-template formals n h)
@@ -164,7 +164,7 @@ module _ (n k : ℕ) (h : n ≤ 16) (l : k ≤ 512) where
   reads-acting : (v : ℕ) → Ranged 0 7 v
       → Reads
       (alternative
-      (done zeroInstruction
+      (pure zeroInstruction
       ∷ communication Action.Out false n k
       ∷ communication Action.In true n k
       ∷ communication Action.Read true n k
@@ -175,7 +175,7 @@ module _ (n k : ℕ) (h : n ≤ 16) (l : k ≤ 512) where
       v)
       (actingBits v) (Acting n k v)
   unfolding alternative Acting actingBits targetOf lastOf
-  reads-acting zero r = reads-done zeroInstruction
+  reads-acting zero r = reads-pure zeroInstruction
   reads-acting (suc zero) r = reads-spoken Action.Out false (λ t p. refl) (λ t p. refl)
   reads-acting (suc (suc zero)) r = reads-spoken Action.In true (λ t p. refl) (λ t p. refl)
   reads-acting (suc (suc (suc zero))) r = reads-spoken Action.Read true (λ t p. refl) (λ t p. refl)
@@ -184,7 +184,7 @@ module _ (n k : ℕ) (h : n ≤ 16) (l : k ≤ 512) where
   reads-acting (suc (suc (suc (suc (suc (suc v)))))) r = reads-forking
 
   acting-opens : (v : ℕ) (b : Instruction) → Ranged 0 7 v → Acting n k v b → Opens v b
-  unfolding Opens Acting actingBits Spoken Evaluated Created Forked instructionBits actionBits withAction targetOf firstOf lastOf variableOf zeroInstruction bitsOf
+  unfolding Opens Acting actingBits Communicated Evaluated Created Forked instructionBits actionBits withAction targetOf firstOf lastOf variableOf zeroInstruction bitsOf
   acting-opens zero b r a = subst (Opens 0) a refl
   acting-opens (suc zero) b r a = subst (Opens 1) (a .2 .2 .2) refl
   acting-opens (suc (suc zero)) b r a = subst (Opens 2) (a .2 .2 .2) refl

@@ -9,6 +9,7 @@ use native.Mathlib.Decide.{decLe}
 use lib.Dec.{eqb}
 use lib.IntN.{ℤ}
 use borrow.Author.Tests.{ltb-true, lt-ltb, le-ltb}
+use Rattle.net.specs.Records.{addressOf, placeOf}
 use Rattle.writer.specs.Types.{Rights}
 use Rattle.image.specs.Image.{address, place, variable, signed, reading, isSetBit, rightsOf}
 use Rattle.writer.specs.ImageOf.{bitsOf, addressBits, placeBits, variableBits, readingBits, rightsBits, digit}
@@ -19,13 +20,13 @@ use Rattle.writer.proofs.ReadsWrites.{Reads, reads-map, reads-field, re
 pub reads-address : (n : ℕ) → n ≤ 16 → Reads (address n) addressBits (λ l. l .0 < n)
 unfolding address addressBits
 reads-address n h =
-    reads-map (λ (l : ℕ). record { 0 = l }) (reads-field 4 0 n 23 (omega arith))
+    reads-map (λ (l : ℕ). addressOf l) (reads-field 4 0 n 23 (omega arith))
     (λ l x. x .below) (λ l x. refl) (λ b x. (b .0, record { above = omega arith; below = x }, refl))
 
 pub reads-place : (k : ℕ) → k ≤ 512 → Reads (place k) placeBits (λ p. p .0 < k)
 unfolding place placeBits
 reads-place k h =
-    reads-map (λ (p : ℕ). record { 0 = p }) (reads-field 9 0 k 24 (omega arith))
+    reads-map (λ (p : ℕ). placeOf p) (reads-field 9 0 k 24 (omega arith))
     (λ p x. x .below) (λ p x. refl) (λ b x. (b .0, record { above = omega arith; below = x }, refl))
 
 pub reads-variable : Reads variable variableBits (λ v. v < 8)

@@ -1,6 +1,6 @@
 -- The layout of an image without its end (`specs/Image.antt`, 1 to 5): it reads exactly what `netBits` writes for the nets
 -- that an image can write. Assumes nothing.
-use Prim.Native.Nat.{ℕ, _+_, _-_, _<_, _≤_}
+use Prim.Native.Nat.{ℕ, _+_, _<_, _≤_}
 use mathlib.Core.Path.{_≡_, refl, sym, ap, subst, _∙_}
 use mathlib.Core.Bool.{Bool}
 use mathlib.Core.List.{List, _++_}
@@ -8,7 +8,7 @@ use native.Mathlib.Omega.{arith}
 use native.Mathlib.Decide.{decLe}
 use lib.ListN.{length, getD, getD-replicate, length-replicate}
 use Rattle.writer.specs.Types.{Node, Net}
-use Rattle.net.specs.Records.{zeroNode, zeroInstruction, emptyNet, nodeAt, instructionAt, withCounts}
+use Rattle.net.specs.Records.{zeroNode, zeroInstruction, emptyNet, nodeAt, instructionAt, withCounts, addressOf}
 use Rattle.image.specs.BitReader.{Reader, _>>=_}
 use Rattle.image.specs.Image.{header, rows, allProcesses, allTuples, code}
 use Rattle.writer.specs.ImageOf.{bitsOf, joined, rowBits, processesBits, tuplesBits, instructionBits}
@@ -20,7 +20,7 @@ use Rattle.writer.proofs.ReadsCells.{zeros-are}
 use Rattle.writer.proofs.WrittenPasses.{net-is, rowless, vacated}
 use Rattle.writer.proofs.WrittenPasses.{emptied, RowsPass, ProcessesPass, TuplesPass, CodePass}
 use Rattle.writer.proofs.WrittenPasses.{reads-rows, reads-allProcesses, reads-allTuples, reads-code}
-use Rattle.writer.proofs.WrittenStages.{Staged, Blank, WithRow, WithProcesses, NodeOk, rowed, peopled, stocked}
+use Rattle.writer.proofs.WrittenStages.{Staged, Blank, WithRow, WithProcesses, WithTuples, rowed, peopled, stocked}
 use Rattle.writer.proofs.WrittenStages.{Keeps, keeps-on, pass-keeps, code-keeps, header-same, rows-same}
 use Rattle.writer.proofs.WrittenStages.{processes-same, tuples-same}
 use Rattle.image.proofs.PastRecords.{pastNode, pastInstruction}
@@ -80,21 +80,21 @@ unfolding rowsBits RowsPass
 pass-rows s g =
     reads-as (reads-rows s (few s g) (g .nodes-ok .size-is)
     (λ a h. let l = few s g in sym (g .nodes-ok .holds a (omega arith) .used h))) (λ b t. t) (λ b t. t)
-    (λ b t. ap (λ (n : ℕ). joined n (λ a. rowBits n (nodeAt b a .row))) (sym (t .frame .addresses-are)))
+    (λ b t. ap (λ (n : ℕ). joined n (λ a. rowBits n (nodeAt b (addressOf a) .row))) (sym (t .frame .addresses-are)))
 
 pass-processes : (s : Net) → Staged WithRow s → Reads (allProcesses s) allProcessesBits (ProcessesPass s)
 unfolding allProcessesBits ProcessesPass
 pass-processes s g =
     reads-as (reads-allProcesses s (few s g) (short s g) (g .nodes-ok .size-is)
     (λ a h. let l = few s g in g .nodes-ok .holds a (omega arith) .used h .bare)) (λ b t. t) (λ b t. t)
-    (λ b t. ap (λ (n : ℕ). joined n (λ a. processesBits (nodeAt b a))) (sym (t .frame .addresses-are)))
+    (λ b t. ap (λ (n : ℕ). joined n (λ a. processesBits (nodeAt b (addressOf a)))) (sym (t .frame .addresses-are)))
 
 pass-tuples : (s : Net) → Staged WithProcesses s → Reads (allTuples s) allTuplesBits (TuplesPass s)
 unfolding allTuplesBits TuplesPass
 pass-tuples s g =
     reads-as (reads-allTuples s (few s g) (g .nodes-ok .size-is)
     (λ a h. let l = few s g in g .nodes-ok .holds a (omega arith) .used h .bare)) (λ b t. t) (λ b t. t)
-    (λ b t. ap (λ (n : ℕ). joined n (λ a. tuplesBits (nodeAt b a))) (sym (t .frame .addresses-are)))
+    (λ b t. ap (λ (n : ℕ). joined n (λ a. tuplesBits (nodeAt b (addressOf a)))) (sym (t .frame .addresses-are)))
 
 pub empty-code : length (emptyNet .code) ≡ 512
 unfolding emptyNet
@@ -104,7 +104,7 @@ pub empty-at : (p : ℕ) → p < 512 → getD (emptyNet .code) p pastInstruction
 unfolding emptyNet
 empty-at p h = getD-replicate 512 p zeroInstruction pastInstruction h
 
-pass-code : (s : Net) → Staged NodeOk s → Reads (code s) codeBits (CodePass s)
+pass-code : (s : Net) → Staged WithTuples s → Reads (code s) codeBits (CodePass s)
 unfolding codeBits CodePass instructionAt
 pass-code s g =
     reads-as (reads-code s (few s g) (short s g) (ap length (sym (g .code-is)) ∙ empty-code)

@@ -1,17 +1,17 @@
 -- The passes over the nodes of a net and over its code (`specs/Image.antt`, 2 to 5): each gives exactly the nets whose
 -- records it can write, and leaves all else as it was. Assumes nothing.
-use Prim.Native.Nat.{ℕ, _-_, _<_, _≤_}
+use Prim.Native.Nat.{ℕ, _<_, _≤_}
 use mathlib.Core.Path.{_≡_, refl, sym, ap, subst, _∙_}
 use mathlib.Core.Bool.{Bool}
 use mathlib.Core.List.{List}
 use native.Mathlib.Omega.{arith}
 use lib.ListN.{length, getD, replicate}
 use lib.Seq.{set-getD, set-set}
-use Rattle.writer.specs.Types.{Row, Process, Node, Instruction, Net}
-use Rattle.net.specs.Records.{freeProcess, zeroTuple, zeroRow, zeroNode, zeroInstruction, nodeAt}
+use Rattle.writer.specs.Types.{Locality, Place, Row, Process, Node, Instruction, Net}
+use Rattle.net.specs.Records.{freeProcess, zeroTuple, zeroRow, zeroNode, zeroInstruction, nodeAt, addressOf, placeOf}
 use Rattle.net.specs.Records.{withRow, withNode, withInstruction}
 use Rattle.image.specs.BitReader.{Reader}
-use Rattle.image.specs.Image.{row, rowOf, rows, processes, processesOf, allProcesses, tuples, tuplesOf, allTuples}
+use Rattle.image.specs.Image.{eachAddress, eachPlace, row, rowOf, rows, processes, processesOf, allProcesses, tuples, tuplesOf, allTuples}
 use Rattle.image.specs.Image.{instruction, instructionOf, code}
 use Rattle.writer.specs.ImageOf.{joined, rowBits, processesBits, tuplesBits, instructionBits}
 use Rattle.writer.proofs.ReadsWrites.{Reads}
@@ -40,8 +40,8 @@ pub record Beside (s₀ s : Net) : Type 0 where
 abbrev pub passOver : Net → (Node → Type 0) → (Node → Node) → Arrayed Net Node
 passOver s₀ Good undo = record {
   cells = λ s. s .nodes;
-  put = λ a s x. withNode s a x;
-  cut = λ a s x. withNode s a x;
+  put = λ a s x. withNode s (addressOf a) x;
+  cut = λ a s x. withNode s (addressOf a) x;
   past = pastNode;
   Good = Good;
   undo = undo;
@@ -50,7 +50,7 @@ passOver s₀ Good undo = record {
   size = 16;
 }
 
-kept : (s₀ s : Net) (a : ℕ) (x : Node) → Beside s₀ s → Beside s₀ (withNode s a x)
+kept : (s₀ s : Net) (a : Locality) (x : Node) → Beside s₀ s → Beside s₀ (withNode s a x)
 unfolding withNode
 kept s₀ s a x e = record { addresses-are = e .addresses-are; length-is = e .length-is; code-is = e .code-is }
 
@@ -69,9 +69,9 @@ module _ (s₀ : Net) (Good : Node → Type 0) (undo : Node → Node) (f : ℕ �
     starts = λ s e d. net-is s _ _ _ _ (e .addresses-are) (e .length-is) d (e .code-is);
     turn = turn;
     put-cells = λ a m s x e. refl;
-    put-frame = λ a m s x e g _. kept s₀ s a x e;
+    put-frame = λ a m s x e g _. kept s₀ s (addressOf a) x e;
     cut-cells = λ a m s x. refl;
-    cut-frame = λ a m s x e. kept s₀ s a x e;
+    cut-frame = λ a m s x e. kept s₀ s (addressOf a) x e;
     cut-extra = λ a m s x e. tt;
     put-cut = λ a m s x e.
         ap (λ y. record { addresses = s .addresses; length = s .length; nodes = y; code = s .code })
@@ -88,13 +88,13 @@ RowsPass s₀ = Through (passOver s₀ (λ x. RowOk (s₀ .addresses) (x .row)) 
 module _ (s₀ : Net) (h : s₀ .addresses ≤ 16) (l : length (s₀ .nodes) ≡ 16)
     (bare : (a : ℕ) → a < s₀ .addresses → getD (s₀ .nodes) a pastNode ≡ zeroNode) where
   pub reads-rows :
-      Reads (rows s₀) (λ b. joined (s₀ .addresses) (λ a. rowBits (s₀ .addresses) (nodeAt b a .row))) (RowsPass s₀)
-  unfolding rows rowOf nodeAt RowsPass withNode withRow zeroNode
+      Reads (rows s₀) (λ b. joined (s₀ .addresses) (λ a. rowBits (s₀ .addresses) (nodeAt b (addressOf a) .row))) (RowsPass s₀)
+  unfolding rows eachAddress rowOf nodeAt RowsPass withNode withRow zeroNode
   reads-rows =
       let n : ℕ = s₀ .addresses in
-      reads-cells (passOver s₀ (λ x. RowOk n (x .row)) rowless) s₀ rowOf n (λ x. rowBits n (x .row))
+      reads-cells (passOver s₀ (λ x. RowOk n (x .row)) rowless) s₀ (λ a. rowOf (addressOf a)) n (λ x. rowBits n (x .row))
       (filling-pass s₀ _ _ _ _ h l (λ a m s e b g.
-      reads-turn (passOver s₀ (λ x. RowOk n (x .row)) rowless) s₀ a s (λ x. rowBits n (x .row)) (withRow (nodeAt s a))
+      reads-turn (passOver s₀ (λ x. RowOk n (x .row)) rowless) s₀ a s (λ x. rowBits n (x .row)) (withRow (nodeAt s (addressOf a)))
       (omega arith) (λ x. refl) (subst (λ (j : ℕ). Reads (row j) (rowBits n) (RowOk n)) (e .addresses-are) (reads-row n h))
       (λ r ok. (ok, ap (λ (x : Node). withRow x zeroRow) (sym b ∙ bare a m) ∙ sym (bare a m), tt)) (λ r ok. refl)
       (λ x ok u _. (x .row, ok, ap (λ (y : Node). withRow y (x .row)) (sym b ∙ sym u)))))
@@ -140,10 +140,10 @@ module _ (s₀ : Net) (h : s₀ .addresses ≤ 16) (k : s₀ .length ≤ 512) (l
       (sym (bare a m) ∙ b) (reads-processes (s₀ .length) r k))
 
   pub reads-allProcesses :
-      Reads (allProcesses s₀) (λ b. joined (s₀ .addresses) (λ a. processesBits (nodeAt b a))) (ProcessesPass s₀)
-  unfolding allProcesses processesOf nodeAt ProcessesPass withNode
+      Reads (allProcesses s₀) (λ b. joined (s₀ .addresses) (λ a. processesBits (nodeAt b (addressOf a)))) (ProcessesPass s₀)
+  unfolding allProcesses eachAddress processesOf nodeAt ProcessesPass withNode
   reads-allProcesses =
-      reads-cells (passOver s₀ (Slots (s₀ .length)) vacated) s₀ processesOf (s₀ .addresses) processesBits
+      reads-cells (passOver s₀ (Slots (s₀ .length)) vacated) s₀ (λ a. processesOf (addressOf a)) (s₀ .addresses) processesBits
       (filling-pass s₀ _ _ _ _ h l (λ a m s e b g.
       reads-turn (passOver s₀ (Slots (s₀ .length)) vacated) s₀ a s processesBits (λ x. x)
       (omega arith) (λ x. refl) (reads-slots a m s e b)
@@ -173,10 +173,10 @@ module _ (s₀ : Net) (h : s₀ .addresses ≤ 16) (l : length (s₀ .nodes) ≡
       (sym (bare a m) ∙ b) (reads-tuples n (y .row) (y .processes) h))
 
   pub reads-allTuples :
-      Reads (allTuples s₀) (λ b. joined (s₀ .addresses) (λ a. tuplesBits (nodeAt b a))) (TuplesPass s₀)
-  unfolding allTuples tuplesOf nodeAt TuplesPass withNode bareNode
+      Reads (allTuples s₀) (λ b. joined (s₀ .addresses) (λ a. tuplesBits (nodeAt b (addressOf a)))) (TuplesPass s₀)
+  unfolding allTuples eachAddress tuplesOf nodeAt TuplesPass withNode bareNode
   reads-allTuples =
-      reads-cells (passOver s₀ (TuplesOk (s₀ .addresses)) emptied) s₀ tuplesOf (s₀ .addresses) tuplesBits
+      reads-cells (passOver s₀ (TuplesOk (s₀ .addresses)) emptied) s₀ (λ a. tuplesOf (addressOf a)) (s₀ .addresses) tuplesBits
       (filling-pass s₀ _ _ _ _ h l (λ a m s e b g.
       reads-turn (passOver s₀ (TuplesOk (s₀ .addresses)) emptied) s₀ a s tuplesBits (λ x. x)
       (omega arith) (λ x. refl) (reads-store a m s e b)
@@ -206,8 +206,8 @@ pub record Above (s₀ s : Net) : Type 0 where
 abbrev pub codeOf : Net → Arrayed Net Instruction
 codeOf s₀ = record {
   cells = λ s. s .code;
-  put = λ p s c. withInstruction s p c;
-  cut = λ p s c. withInstruction s p c;
+  put = λ p s c. withInstruction s (placeOf p) c;
+  cut = λ p s c. withInstruction s (placeOf p) c;
   past = pastInstruction;
   Good = InstructionOk (s₀ .addresses) (s₀ .length);
   undo = λ c. zeroInstruction;
@@ -219,7 +219,7 @@ codeOf s₀ = record {
 unfoldable pub CodePass : Net → Net → Type 0
 CodePass s₀ = Through (codeOf s₀) s₀ (s₀ .length)
 
-code-kept : (s₀ s : Net) (p : ℕ) (c : Instruction) → Above s₀ s → Above s₀ (withInstruction s p c)
+code-kept : (s₀ s : Net) (p : Place) (c : Instruction) → Above s₀ s → Above s₀ (withInstruction s p c)
 unfolding withInstruction
 code-kept s₀ s p c e = record { addresses-are = e .addresses-are; length-is = e .length-is; nodes-are = e .nodes-are }
 
@@ -234,7 +234,7 @@ module _ (s₀ : Net) (h : s₀ .addresses ≤ 16) (k : s₀ .length ≤ 512) (l
       (subst (λ (j : ℕ). Reads (instruction j m) instructionBits (InstructionOk n m)) (e .addresses-are)
       (reads-instruction n m h k))
 
-  filling-code : Filling (codeOf s₀) s₀ instructionOf (s₀ .length) instructionBits
+  filling-code : Filling (codeOf s₀) s₀ (λ p. instructionOf (placeOf p)) (s₀ .length) instructionBits
   unfolding instructionOf withInstruction
   filling-code = record {
     room = k;
@@ -245,9 +245,9 @@ module _ (s₀ : Net) (h : s₀ .addresses ≤ 16) (k : s₀ .length ≤ 512) (l
         reads-turn (codeOf s₀) s₀ p s instructionBits (λ c. c) (omega arith) (λ c. refl) (reads-placed s e)
         (λ c ok. (ok, sym (bare p m), tt)) (λ c ok. refl) (λ c ok u _. (c, ok, refl));
     put-cells = λ p m s c e. refl;
-    put-frame = λ p m s c e g _. code-kept s₀ s p c e;
+    put-frame = λ p m s c e g _. code-kept s₀ s (placeOf p) c e;
     cut-cells = λ p m s c. refl;
-    cut-frame = λ p m s c e. code-kept s₀ s p c e;
+    cut-frame = λ p m s c e. code-kept s₀ s (placeOf p) c e;
     cut-extra = λ p m s c e. tt;
     put-cut = λ p m s c e.
         ap (λ y. record { addresses = s .addresses; length = s .length; nodes = s .nodes; code = y })
@@ -256,5 +256,5 @@ module _ (s₀ : Net) (h : s₀ .addresses ≤ 16) (k : s₀ .length ≤ 512) (l
 
   pub reads-code :
       Reads (code s₀) (λ b. joined (s₀ .length) (λ p. instructionBits (getD (b .code) p pastInstruction))) (CodePass s₀)
-  unfolding code CodePass
-  reads-code = reads-cells (codeOf s₀) s₀ instructionOf (s₀ .length) instructionBits filling-code
+  unfolding code eachPlace CodePass
+  reads-code = reads-cells (codeOf s₀) s₀ (λ p. instructionOf (placeOf p)) (s₀ .length) instructionBits filling-code

@@ -1,6 +1,6 @@
 -- Targets and patterns (`specs/Image.antt`, `specs/ImageOf.antt`, 5): what is read is what is written.
 -- Assumes nothing.
-use Prim.Native.Nat.{ℕ, zero, suc, _+_, _-_, _<_, _≤_}
+use Prim.Native.Nat.{ℕ, zero, suc, _+_, _<_, _≤_}
 use mathlib.Core.Path.{_≡_, refl, sym, ap, subst}
 use mathlib.Core.Bool.{Bool, true, false, not}
 use mathlib.Core.List.{List, [], _∷_, _++_}
@@ -11,13 +11,13 @@ use borrow.Author.Tests.{ltb-true, lt-ltb}
 use Rattle.net.specs.Choice.{implies}
 use Rattle.writer.specs.Types.{Locality, Target, Pattern, Instruction}
 use Rattle.net.specs.Soundness.{targetSound, patternSound, isActual, unboundBefore, bindsAnew}
-use Rattle.image.specs.BitReader.{done, alternative}
+use Rattle.image.specs.BitReader.{pure, alternative}
 use Rattle.image.specs.Image.{writtenTarget, heldTarget, target, readingPattern, addressPattern, heldPattern}
 use Rattle.image.specs.Image.{fresh, formalReading, formalAddress, kind, pattern}
 use Rattle.writer.specs.ImageOf.{bitsOf, addressBits, readingBits, variableBits, targetBits, patternBits}
 use Rattle.writer.specs.Fresh.{readingFits, patternFits}
 use Rattle.net.proofs.Laws.{implies-i}
-use Rattle.writer.proofs.ReadsWrites.{Reads, Ranged, reads-as, reads-map, reads-done, reads-field}
+use Rattle.writer.proofs.ReadsWrites.{Reads, Ranged, reads-as, reads-map, reads-pure, reads-field}
 use Rattle.writer.proofs.ReadsParts.{Kinded, reads-kind, reads-tested}
 use Rattle.writer.proofs.WrittenFields.{reads-address, reads-variable, reads-reading}
 
@@ -59,9 +59,9 @@ module _ (n : ℕ) (h : n ≤ 16) where
       parts Target.Own k = absurd (omega (arith, k .kind-is))
       parts (Target.Held v) k = absurd (omega (arith, k .kind-is))
 
-  reads-own : Reads (done Target.Own) targetRest (TargetOf 1)
+  reads-own : Reads (pure Target.Own) targetRest (TargetOf 1)
   unfolding targetRest targetKind targetSound
-  reads-own = reads-as (reads-done Target.Own) there back (λ b e. ap targetRest (sym e))
+  reads-own = reads-as (reads-pure Target.Own) there back (λ b e. ap targetRest (sym e))
     where
       there : (b : Target) → Target.Own ≡ b → TargetOf 1 b
       there b e = subst (TargetOf 1) e (record { kind-is = refl; good = refl })
@@ -82,7 +82,7 @@ module _ (n : ℕ) (h : n ≤ 16) where
       parts (Target.Held v) k = (v, ltb-true v 8 (k .good), refl)
 
   reads-alternative : (v : ℕ) → Ranged 0 3 v
-      → Reads (alternative (writtenTarget n ∷ done Target.Own ∷ []) heldTarget v) targetRest (TargetOf v)
+      → Reads (alternative (writtenTarget n ∷ pure Target.Own ∷ []) heldTarget v) targetRest (TargetOf v)
   unfolding alternative
   reads-alternative zero r = reads-written
   reads-alternative (suc zero) r = reads-own
@@ -202,9 +202,9 @@ module _ (formals : Bool) (n : ℕ) (c : Instruction) (h : n ≤ 16) where
       parts : (b : Pattern) → PatternOf 1 b → PatternView 1 b → (l : Locality) × (l .0 < n) × (Pattern.Address l ≡ b)
       parts _ k (isAddress l) = (l, ltb-true (l .0) n (k .good .ok .sound), refl)
 
-  reads-ownPattern : Reads (done Pattern.Own) patternRest (PatternOf 2)
+  reads-ownPattern : Reads (pure Pattern.Own) patternRest (PatternOf 2)
   unfolding patternRest patternKind patternSound patternFits isActual bindsAnew
-  reads-ownPattern = reads-as (reads-done Pattern.Own) there (λ b k. back b (viewed b k)) (λ b e. ap patternRest (sym e))
+  reads-ownPattern = reads-as (reads-pure Pattern.Own) there (λ b k. back b (viewed b k)) (λ b e. ap patternRest (sym e))
     where
       there : (b : Pattern) → Pattern.Own ≡ b → PatternOf 2 b
       there b e = subst (PatternOf 2) e (record {
@@ -266,7 +266,7 @@ module _ (formals : Bool) (n : ℕ) (c : Instruction) (h : n ≤ 16) where
   reads-patternOf : (v : ℕ) → KindOk formals v
       → Reads
       (alternative
-      (readingPattern ∷ addressPattern n ∷ done Pattern.Own ∷ heldPattern ∷ formalReading c ∷ [])
+      (readingPattern ∷ addressPattern n ∷ pure Pattern.Own ∷ heldPattern ∷ formalReading c ∷ [])
       (formalAddress c)
       v)
       patternRest (PatternOf v)

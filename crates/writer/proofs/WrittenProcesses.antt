@@ -18,7 +18,7 @@ use Rattle.net.proofs.Every.{Every, Filled}
 use Rattle.net.proofs.Past.{pastProcess}
 use Rattle.writer.proofs.ReadsWrites.{Reads, reads-then, reads-field}
 use Rattle.writer.proofs.ReadsCells.{Arrayed, Through, Filling, reads-turn, reads-cells}
-use Rattle.writer.proofs.ReadsCells.{changed-filled, filled-changed}
+use Rattle.writer.proofs.ReadsCells.{rewritten-filled, filled-rewritten}
 use Rattle.writer.proofs.WrittenFields.{reads-place}
 
 pub record Starts (k : ℕ) (p : Process) : Type 0 where
@@ -137,11 +137,11 @@ pub record Peopled (k : ℕ) (r : Row) (x : Node) : Type 0 where
 module _ (k : ℕ) (r : Row) (h : k ≤ 512) where
   through-processes : (c : ℕ) (x : Node) → c < 5 → Through (processesIn k r) (start r) c x → ProcessesOk k c x
   unfolding start bareNode
-  through-processes c x l g = record { few = omega arith; slots-ok = changed-filled refl (g .cells-ok) }
+  through-processes c x l g = record { few = omega arith; slots-ok = rewritten-filled refl (g .cells-ok) }
 
   processes-through : (x : Node) (g : Peopled k r x) → Through (processesIn k r) (start r) (g .count) x
   unfolding start bareNode
-  processes-through x g = record { frame = g .bare; cells-ok = filled-changed refl (g .slots .slots-ok) }
+  processes-through x g = record { frame = g .bare; cells-ok = filled-rewritten refl (g .slots .slots-ok) }
 
   pub reads-processes : Reads (processes k (bareNode r (replicate 4 freeProcess))) processesBits (Peopled k r)
   unfolding processes processesBits processAt start

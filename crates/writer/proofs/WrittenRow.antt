@@ -1,6 +1,6 @@
 -- The row of a node (`specs/Image.antt`, `specs/ImageOf.antt`, 2): what is read is what is written.
 -- Assumes nothing.
-use Prim.Native.Nat.{ℕ, _-_, _%_, _≤_}
+use Prim.Native.Nat.{ℕ, _%_, _≤_}
 use mathlib.Core.Path.{_≡_, refl, sym, ap, _∙_}
 use mathlib.Core.Bool.{Bool}
 use mathlib.Core.List.{_∷_}
@@ -9,15 +9,15 @@ use lib.ListN.{getD, replicate, length-replicate, getD-replicate}
 use lib.Seq.{set-getD, set-set}
 use lib.Dec.{eqb}
 use Rattle.writer.specs.Types.{Rights, Row}
-use Rattle.net.specs.Records.{noRights, zeroRow, rightsAt}
+use Rattle.net.specs.Records.{noRights, zeroRow, rightsAt, addressOf}
 use Rattle.net.specs.Records.{withRights}
-use Rattle.image.specs.Image.{rightsOf, creating, rights, row}
+use Rattle.image.specs.Image.{eachAddress, rightsOf, creating, rights, row}
 use Rattle.writer.specs.ImageOf.{bitsOf, joined, rightsBits, rowBits}
 use Rattle.writer.specs.ImageOf.{digit}
 use Rattle.net.proofs.Every.{Every, Filled}
 use Rattle.writer.proofs.ReadsWrites.{Reads, reads-then, reads-bits}
 use Rattle.writer.proofs.ReadsCells.{Arrayed, Through, Filling, reads-turn, reads-cells}
-use Rattle.writer.proofs.ReadsCells.{changed-filled, filled-changed}
+use Rattle.writer.proofs.ReadsCells.{rewritten-filled, filled-rewritten}
 use Rattle.writer.proofs.WrittenFields.{rights-written, rights-parts, digit-set, digit-small}
 use Rattle.image.proofs.PastRecords.{pastRights}
 
@@ -27,8 +27,8 @@ pub record RowOk (n : ℕ) (r : Row) : Type 0 where
 abbrev rightsIn : ℕ → Arrayed Row Rights
 rightsIn v = record {
   cells = λ r. r .rights;
-  put = λ i r x. withRights r i x;
-  cut = λ i r x. withRights r i x;
+  put = λ i r x. withRights r (addressOf i) x;
+  cut = λ i r x. withRights r (addressOf i) x;
   past = pastRights;
   Good = λ x. Unit {0};
   undo = λ x. noRights;
@@ -37,7 +37,7 @@ rightsIn v = record {
   size = 16;
 }
 
-filling-rights : (v n : ℕ) → n ≤ 16 → Filling (rightsIn v) (creating v) rights n rightsBits
+filling-rights : (v n : ℕ) → n ≤ 16 → Filling (rightsIn v) (creating v) (λ i. rights (addressOf i)) n rightsBits
 unfolding rights creating zeroRow withRights
 filling-rights v n l = record {
   room = l;
@@ -62,17 +62,17 @@ filling-rights v n l = record {
 
 through-rights : (v n : ℕ) (r : Row) → Through (rightsIn v) (creating v) n r → RowOk n r
 unfolding creating zeroRow
-through-rights v n r g = record { rights-ok = changed-filled refl (g .cells-ok) }
+through-rights v n r g = record { rights-ok = rewritten-filled refl (g .cells-ok) }
 
 rights-through : (v n : ℕ) (r : Row) → r .create ≡ eqb v 1 → RowOk n r → Through (rightsIn v) (creating v) n r
 unfolding creating zeroRow
-rights-through v n r e ok = record { frame = e; cells-ok = filled-changed refl (ok .rights-ok) }
+rights-through v n r e ok = record { frame = e; cells-ok = filled-rewritten refl (ok .rights-ok) }
 
 pub reads-row : (n : ℕ) → n ≤ 16 → Reads (row n) (rowBits n) (RowOk n)
-unfolding row rowBits rightsAt bitsOf
+unfolding row eachAddress rowBits rightsAt bitsOf
 reads-row n l =
     reads-then (reads-bits 1)
-    (λ v h. reads-cells (rightsIn v) (creating v) rights n rightsBits (filling-rights v n l))
+    (λ v h. reads-cells (rightsIn v) (creating v) (λ i. rights (addressOf i)) n rightsBits (filling-rights v n l))
     (record {
       keeps = λ v r h g. through-rights v n r g;
       writes = λ v r h g.

@@ -1,12 +1,12 @@
 -- A net between the passes of an image (`WrittenPasses.antt`): what stands at each address by then, and which parts of
 -- it later passes leave alone. Assumes nothing.
-use Prim.Native.Nat.{ℕ, _+_, _-_, _<_, _≤_}
+use Prim.Native.Nat.{ℕ, _+_, _<_, _≤_}
 use mathlib.Core.Path.{_≡_, refl, sym, ap, subst, _∙_}
 use mathlib.Core.List.{[], _++_}
 use native.Mathlib.Omega.{arith}
 use lib.ListN.{length, getD, replicate}
-use Rattle.writer.specs.Types.{Node, Net}
-use Rattle.net.specs.Records.{zeroTuple, zeroRow, zeroNode, emptyNet, nodeAt, processAt, withRow}
+use Rattle.writer.specs.Types.{Locality, Node, Net}
+use Rattle.net.specs.Records.{zeroTuple, zeroRow, zeroNode, emptyNet, nodeAt, processAt, withRow, addressOf}
 use Rattle.writer.specs.ImageOf.{bitsOf, joined, rowBits, processCount, processesBits, tuplesBits}
 use Rattle.writer.specs.ImageOf.{headerBits, rowsBits, allProcessesBits, allTuplesBits}
 use Rattle.net.proofs.Every.{Every, Filled}
@@ -39,7 +39,7 @@ pub record WithProcesses (n k : ℕ) (x : Node) : Type 0 where
   pub slots-ok : Slots k x
   pub bare : x ≡ emptied x
 
-pub record NodeOk (n k : ℕ) (x : Node) : Type 0 where
+pub record WithTuples (n k : ℕ) (x : Node) : Type 0 where
   pub row-ok : RowOk n (x .row)
   pub slots-ok : Slots k x
   pub store-ok : TuplesOk n x
@@ -103,7 +103,7 @@ slots-as k x y e g = record {
   slots = record { few = g .slots .few; slots-ok = subst (Every _ _ 4) e (g .slots .slots-ok) };
 }
 
-pub stocked : (s₀ s : Net) → Staged WithProcesses s₀ → TuplesPass s₀ s → Staged NodeOk s
+pub stocked : (s₀ s : Net) → Staged WithProcesses s₀ → TuplesPass s₀ s → Staged WithTuples s
 unfolding TuplesPass bareNode
 stocked s₀ s g t =
     staged-pass s₀ s g t
@@ -117,7 +117,7 @@ stocked s₀ s g t =
 pub record Keeps {X : Type 0} (part : Node → X) (s b : Net) : Type 0 where
   pub addresses-are : s .addresses ≡ b .addresses
   pub length-is : s .length ≡ b .length
-  pub parts-are : (a : ℕ) → a < s .addresses → part (nodeAt b a) ≡ part (nodeAt s a)
+  pub parts-are : (a : Locality) → a .0 < s .addresses → part (nodeAt b a) ≡ part (nodeAt s a)
 
 module _ {X : Type 0} (part : Node → X) where
   pub keeps-on : (s t b : Net) → Keeps part s t → Keeps part t b → Keeps part s b
@@ -133,7 +133,7 @@ module _ {X : Type 0} (part : Node → X) where
   pass-keeps s₀ s l t e = record {
     addresses-are = t .frame .addresses-are;
     length-is = t .frame .length-is;
-    parts-are = λ a h. sym (e _) ∙ ap part (t .cells-ok .holds a (omega arith) .undone h);
+    parts-are = λ a h. sym (e _) ∙ ap part (t .cells-ok .holds (a .0) (omega arith) .undone h);
   }
 
   pub code-keeps : (s₀ s : Net) → CodePass s₀ s → Keeps part s₀ s
@@ -141,7 +141,7 @@ module _ {X : Type 0} (part : Node → X) where
   code-keeps s₀ s t = record {
     addresses-are = t .frame .addresses-are;
     length-is = t .frame .length-is;
-    parts-are = λ a h. ap (λ xs. part (getD xs a pastNode)) (sym (t .frame .nodes-are));
+    parts-are = λ a h. ap (λ xs. part (getD xs (a .0) pastNode)) (sym (t .frame .nodes-are));
   }
 
 -- what is written of a part that stays
@@ -154,18 +154,18 @@ header-same s b e f =
 pub rows-same : (s b : Net) → Keeps (λ x. x .row) s b → rowsBits b ≡ rowsBits s
 unfolding rowsBits
 rows-same s b g =
-    ap (λ (n : ℕ). joined n (λ a. rowBits n (nodeAt b a .row))) (sym (g .addresses-are))
-    ∙ joined-same (s .addresses) _ _ (λ a h. ap (rowBits (s .addresses)) (g .parts-are a h))
+    ap (λ (n : ℕ). joined n (λ a. rowBits n (nodeAt b (addressOf a) .row))) (sym (g .addresses-are))
+    ∙ joined-same (s .addresses) _ _ (λ a h. ap (rowBits (s .addresses)) (g .parts-are (addressOf a) h))
 
 pub processes-same : (s b : Net) → Keeps (λ x. x .processes) s b → allProcessesBits b ≡ allProcessesBits s
 unfolding allProcessesBits processesBits processCount processAt
 processes-same s b g =
-    ap (λ (n : ℕ). joined n (λ a. processesBits (nodeAt b a))) (sym (g .addresses-are))
+    ap (λ (n : ℕ). joined n (λ a. processesBits (nodeAt b (addressOf a)))) (sym (g .addresses-are))
     ∙ joined-same (s .addresses) _ _ (λ a h.
-    ap (λ ps. processesBits (record { row = zeroRow; processes = ps; stored = 0; tuples = [] })) (g .parts-are a h))
+    ap (λ ps. processesBits (record { row = zeroRow; processes = ps; stored = 0; tuples = [] })) (g .parts-are (addressOf a) h))
 
 pub tuples-same : (s b : Net) → Keeps (λ x. x) s b → allTuplesBits b ≡ allTuplesBits s
 unfolding allTuplesBits
 tuples-same s b g =
-    ap (λ (n : ℕ). joined n (λ a. tuplesBits (nodeAt b a))) (sym (g .addresses-are))
-    ∙ joined-same (s .addresses) _ _ (λ a h. ap tuplesBits (g .parts-are a h))
+    ap (λ (n : ℕ). joined n (λ a. tuplesBits (nodeAt b (addressOf a)))) (sym (g .addresses-are))
+    ∙ joined-same (s .addresses) _ _ (λ a h. ap tuplesBits (g .parts-are (addressOf a) h))

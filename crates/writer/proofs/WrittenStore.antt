@@ -1,6 +1,6 @@
 -- The tuples of a node (`specs/Image.antt`, `specs/ImageOf.antt`, 4): what is read is what is written.
 -- Assumes nothing.
-use Prim.Native.Nat.{ℕ, suc, _+_, _-_, _<_, _≤_}
+use Prim.Native.Nat.{ℕ, suc, _+_, _<_, _≤_}
 use mathlib.Core.Path.{_≡_, refl, sym, ap, subst, _∙_}
 use mathlib.Core.List.{List, _++_}
 use native.Mathlib.Omega.{arith}
@@ -18,7 +18,7 @@ use Rattle.net.proofs.Every.{Every, Filled}
 use Rattle.net.proofs.Past.{pastTuple}
 use Rattle.writer.proofs.ReadsWrites.{Reads, reads-then, reads-field}
 use Rattle.writer.proofs.ReadsCells.{Arrayed, Through, Filling, reads-turn, reads-cells}
-use Rattle.writer.proofs.ReadsCells.{changed-filled, filled-changed}
+use Rattle.writer.proofs.ReadsCells.{rewritten-filled, filled-rewritten}
 use Rattle.writer.proofs.WrittenTuples.{TupleOk, reads-tuple}
 use Rattle.writer.proofs.WrittenProcesses.{bareNode, node-is}
 
@@ -105,7 +105,7 @@ module _ (n : ℕ) (r : Row) (ps : List Process) (h : n ≤ 16) where
   through-tuples c x l g =
       let e = g .frame .stored-is in
       record {
-        store = record { few = omega arith; tuples-ok = changed-filled (sym e) (g .cells-ok) };
+        store = record { few = omega arith; tuples-ok = rewritten-filled (sym e) (g .cells-ok) };
         same-row = g .frame .row-is;
         same-processes = g .frame .processes-are;
       }
@@ -114,7 +114,7 @@ module _ (n : ℕ) (r : Row) (ps : List Process) (h : n ≤ 16) where
   unfolding bareNode
   tuples-through x g = record {
     frame = record { row-is = g .same-row; processes-are = g .same-processes; stored-is = refl };
-    cells-ok = filled-changed refl (g .store .tuples-ok);
+    cells-ok = filled-rewritten refl (g .store .tuples-ok);
   }
 
   pub reads-tuples : Reads (tuples n (bareNode r ps)) tuplesBits (Stocked n r ps)

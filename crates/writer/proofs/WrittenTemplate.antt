@@ -19,7 +19,7 @@ use Rattle.net.proofs.Laws.{choose-true, implies-i, implies-e, all-i, all-e, sp
 use Rattle.net.proofs.Every.{Every, Filled}
 use Rattle.image.proofs.PastRecords.{pastTemplate}
 use Rattle.writer.proofs.ReadsWrites.{Reads, reads-then, reads-bits}
-use Rattle.writer.proofs.ReadsCells.{Arrayed, Through, Filling, reads-turn, reads-cells, changed-filled, filled-changed}
+use Rattle.writer.proofs.ReadsCells.{Arrayed, Through, Filling, reads-turn, reads-cells, rewritten-filled, filled-rewritten}
 use Rattle.writer.proofs.WrittenPatterns.{PatternOk, reads-pattern}
 
 -- ---- a template
@@ -189,7 +189,7 @@ module _ (formals : Bool) (n : ℕ) (h : n ≤ 16) where
   unfolding zeroInstruction
   template-through c k e ok = record {
     frame = record { action-is = ok .no-action; count-is = e; anew = λ j l. ok .anew j (omega arith) };
-    cells-ok = filled-changed (sym e) (ok .patterns-ok);
+    cells-ok = filled-rewritten (sym e) (ok .patterns-ok);
   }
 
   through-template : (c : Instruction) (less : ℕ) → less < 4
@@ -201,7 +201,7 @@ module _ (formals : Bool) (n : ℕ) (h : n ≤ 16) where
         no-action = g .frame .action-is;
         least = omega arith;
         most = omega arith;
-        patterns-ok = changed-filled (sym e) (g .cells-ok);
+        patterns-ok = rewritten-filled (sym e) (g .cells-ok);
         anew = λ j m. g .frame .anew j (omega arith);
       }
 

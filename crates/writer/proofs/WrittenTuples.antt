@@ -22,7 +22,7 @@ use Rattle.net.proofs.Every.{Every, Filled}
 use Rattle.image.proofs.PastRecords.{pastField}
 use Rattle.writer.proofs.ReadsWrites.{Reads, reads-then, reads-map, reads-bits}
 use Rattle.writer.proofs.ReadsParts.{Kinded, reads-kind}
-use Rattle.writer.proofs.ReadsCells.{Arrayed, Through, Filling, reads-turn, reads-cells, changed-filled, filled-changed}
+use Rattle.writer.proofs.ReadsCells.{Arrayed, Through, Filling, reads-turn, reads-cells, rewritten-filled, filled-rewritten}
 use Rattle.writer.proofs.WrittenFields.{reads-address, reads-reading}
 
 -- ---- a field
@@ -143,13 +143,13 @@ module _ (n : ℕ) (h : n ≤ 16) where
 
   fields-through : (t : Tuple) (k : ℕ) → t .count ≡ k → TupleOk n t → Through (fieldsOf n) zeroTuple k t
   unfolding zeroTuple
-  fields-through t k e ok = record { frame = e; cells-ok = filled-changed e (ok .fields-ok) }
+  fields-through t k e ok = record { frame = e; cells-ok = filled-rewritten e (ok .fields-ok) }
 
   through-fields : (t : Tuple) (less : ℕ) → less < 4 → Through (fieldsOf n) zeroTuple (less + 1) t → TupleOk n t
   unfolding zeroTuple
   through-fields t less l g =
       let e = g .frame in
-      record { least = omega arith; most = omega arith; fields-ok = changed-filled e (g .cells-ok) }
+      record { least = omega arith; most = omega arith; fields-ok = rewritten-filled e (g .cells-ok) }
 
   pub reads-tuple : Reads (tuple n) tupleBits (TupleOk n)
   unfolding tuple tupleBits fieldAt

@@ -1,6 +1,6 @@
 -- The nets that the layout of an image gives (`WrittenNet.antt`), said of the net alone: what stands at each address and
 -- at each place of the code. Assumes nothing.
-use Prim.Native.Nat.{ℕ, zero, suc, _-_, _<_}
+use Prim.Native.Nat.{ℕ, zero, suc, _<_}
 use mathlib.Core.Path.{_≡_, refl, sym, ap, subst, subst₂, _∙_}
 use mathlib.Core.List.{List, [], _∷_, map}
 use native.Mathlib.Omega.{arith}
@@ -14,7 +14,7 @@ use Rattle.writer.proofs.ReadsCells.{Through}
 use Rattle.writer.proofs.WrittenCode.{InstructionOk}
 use Rattle.writer.proofs.WrittenPasses.{net-is, passOver, rowless, free, vacated}
 use Rattle.writer.proofs.WrittenPasses.{emptied, codeOf, RowsPass, ProcessesPass, TuplesPass, CodePass}
-use Rattle.writer.proofs.WrittenStages.{Staged, Blank, NodeOk, rowed, peopled, stocked}
+use Rattle.writer.proofs.WrittenStages.{Staged, Blank, WithTuples, rowed, peopled, stocked}
 use Rattle.writer.proofs.WrittenNet.{body, FromTuples, FromProcesses, FromRows, FromHeader, reads-fromHeader}
 use Rattle.writer.proofs.WrittenNet.{empty-at}
 use Rattle.image.proofs.PastRecords.{pastNode, pastInstruction}
@@ -24,13 +24,13 @@ pub record NetOk (s : Net) : Type 0 where
   pub addresses-ok : Ranged 1 17 (s .addresses)
   pub length-ok : Ranged 1 513 (s .length)
   pub nodes-ok :
-      Every (Filled (NodeOk (s .addresses) (s .length)) (λ x. zeroNode ≡ x) (s .addresses)) pastNode 16 (s .nodes)
+      Every (Filled (WithTuples (s .addresses) (s .length)) (λ x. zeroNode ≡ x) (s .addresses)) pastNode 16 (s .nodes)
   pub code-ok :
       Every (Filled (InstructionOk (s .addresses) (s .length)) (λ c. zeroInstruction ≡ c) (s .length)) pastInstruction 512
       (s .code)
 
 -- ---- what the passes give
-module _ (s b : Net) (g : Staged NodeOk s) (t : Through (codeOf s) s (s .length) b) where
+module _ (s b : Net) (g : Staged WithTuples s) (t : Through (codeOf s) s (s .length) b) where
   -- the net before its code is read, in the words of the net after it
   before : s ≡ record { addresses = b .addresses; length = b .length; nodes = b .nodes; code = s .code }
   before =
@@ -49,7 +49,7 @@ module _ (s b : Net) (g : Staged NodeOk s) (t : Through (codeOf s) s (s .length)
 
   coded : NetOk b
   coded =
-      let stage = subst (Staged NodeOk) before g in
+      let stage = subst (Staged WithTuples) before g in
       record {
         addresses-ok = stage .addresses-ok;
         length-ok = stage .length-ok;
@@ -83,7 +83,7 @@ module _ (b : Net) (ok : NetOk b) where
   node-at f a h = map-at f (b .nodes) a pastNode pastNode (omega (arith, ok .nodes-ok .size-is))
 
   pass : (f g undo : Node → Node) (Good : Node → Type 0) → ((x : Node) → undo (g x) ≡ f x) → f zeroNode ≡ g zeroNode
-      → ((x : Node) → NodeOk (b .addresses) (b .length) x → Good (g x))
+      → ((x : Node) → WithTuples (b .addresses) (b .length) x → Good (g x))
       → Through (passOver (stage f b) Good undo) (stage f b) (b .addresses) (stage g b)
   unfolding stage
   pass f g undo Good u z good = record {

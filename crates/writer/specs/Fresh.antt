@@ -6,7 +6,7 @@ use lib.ListN.{length}
 use lib.Dec.{eqb, ltb}
 use lib.IntN.{ℤ}
 use Rattle.net.specs.Choice.{choose, both, all}
-use Rattle.net.specs.Records.{fieldAt, variableAt, processAt, tupleAt, patternAt, nodeAt, instructionAt}
+use Rattle.net.specs.Records.{fieldAt, variableAt, processAt, tupleAt, patternAt, nodeAt, instructionAt, addressOf, placeOf}
 use Rattle.net.specs.Soundness.{isUnset, soundOf}
 use Rattle.writer.specs.Types.{Item, Tuple, Process, Node, Pattern, Instruction, Net}
 use Rattle.image.specs.Image.{admits}
@@ -47,8 +47,8 @@ instructionFits c = both (eqb (length (c .template)) 4) (all 4 (λ i. patternFit
 
 unfoldable pub netFits : Net → Bool
 netFits s =
-    both (both (eqb (length (s .nodes)) 16) (all 16 (λ a. nodeFits (nodeAt s a))))
-    (both (eqb (length (s .code)) 512) (all 512 (λ p. instructionFits (instructionAt (s .code) p))))
+    both (both (eqb (length (s .nodes)) 16) (all 16 (λ a. nodeFits (nodeAt s (addressOf a)))))
+    (both (eqb (length (s .code)) 512) (all 512 (λ p. instructionFits (instructionAt (s .code) (placeOf p)))))
 
 -- ---- "They fill slots 0 upward" ("The image", 3); "8 variables for each process, all unset at the start" ("The net")
 
@@ -64,4 +64,4 @@ nodeStarts x = all 4 (slotStarts x)
 -- ---- the whole: counts, addresses, places and variables in range, rules 26 and 27, zero or unset elsewhere (sound),
 -- processes as they start, and rule 30
 unfoldable pub freshOf : Net → Bool
-freshOf s = both (netFits s) (both (soundOf s) (both (all 16 (λ a. nodeStarts (nodeAt s a))) (admits s)))
+freshOf s = both (netFits s) (both (soundOf s) (both (all 16 (λ a. nodeStarts (nodeAt s (addressOf a)))) (admits s)))

@@ -9,7 +9,7 @@ use lib.IntN.{ℤ}
 use Rattle.net.specs.Choice.{choose, fold}
 use Rattle.writer.specs.Types.{Locality, Place, Item, Tuple, Rights, Row, Node}
 use Rattle.writer.specs.Types.{Target, Pattern, Action, Instruction, Net}
-use Rattle.net.specs.Records.{fieldAt, rightsAt, processAt, tupleAt, patternAt, nodeAt, instructionAt}
+use Rattle.net.specs.Records.{fieldAt, rightsAt, processAt, tupleAt, patternAt, nodeAt, instructionAt, addressOf, placeOf}
 
 -- ---- numbers, and one part after another
 
@@ -47,7 +47,7 @@ unfoldable pub rightsBits : Rights → List Bool
 rightsBits r = r .take ∷ r .read ∷ r .put ∷ r .send ∷ []
 
 unfoldable pub rowBits : ℕ → Row → List Bool
-rowBits n r = r .create ∷ joined n (λ l. rightsBits (rightsAt r l))
+rowBits n r = r .create ∷ joined n (λ l. rightsBits (rightsAt r (addressOf l)))
 
 -- ---- 3. the processes of a node: their number, then the first place of each
 unfoldable pub processCount : Node → ℕ
@@ -99,16 +99,16 @@ instructionBits c = actionBits c (c .action)
 
 -- ---- 1 to 5, the whole
 unfoldable pub rowsBits : Net → List Bool
-rowsBits s = joined (s .addresses) (λ a. rowBits (s .addresses) (nodeAt s a .row))
+rowsBits s = joined (s .addresses) (λ a. rowBits (s .addresses) (nodeAt s (addressOf a) .row))
 
 unfoldable pub allProcessesBits : Net → List Bool
-allProcessesBits s = joined (s .addresses) (λ a. processesBits (nodeAt s a))
+allProcessesBits s = joined (s .addresses) (λ a. processesBits (nodeAt s (addressOf a)))
 
 unfoldable pub allTuplesBits : Net → List Bool
-allTuplesBits s = joined (s .addresses) (λ a. tuplesBits (nodeAt s a))
+allTuplesBits s = joined (s .addresses) (λ a. tuplesBits (nodeAt s (addressOf a)))
 
 unfoldable pub codeBits : Net → List Bool
-codeBits s = joined (s .length) (λ p. instructionBits (instructionAt (s .code) p))
+codeBits s = joined (s .length) (λ p. instructionBits (instructionAt (s .code) (placeOf p)))
 
 unfoldable pub netBits : Net → List Bool
 netBits s = headerBits s ++ (rowsBits s ++ (allProcessesBits s ++ (allTuplesBits s ++ codeBits s)))

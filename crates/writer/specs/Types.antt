@@ -15,5 +15,5 @@ pub use Rattle.net.specs.declared.instruction.Action.{Action}
 pub use Rattle.net.specs.declared.instruction.Instruction.{Instruction}
 pub use Rattle.net.specs.declared.network.Net.{Net}
 pub use Rattle.image.specs.declared.reader.Fault.{Fault}
-pub use Rattle.image.specs.declared.reader.Answer.{Answer}
+pub use Rattle.image.specs.declared.reader.Verdict.{Verdict}
 pub use Rattle.image.specs.declared.reader.Opened.{Opened}

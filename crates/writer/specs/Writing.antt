@@ -1,5 +1,6 @@
--- How the code's writers stand for lists of bits (`src/bits.rt`): each takes a buffer of bits and a place, and gives the
--- place after its bits, or one past the buffer's end once they no longer fit. With the counts that its arrays can hold,
+-- Describes the code, and is no part of what a reader has to believe: how writers into a lent
+-- buffer stand for lists (`src/bits.rt`). Each takes a buffer and a place, and gives the place after what it wrote, or one
+-- past the buffer's end once that no longer fits. With the counts that its arrays can hold,
 -- which a sound net has (document 01, "The net"), and what the packing of bits into bytes gives.
 use Prim.Native.Nat.{ℕ, _+_, _-_, _*_, _<_, _≤_}
 use mathlib.Core.Path.{_≡_}
@@ -8,7 +9,7 @@ use mathlib.Core.List.{List, [], _∷_}
 use lib.ListN.{length}
 use lib.IntN.{ℤ}
 use Rattle.net.specs.Records.{tupleAt, nodeAt, instructionAt}
-use Rattle.writer.specs.Types.{Node, Net}
+use Rattle.writer.specs.Types.{Locality, Place, Node, Net}
 use Rattle.writer.specs.Buffer.{over}
 use Rattle.writer.specs.ImageOf.{joined, numberIn}
 
@@ -32,8 +33,8 @@ pub record NodeCounts (x : Node) : Type 0 where
 pub record Counts (s : Net) : Type 0 where
   pub addresses-few : s .addresses ≤ 16
   pub length-few : s .length ≤ 512
-  pub nodes-few : (a : ℕ) → a < 16 → NodeCounts (nodeAt s a)
-  pub code-few : (p : ℕ) → p < 512 → instructionAt (s .code) p .count ≤ 4
+  pub nodes-few : (a : Locality) → a .0 < 16 → NodeCounts (nodeAt s a)
+  pub code-few : (p : Place) → p .0 < 512 → instructionAt (s .code) p .count ≤ 4
 
 -- the first n bytes that hold the bits
 unfoldable pub bytesIn : List Bool → ℕ → List ℕ

@@ -10,7 +10,7 @@ ghost use Prim.Native.Nat.{_+_, _<_, _≤_};
 ghost use mathlib.Core.Bool.{not};
 ghost use mathlib.Core.Path.{_≡_};
 ghost use Rattle.net.specs.Choice.{choose, both, all};
-ghost use Rattle.net.specs.Records.{variableAt, nodeAt};
+ghost use Rattle.net.specs.Records.{variableAt, nodeAt, addressOf};
 ghost use Rattle.net.specs.Soundness.{isUnset};
 ghost use Rattle.writer.specs.ImageOf.{processCount};
 ghost use Rattle.writer.specs.Fresh.{nodeStarts, freshOf};
@@ -97,7 +97,7 @@ fn node_starts(x: Node) -> bool
 
 // Whether each node's slots do.
 fn nodes_start(net: Net) -> bool
-    ensures { λ r. ⌜ r ≡ all 16 (λ a. nodeStarts (nodeAt net a)) ⌝ }
+    ensures { λ r. ⌜ r ≡ all 16 (λ a. nodeStarts (nodeAt net (addressOf a))) ⌝ }
 {
     let mut ok = true;
     let mut i = 0;

@@ -16,7 +16,7 @@ use net::tuple::Tuple;
 ghost use Prim.Native.Nat.{_≤_};
 ghost use mathlib.Core.Bool.{true, false};
 ghost use mathlib.Core.List.{_∷_};
-ghost use Rattle.net.specs.Records.{fieldAt, rightsAt, processAt, tupleAt};
+ghost use Rattle.net.specs.Records.{fieldAt, rightsAt, processAt, tupleAt, addressOf};
 ghost use Rattle.writer.specs.ImageOf.{joined, addressBits, placeBits, readingBits, rightsBits, rowBits, processesBits};
 ghost use Rattle.writer.specs.ImageOf.{itemBits, tupleBits, tuplesBits, rowsBits, allProcessesBits, allTuplesBits};
 ghost use Rattle.writer.specs.Writing.{Wrote, NodeCounts, Counts};
@@ -34,7 +34,7 @@ fn put_rights(out: &mut [bool], at: usize, rights: Rights) -> usize
 // The rights over each of n addresses.
 fn put_all_rights(out: &mut [bool], at: usize, n: usize, row: Row) -> usize
     requires { ⌜ n ≤ 16 ⌝ }
-    ensures { λ r. ⌜ Wrote (now (out .entry)) at (joined n (λ l. rightsBits (rightsAt row l))) (now (out .exit)) r ⌝ }
+    ensures { λ r. ⌜ Wrote (now (out .entry)) at (joined n (λ l. rightsBits (rightsAt row (addressOf l)))) (now (out .exit)) r ⌝ }
 {
     let mut next = at;
     let mut i = 0;

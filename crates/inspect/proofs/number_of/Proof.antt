@@ -2,13 +2,13 @@
 use Prim.Native.Nat.{ℕ}
 use mathlib.Core.Path.{_≡_}
 use Rattle.image.specs.Image.{numberOf}
-use Rattle.image.specs.declared.reader.Answer.{Answer}
+use Rattle.image.specs.declared.reader.Verdict.{Verdict}
 use borrow.Author.Needs.{needs}
 use Rattle.inspect.proofs.number_of.Statement.{statement}
 use Rattle.inspect.proofs.number_of.Tie as tie
 
 -- the number in an arm, by what the arm knows of the answer
-by : (x y : Answer) (r : ℕ) → x ≡ y → r ≡ numberOf y → r ≡ numberOf x
+by : (x y : Verdict) (r : ℕ) → x ≡ y → r ≡ numberOf y → r ≡ numberOf x
 by x y r p q = rw p q
 
 pub number-of-spec : {M : Type 1} → statement M

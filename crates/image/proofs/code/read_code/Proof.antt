@@ -4,20 +4,20 @@ use Rattle.image.proofs.ImageLaws.{instruction-turn}
 use Rattle.image.specs.Progress.{seen, Loop}
 use Prim.Native.Nat.{_-_}
 use mathlib.Core.Path.{_≡_}
-use Rattle.net.specs.Records.{withInstruction}
-use Rattle.image.specs.Image.{code, instructionOf}
+use Rattle.net.specs.Records.{placeOf, withInstruction}
+use Rattle.image.specs.Image.{eachPlace, code, instructionOf}
 use borrow.Author.Needs.{needs}
 use Rattle.image.proofs.code.read_code.Statement.{statement}
 use Rattle.image.proofs.code.read_code.Tie as tie
 
 abbrev Inv-loop : tie.InvT-loop
-Inv-loop s n k net₀ step₀ i₀ net step i = (net .addresses ≡ n) × ((net .length ≡ k) × Loop (seen s) step₀ k instructionOf net₀ step i net)
+Inv-loop s n k net₀ step₀ i₀ net step i = (net .addresses ≡ n) × ((net .length ≡ k) × Loop (seen s) step₀ k (λ p. instructionOf (placeOf p)) net₀ step i net)
 
 abbrev μ-loop : tie.MeasureT-loop
 μ-loop s n k net₀ step₀ i₀ net step i = k - i
 
 pub read-code-spec : {M : Type 1} → statement M
-unfolding withInstruction code
+unfolding withInstruction code eachPlace
 read-code-spec =
     tie.close
     (tie.spec

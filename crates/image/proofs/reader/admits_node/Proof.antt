@@ -10,7 +10,7 @@ use Rattle.image.proofs.reader.admits_node.Statement.{statement}
 use Rattle.image.proofs.reader.admits_node.Tie as tie
 
 abbrev Inv-loop : tie.InvT-loop
-Inv-loop code a x row ok₀ i₀ ok i = (i ≤ 4) × (ok ≡ all i (λ j. admitsProcess code row (a .0) (processAt x j)))
+Inv-loop code a x row ok₀ i₀ ok i = (i ≤ 4) × (ok ≡ all i (λ j. admitsProcess code row a (processAt x j)))
 
 abbrev μ-loop : tie.MeasureT-loop
 μ-loop code a x row ok₀ i₀ ok i = 4 - i

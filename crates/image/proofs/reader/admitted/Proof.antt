@@ -1,17 +1,16 @@
 -- `image::reader::admitted` meets its contract. Assumes nothing.
 use Rattle.net.proofs.AllLaws.{all-none, all-more, all-end}
-use Rattle.net.specs.Choice.{all, implies}
-use Rattle.net.specs.Records.{nodeAt}
-use Rattle.image.specs.Image.{admitsNode, admits}
+use Rattle.net.specs.Choice.{all}
+use Rattle.net.specs.Records.{addressOf}
+use Rattle.image.specs.Image.{admitsAt, admits}
 use mathlib.Core.Path.{_≡_}
 use Prim.Native.Nat.{_≤_, _-_}
-use lib.Dec.{ltb}
 use borrow.Author.Needs.{needs}
 use Rattle.image.proofs.reader.admitted.Statement.{statement}
 use Rattle.image.proofs.reader.admitted.Tie as tie
 
 abbrev Inv-loop : tie.InvT-loop
-Inv-loop net ok₀ i₀ ok i = (i ≤ 16) × (ok ≡ all i (λ j. implies (ltb j (net .addresses)) (admitsNode (net .code) j (nodeAt net j))))
+Inv-loop net ok₀ i₀ ok i = (i ≤ 16) × (ok ≡ all i (λ j. admitsAt net (addressOf j)))
 
 abbrev μ-loop : tie.MeasureT-loop
 μ-loop net ok₀ i₀ ok i = 16 - i
@@ -24,6 +23,7 @@ admitted-spec =
     Inv-loop
     μ-loop
     (λ c. search (needs, all-none))
+    (λ c. search needs)
     (λ c κs. search needs)
     (λ c. search needs)
     (λ c. search needs)

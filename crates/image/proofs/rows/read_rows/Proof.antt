@@ -1,23 +1,23 @@
 -- `image::rows::read_rows` meets its contract. Assumes nothing.
 use Rattle.image.proofs.ReaderLaws.{begin, turn, every}
 use Rattle.image.proofs.ImageLaws.{row-turn}
-use Rattle.image.specs.Image.{rowOf, rows}
+use Rattle.image.specs.Image.{eachAddress, rowOf, rows}
 use Rattle.image.specs.Progress.{seen, Loop}
 use Prim.Native.Nat.{_-_}
 use mathlib.Core.Path.{_≡_}
-use Rattle.net.specs.Records.{nodeAt, withNode, withRow}
+use Rattle.net.specs.Records.{addressOf, nodeAt, withNode, withRow}
 use borrow.Author.Needs.{needs}
 use Rattle.image.proofs.rows.read_rows.Statement.{statement}
 use Rattle.image.proofs.rows.read_rows.Tie as tie
 
 abbrev Inv-loop : tie.InvT-loop
-Inv-loop s n net₀ step₀ i₀ net step i = (net .addresses ≡ n) × ((net .length ≡ net₀ .length) × Loop (seen s) step₀ n rowOf net₀ step i net)
+Inv-loop s n net₀ step₀ i₀ net step i = (net .addresses ≡ n) × ((net .length ≡ net₀ .length) × Loop (seen s) step₀ n (λ a. rowOf (addressOf a)) net₀ step i net)
 
 abbrev μ-loop : tie.MeasureT-loop
 μ-loop s n net₀ step₀ i₀ net step i = n - i
 
 pub read-rows-spec : {M : Type 1} → statement M
-unfolding nodeAt withNode withRow rows
+unfolding nodeAt withNode withRow rows eachAddress
 read-rows-spec =
     tie.close
     (tie.spec

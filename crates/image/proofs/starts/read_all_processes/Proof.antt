@@ -4,20 +4,20 @@ use Rattle.image.proofs.ImageLaws.{processes-turn}
 use Rattle.image.specs.Progress.{seen, Loop}
 use Prim.Native.Nat.{_-_}
 use mathlib.Core.Path.{_≡_}
-use Rattle.net.specs.Records.{nodeAt, withNode}
-use Rattle.image.specs.Image.{allProcesses, processesOf}
+use Rattle.net.specs.Records.{addressOf, nodeAt, withNode}
+use Rattle.image.specs.Image.{eachAddress, allProcesses, processesOf}
 use borrow.Author.Needs.{needs}
 use Rattle.image.proofs.starts.read_all_processes.Statement.{statement}
 use Rattle.image.proofs.starts.read_all_processes.Tie as tie
 
 abbrev Inv-loop : tie.InvT-loop
-Inv-loop s n k net₀ step₀ i₀ net step i = (net .addresses ≡ n) × ((net .length ≡ k) × Loop (seen s) step₀ n processesOf net₀ step i net)
+Inv-loop s n k net₀ step₀ i₀ net step i = (net .addresses ≡ n) × ((net .length ≡ k) × Loop (seen s) step₀ n (λ a. processesOf (addressOf a)) net₀ step i net)
 
 abbrev μ-loop : tie.MeasureT-loop
 μ-loop s n k net₀ step₀ i₀ net step i = n - i
 
 pub read-all-processes-spec : {M : Type 1} → statement M
-unfolding nodeAt withNode allProcesses
+unfolding nodeAt withNode allProcesses eachAddress
 read-all-processes-spec =
     tie.close
     (tie.spec

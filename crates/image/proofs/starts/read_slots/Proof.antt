@@ -3,7 +3,6 @@ use Rattle.image.proofs.ReaderLaws.{begin, turn, every}
 use Rattle.image.proofs.ImageLaws.{process-turn}
 use Rattle.image.specs.Progress.{seen, Loop}
 use Prim.Native.Nat.{_-_}
-use mathlib.Core.Path.{_≡_}
 use Rattle.net.specs.Records.{withProcess}
 use Rattle.image.specs.Image.{process}
 use borrow.Author.Needs.{needs}

@@ -3,7 +3,6 @@ use Rattle.image.proofs.ReaderLaws.{begin-as, turn, every}
 use Rattle.image.proofs.ImageLaws.{field-turn}
 use Rattle.image.specs.Progress.{seen, Loop}
 use Prim.Native.Nat.{_-_}
-use mathlib.Core.Path.{_≡_}
 use Rattle.image.specs.Image.{tupleField}
 use Rattle.net.specs.Records.{zeroTuple}
 use borrow.Author.Needs.{needs}

@@ -3,7 +3,6 @@ use Rattle.image.proofs.ReaderLaws.{begin, turn, every}
 use Rattle.image.proofs.ImageLaws.{tuple-turn}
 use Rattle.image.specs.Progress.{seen, Loop}
 use Prim.Native.Nat.{_-_}
-use mathlib.Core.Path.{_≡_}
 use Rattle.image.specs.Image.{stored}
 use borrow.Author.Needs.{needs}
 use Rattle.image.proofs.stores.read_store.Statement.{statement}

@@ -2,7 +2,7 @@
 use Rattle.net.proofs.AllLaws.{all-none, all-more}
 use Rattle.net.proofs.KeepingLaws.{keeps-end}
 use Rattle.net.specs.Choice.{all, implies}
-use Rattle.net.specs.Records.{instructionAt}
+use Rattle.net.specs.Records.{instructionAt, placeOf}
 use Rattle.net.specs.Keeping.{permits}
 use mathlib.Core.Path.{_≡_}
 use Prim.Native.Nat.{_≤_, _-_}
@@ -13,7 +13,7 @@ use Rattle.net.proofs.keeping.keeps.Statement.{statement}
 use Rattle.net.proofs.keeping.keeps.Tie as tie
 
 abbrev Inv-loop : tie.InvT-loop
-Inv-loop a row code marks ok₀ i₀ ok i = (i ≤ 512) × (ok ≡ all i (λ q. implies (getD marks q false) (permits row a (instructionAt code q .action))))
+Inv-loop a row code marks ok₀ i₀ ok i = (i ≤ 512) × (ok ≡ all i (λ q. implies (getD marks q false) (permits row a (instructionAt code (placeOf q) .action))))
 
 abbrev μ-loop : tie.MeasureT-loop
 μ-loop a row code marks ok₀ i₀ ok i = 512 - i

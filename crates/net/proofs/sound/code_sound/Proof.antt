@@ -3,7 +3,7 @@ use Prim.Native.Nat.{_≤_, _-_}
 use mathlib.Core.Path.{_≡_}
 use lib.Dec.{ltb}
 use Rattle.net.specs.Choice.{choose, all}
-use Rattle.net.specs.Records.{instructionAt}
+use Rattle.net.specs.Records.{instructionAt, placeOf}
 use Rattle.net.specs.Soundness.{instructionSound, isZeroInstruction, codeSound}
 use Rattle.net.proofs.AllLaws.{all-none, all-more, all-end}
 use borrow.Author.Needs.{needs}
@@ -15,8 +15,8 @@ Inv-loop net ok₀ p₀ ok p =
     (p ≤ 512) ×
     (ok ≡ all p
     (λ m. choose (ltb m (net .length))
-    (instructionSound (net .addresses) (net .length) (instructionAt (net .code) m))
-    (isZeroInstruction (instructionAt (net .code) m))))
+    (instructionSound (net .addresses) (net .length) (instructionAt (net .code) (placeOf m)))
+    (isZeroInstruction (instructionAt (net .code) (placeOf m)))))
 
 abbrev μ-loop : tie.MeasureT-loop
 μ-loop net ok₀ p₀ ok p = 512 - p
@@ -29,6 +29,7 @@ code-sound-spec =
     Inv-loop
     μ-loop
     (λ c. search (needs, all-none))
+    (λ c. search needs)
     (λ c. search needs)
     (λ c. search needs)
     (λ c κs. search needs)

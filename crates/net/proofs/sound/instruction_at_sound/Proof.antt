@@ -8,6 +8,7 @@ pub instruction-at-sound-spec : {M : Type 1} → statement M
 instruction-at-sound-spec =
     tie.close
     (tie.spec
+    (λ c. search needs)
     (λ c κs. search needs)
     (λ c κs. search needs)
     (λ c. search (needs, branches))

@@ -2,7 +2,7 @@
 use Prim.Native.Nat.{_≤_, _-_}
 use mathlib.Core.Path.{_≡_}
 use Rattle.net.specs.Choice.{all}
-use Rattle.net.specs.Records.{rightsAt}
+use Rattle.net.specs.Records.{rightsAt, addressOf}
 use Rattle.net.specs.Soundness.{isNone, isZeroRow}
 use Rattle.net.proofs.AllLaws.{all-none, all-more, all-end, and-both}
 use borrow.Author.Needs.{needs}
@@ -10,7 +10,7 @@ use Rattle.net.proofs.sound.is_zero_row.Statement.{statement}
 use Rattle.net.proofs.sound.is_zero_row.Tie as tie
 
 abbrev Inv-loop : tie.InvT-loop
-Inv-loop row ok₀ l₀ ok l = (l ≤ 16) × (ok ≡ all l (λ m. isNone (rightsAt row m)))
+Inv-loop row ok₀ l₀ ok l = (l ≤ 16) × (ok ≡ all l (λ m. isNone (rightsAt row (addressOf m))))
 
 abbrev μ-loop : tie.MeasureT-loop
 μ-loop row ok₀ l₀ ok l = 16 - l

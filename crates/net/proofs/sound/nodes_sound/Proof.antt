@@ -3,7 +3,7 @@ use Prim.Native.Nat.{_≤_, _-_}
 use mathlib.Core.Path.{_≡_}
 use lib.Dec.{ltb}
 use Rattle.net.specs.Choice.{choose, all}
-use Rattle.net.specs.Records.{nodeAt}
+use Rattle.net.specs.Records.{nodeAt, addressOf}
 use Rattle.net.specs.Soundness.{nodeSound, isZeroNode, nodesSound}
 use Rattle.net.proofs.AllLaws.{all-none, all-more, all-end}
 use borrow.Author.Needs.{needs}
@@ -15,8 +15,8 @@ Inv-loop net ok₀ a₀ ok a =
     (a ≤ 16) ×
     (ok ≡ all a
     (λ m. choose (ltb m (net .addresses))
-    (nodeSound (net .addresses) (net .length) (nodeAt net m))
-    (isZeroNode (nodeAt net m))))
+    (nodeSound (net .addresses) (net .length) (nodeAt net (addressOf m)))
+    (isZeroNode (nodeAt net (addressOf m)))))
 
 abbrev μ-loop : tie.MeasureT-loop
 μ-loop net ok₀ a₀ ok a = 16 - a
@@ -29,6 +29,7 @@ nodes-sound-spec =
     Inv-loop
     μ-loop
     (λ c. search (needs, all-none))
+    (λ c. search needs)
     (λ c. search needs)
     (λ c. search needs)
     (λ c κs. search needs)

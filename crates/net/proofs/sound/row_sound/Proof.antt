@@ -3,7 +3,7 @@ use Prim.Native.Nat.{_≤_, _-_}
 use mathlib.Core.Path.{_≡_}
 use lib.Dec.{leb}
 use Rattle.net.specs.Choice.{implies, all}
-use Rattle.net.specs.Records.{rightsAt}
+use Rattle.net.specs.Records.{rightsAt, addressOf}
 use Rattle.net.specs.Soundness.{isNone, rowSound}
 use Rattle.net.proofs.AllLaws.{all-none, all-more, all-end}
 use borrow.Author.Needs.{needs}
@@ -11,7 +11,7 @@ use Rattle.net.proofs.sound.row_sound.Statement.{statement}
 use Rattle.net.proofs.sound.row_sound.Tie as tie
 
 abbrev Inv-loop : tie.InvT-loop
-Inv-loop n row ok₀ l₀ ok l = (l ≤ 16) × (ok ≡ all l (λ m. implies (leb n m) (isNone (rightsAt row m))))
+Inv-loop n row ok₀ l₀ ok l = (l ≤ 16) × (ok ≡ all l (λ m. implies (leb n m) (isNone (rightsAt row (addressOf m)))))
 
 abbrev μ-loop : tie.MeasureT-loop
 μ-loop n row ok₀ l₀ ok l = 16 - l
@@ -24,6 +24,7 @@ row-sound-spec =
     Inv-loop
     μ-loop
     (λ c. search (needs, all-none))
+    (λ c. search needs)
     (λ c. search needs)
     (λ c. search needs)
     (λ c κs. search needs)

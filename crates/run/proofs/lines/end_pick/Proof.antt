@@ -1,5 +1,5 @@
 -- `run::lines::end_pick` meets its contract. Assumes nothing.
-use Rattle.run.proofs.WritingLaws.{words-as}
+use Rattle.run.proofs.WritingLaws.{pick-words}
 use borrow.Author.Needs.{needs}
 use Rattle.run.proofs.lines.end_pick.Statement.{statement}
 use Rattle.run.proofs.lines.end_pick.Tie as tie
@@ -10,6 +10,7 @@ end-pick-spec =
     (tie.spec
     (λ c κs. search needs)
     (λ c κs. search needs)
+    (λ c. search needs)
     (λ c κs. search needs)
     (λ c. search needs)
-    (λ c. search (needs, words-as)))
+    (λ c. search (needs, pick-words)))

@@ -1,18 +1,16 @@
 -- `run::lines::put_nodes` meets its contract. Assumes nothing.
-use Prim.Native.Nat.{_+_, _-_, _≤_}
-use mathlib.Core.Path.{_≡_}
-use lib.ListN.{length, getD}
+use Prim.Native.Nat.{_-_, _≤_}
 use Rattle.run.specs.Register.{pieces, nodeLines, netLines}
 use Rattle.writer.specs.Writing.{Wrote}
 use Rattle.writer.proofs.WritingLaws.{wrote-length}
 use Rattle.run.proofs.WritingLaws.{pieces-none, pieces-more, pieces-upto}
-use Rattle.net.specs.Records.{nodeAt}
+use Rattle.net.specs.Records.{nodeAt, addressOf}
 use borrow.Author.Needs.{needs}
 use Rattle.run.proofs.lines.put_nodes.Statement.{statement}
 use Rattle.run.proofs.lines.put_nodes.Tie as tie
 
 abbrev Inv-loop : tie.InvT-loop
-Inv-loop out₀ at net n next₀ i₀ out next i = Wrote out₀ at (pieces i (λ j. nodeLines j (nodeAt net j))) out next × (i ≤ n)
+Inv-loop out₀ at net n next₀ i₀ out next i = Wrote out₀ at (pieces i (λ j. nodeLines (addressOf j) (nodeAt net (addressOf j)))) out next × (i ≤ n)
 
 abbrev μ-loop : tie.MeasureT-loop
 μ-loop out₀ at net n next₀ i₀ out next i = n - i
@@ -26,6 +24,7 @@ put-nodes-spec =
     μ-loop
     (λ c κs. search needs)
     (λ c. search (needs, pieces-none))
+    (λ c. search needs)
     (λ c. search needs)
     (λ c. search needs)
     (λ c κs. search needs)

@@ -1,6 +1,5 @@
 -- `run::lines::put_picks` meets its contract. Assumes nothing.
 use Prim.Native.Nat.{_+_, _-_, _≤_}
-use mathlib.Core.Path.{_≡_}
 use lib.ListN.{length, getD}
 use Rattle.run.specs.Register.{pieces, pickLine, pickLines}
 use Rattle.writer.specs.Writing.{Wrote}

@@ -1,7 +1,5 @@
 -- `run::lines::put_tuples` meets its contract. Assumes nothing.
-use Prim.Native.Nat.{_+_, _-_, _≤_}
-use mathlib.Core.Path.{_≡_}
-use lib.ListN.{length, getD}
+use Prim.Native.Nat.{_-_, _≤_}
 use Rattle.run.specs.Register.{pieces, tupleLine, tupleLines}
 use Rattle.writer.specs.Writing.{Wrote}
 use Rattle.writer.proofs.WritingLaws.{wrote-length}

@@ -1,5 +1,5 @@
 -- `run::register::register` meets its contract. Assumes nothing.
-use Rattle.run.proofs.CallLaws.{written-whole, written-cut}
+use Rattle.run.proofs.CallLaws.{written-whole, written-cut, whole-number, cut-number}
 use borrow.Author.Needs.{needs}
 use Rattle.run.proofs.register.register.Statement.{statement}
 use Rattle.run.proofs.register.register.Tie as tie
@@ -10,6 +10,6 @@ register-spec =
     (tie.spec
     (λ c κs. search needs)
     (λ c. search needs)
-    (λ c. (search (needs, written-whole, written-cut), search needs))
+    (λ c. (search (needs, written-whole, written-cut), (search (needs, whole-number, cut-number), search needs)))
     (λ c. search needs)
-    (λ c. (search (needs, written-whole, written-cut), search needs)))
+    (λ c. (search (needs, written-whole, written-cut), (search (needs, whole-number, cut-number), search needs))))

@@ -1,5 +1,5 @@
 -- `step::plan::eval_plan` meets its contract. Assumes nothing.
-use Rattle.net.proofs.Laws.{branches}
+use Rattle.net.proofs.Laws.{if-true, if-false}
 use Rattle.step.specs.Plan.{evalPlan}
 use borrow.Author.Needs.{needs}
 use Rattle.step.proofs.plan.eval_plan.Statement.{statement}
@@ -12,5 +12,5 @@ eval-plan-spec =
     (tie.spec
     (λ c κs. search needs)
     (λ c κs. search needs)
-    (λ c. search (needs, branches))
-    (λ c. search (needs, branches)))
+    (λ c. search (needs, if-true, if-false))
+    (λ c. search (needs, if-true, if-false)))

@@ -1,7 +1,6 @@
 -- `step::plan::gained` meets its contract. Assumes nothing.
-use mathlib.Core.Path.{ap, _∙_}
-use Rattle.net.specs.Records.{withRights}
 use Rattle.step.specs.Pick.{gaining}
+use Rattle.step.proofs.StepLaws.{rights-as}
 use borrow.Author.Needs.{needs}
 use Rattle.step.proofs.plan.gained.Statement.{statement}
 use Rattle.step.proofs.plan.gained.Tie as tie
@@ -13,4 +12,4 @@ gained-spec =
     (tie.spec
     (λ c κs. search needs)
     (λ c κs. search needs)
-    (λ c. c .with-rights .ensures ∙ ap (withRights (c .before .before .args .row) (c .before .before .args .n)) (c .before .full .ensures)))
+    (λ c. search (needs, rights-as)))

@@ -9,6 +9,4 @@ unfolding going
 goes-on-spec =
     tie.close
     (tie.spec
-    (λ c κs. search needs)
-    (λ c κs. search needs)
-    (λ c. simp (c .before .zero .ensures, c .free .ensures)))
+    (λ c. search (needs)))

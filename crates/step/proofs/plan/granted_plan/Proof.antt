@@ -1,12 +1,12 @@
 -- `step::plan::granted_plan` meets its contract. Assumes nothing.
-use Rattle.step.specs.Plan.{donePlan}
+use Rattle.step.specs.Plan.{grantedPlan}
 use Rattle.step.proofs.StepLaws.{by7}
 use borrow.Author.Needs.{needs}
 use Rattle.step.proofs.plan.granted_plan.Statement.{statement}
 use Rattle.step.proofs.plan.granted_plan.Tie as tie
 
 pub granted-plan-spec : {M : Type 1} → statement M
-unfolding donePlan
+unfolding grantedPlan
 granted-plan-spec =
     tie.close
     (tie.spec
@@ -26,11 +26,11 @@ granted-plan-spec =
     (λ c κs. search needs)
     (λ c. search needs)
     (λ c κs. search needs)
-    (λ c. search (needs, by7 donePlan))
-    (λ c. search (needs, by7 donePlan))
-    (λ c. search (needs, by7 donePlan))
-    (λ c. search (needs, by7 donePlan))
-    (λ c. search (needs, by7 donePlan))
-    (λ c. search (needs, by7 donePlan))
-    (λ c. search (needs, by7 donePlan))
-    (λ c. search (needs, by7 donePlan)))
+    (λ c. search (needs, by7 grantedPlan))
+    (λ c. search (needs, by7 grantedPlan))
+    (λ c. search (needs, by7 grantedPlan))
+    (λ c. search (needs, by7 grantedPlan))
+    (λ c. search (needs, by7 grantedPlan))
+    (λ c. search (needs, by7 grantedPlan))
+    (λ c. search (needs, by7 grantedPlan))
+    (λ c. search (needs, by7 grantedPlan)))

@@ -1,6 +1,6 @@
 -- `step::plan::in_plan` meets its contract. Assumes nothing.
-use Rattle.step.proofs.StepLaws.{by-third, going-as}
 use Rattle.step.specs.Plan.{inPlan}
+use Rattle.step.proofs.StepLaws.{by4}
 use borrow.Author.Needs.{needs}
 use Rattle.step.proofs.plan.in_plan.Statement.{statement}
 use Rattle.step.proofs.plan.in_plan.Tie as tie
@@ -12,8 +12,7 @@ in-plan-spec =
     (tie.spec
     (λ c. search needs)
     (λ c κs. search needs)
-    (λ c κs. search needs)
     (λ c. search needs)
     (λ c κs. search needs)
-    (λ c. search (needs, by-third inPlan, going-as))
-    (λ c. search (needs, by-third inPlan, going-as)))
+    (λ c. search (needs, by4 inPlan))
+    (λ c. search (needs, by4 inPlan)))

@@ -1,6 +1,5 @@
 -- `step::plan::new_plan` meets its contract. Assumes nothing.
 use Rattle.net.proofs.Laws.{if-lt, if-not-lt}
-use Rattle.step.proofs.StepLaws.{going-as}
 use Rattle.step.specs.Plan.{newPlan}
 use borrow.Author.Needs.{needs}
 use Rattle.step.proofs.plan.new_plan.Statement.{statement}
@@ -11,9 +10,8 @@ unfolding newPlan
 new-plan-spec =
     tie.close
     (tie.spec
+    (λ c. search needs)
     (λ c κs. search needs)
     (λ c κs. search needs)
-    (λ c κs. search needs)
-    (λ c κs. search needs)
-    (λ c. search (needs, if-lt, if-not-lt, going-as))
-    (λ c. search (needs, if-lt, if-not-lt, going-as)))
+    (λ c. search (needs, if-lt, if-not-lt))
+    (λ c. search (needs, if-lt, if-not-lt)))

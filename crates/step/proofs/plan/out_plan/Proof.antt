@@ -1,7 +1,6 @@
 -- `step::plan::out_plan` meets its contract. Assumes nothing.
-use Rattle.net.proofs.Laws.{if-lt, if-not-lt}
-use Rattle.step.proofs.StepLaws.{going-as}
 use Rattle.step.specs.Plan.{outPlan}
+use Rattle.step.proofs.StepLaws.{put-as}
 use borrow.Author.Needs.{needs}
 use Rattle.step.proofs.plan.out_plan.Statement.{statement}
 use Rattle.step.proofs.plan.out_plan.Tie as tie
@@ -15,5 +14,4 @@ out-plan-spec =
     (λ c κs. search needs)
     (λ c κs. search needs)
     (λ c κs. search needs)
-    (λ c. search (needs, if-lt, if-not-lt, going-as))
-    (λ c. search (needs, if-lt, if-not-lt, going-as)))
+    (λ c. search (needs, put-as)))

@@ -1,6 +1,6 @@
 -- `step::plan::read_plan` meets its contract. Assumes nothing.
-use Rattle.step.proofs.StepLaws.{by-third, going-as}
 use Rattle.step.specs.Plan.{readPlan}
+use Rattle.step.proofs.StepLaws.{by4, going-as}
 use borrow.Author.Needs.{needs}
 use Rattle.step.proofs.plan.read_plan.Statement.{statement}
 use Rattle.step.proofs.plan.read_plan.Tie as tie
@@ -15,5 +15,5 @@ read-plan-spec =
     (λ c κs. search needs)
     (λ c. search needs)
     (λ c κs. search needs)
-    (λ c. search (needs, by-third readPlan, going-as))
-    (λ c. search (needs, by-third readPlan, going-as)))
+    (λ c. search (needs, by4 readPlan, going-as))
+    (λ c. search (needs, by4 readPlan, going-as)))

@@ -1,6 +1,6 @@
 -- `step::plan::start_plan` meets its contract. Assumes nothing.
-use Rattle.step.proofs.StepLaws.{slot-as}
 use Rattle.step.specs.Plan.{startPlan}
+use Rattle.step.proofs.StepLaws.{start-as}
 use borrow.Author.Needs.{needs}
 use Rattle.step.proofs.plan.start_plan.Statement.{statement}
 use Rattle.step.proofs.plan.start_plan.Tie as tie
@@ -11,9 +11,7 @@ start-plan-spec =
     tie.close
     (tie.spec
     (λ c κs. search needs)
-    (λ c. search needs)
     (λ c κs. search needs)
-    (λ c. search needs)
     (λ c κs. search needs)
-    (λ c. search (needs, slot-as))
-    (λ c. search (needs, slot-as)))
+    (λ c κs. search needs)
+    (λ c. search (needs, start-as)))

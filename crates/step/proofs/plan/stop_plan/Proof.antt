@@ -10,5 +10,4 @@ stop-plan-spec =
     tie.close
     (tie.spec
     (λ c κs. search needs)
-    (λ c κs. search needs)
-    (λ c. simp (c .before .free .ensures, c .zero .ensures)))
+    (λ c. simp (c .free .ensures)))

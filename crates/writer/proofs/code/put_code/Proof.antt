@@ -1,6 +1,6 @@
 -- `writer::code::put_code` meets its contract. Assumes nothing.
 use Prim.Native.Nat.{_-_, _≤_}
-use Rattle.net.specs.Records.{instructionAt}
+use Rattle.net.specs.Records.{instructionAt, placeOf}
 use Rattle.writer.proofs.CountLaws.{few-code}
 use Rattle.writer.proofs.WritingLaws.{joined-end, joined-more, joined-none, wrote-length}
 use Rattle.writer.specs.ImageOf.{codeBits, instructionBits, joined}
@@ -10,7 +10,7 @@ use Rattle.writer.proofs.code.put_code.Statement.{statement}
 use Rattle.writer.proofs.code.put_code.Tie as tie
 
 abbrev Inv-loop : tie.InvT-loop
-Inv-loop out₀ at net n next₀ i₀ out next i = Wrote out₀ at (joined i (λ j. instructionBits (instructionAt (net .code) j))) out next × ((i ≤ n) × (n ≤ 512))
+Inv-loop out₀ at net n next₀ i₀ out next i = Wrote out₀ at (joined i (λ j. instructionBits (instructionAt (net .code) (placeOf j)))) out next × ((i ≤ n) × (n ≤ 512))
 
 abbrev μ-loop : tie.MeasureT-loop
 μ-loop out₀ at net n next₀ i₀ out next i = n - i

@@ -3,14 +3,14 @@ use Prim.Native.Nat.{_-_, _≤_}
 use mathlib.Core.Path.{_≡_}
 use Rattle.net.proofs.AllLaws.{all-end, all-more, all-none}
 use Rattle.net.specs.Choice.{all}
-use Rattle.net.specs.Records.{nodeAt}
+use Rattle.net.specs.Records.{nodeAt, addressOf}
 use Rattle.writer.specs.Fresh.{nodeStarts}
 use borrow.Author.Needs.{needs}
 use Rattle.writer.proofs.fresh.nodes_start.Statement.{statement}
 use Rattle.writer.proofs.fresh.nodes_start.Tie as tie
 
 abbrev Inv-loop : tie.InvT-loop
-Inv-loop net ok₀ i₀ ok i = (i ≤ 16) × (ok ≡ all i (λ a. nodeStarts (nodeAt net a)))
+Inv-loop net ok₀ i₀ ok i = (i ≤ 16) × (ok ≡ all i (λ a. nodeStarts (nodeAt net (addressOf a))))
 
 abbrev μ-loop : tie.MeasureT-loop
 μ-loop net ok₀ i₀ ok i = 16 - i

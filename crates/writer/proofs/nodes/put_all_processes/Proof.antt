@@ -1,6 +1,6 @@
 -- `writer::nodes::put_all_processes` meets its contract. Assumes nothing.
 use Prim.Native.Nat.{_-_, _≤_}
-use Rattle.net.specs.Records.{nodeAt}
+use Rattle.net.specs.Records.{nodeAt, addressOf}
 use Rattle.writer.proofs.WritingLaws.{joined-end, joined-more, joined-none, wrote-length}
 use Rattle.writer.specs.ImageOf.{allProcessesBits, joined, processesBits}
 use Rattle.writer.specs.Writing.{Wrote}
@@ -9,7 +9,7 @@ use Rattle.writer.proofs.nodes.put_all_processes.Statement.{statement}
 use Rattle.writer.proofs.nodes.put_all_processes.Tie as tie
 
 abbrev Inv-loop : tie.InvT-loop
-Inv-loop out₀ at net n next₀ i₀ out next i = Wrote out₀ at (joined i (λ j. processesBits (nodeAt net j))) out next × ((i ≤ n) × (n ≤ 16))
+Inv-loop out₀ at net n next₀ i₀ out next i = Wrote out₀ at (joined i (λ j. processesBits (nodeAt net (addressOf j)))) out next × ((i ≤ n) × (n ≤ 16))
 
 abbrev μ-loop : tie.MeasureT-loop
 μ-loop out₀ at net n next₀ i₀ out next i = n - i

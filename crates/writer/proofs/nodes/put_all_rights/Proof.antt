@@ -1,6 +1,6 @@
 -- `writer::nodes::put_all_rights` meets its contract. Assumes nothing.
 use Prim.Native.Nat.{_-_, _≤_}
-use Rattle.net.specs.Records.{rightsAt}
+use Rattle.net.specs.Records.{rightsAt, addressOf}
 use Rattle.writer.proofs.WritingLaws.{joined-end, joined-more, joined-none, wrote-length}
 use Rattle.writer.specs.ImageOf.{joined, rightsBits}
 use Rattle.writer.specs.Writing.{Wrote}
@@ -9,7 +9,7 @@ use Rattle.writer.proofs.nodes.put_all_rights.Statement.{statement}
 use Rattle.writer.proofs.nodes.put_all_rights.Tie as tie
 
 abbrev Inv-loop : tie.InvT-loop
-Inv-loop out₀ at n row next₀ i₀ out next i = Wrote out₀ at (joined i (λ j. rightsBits (rightsAt row j))) out next × ((i ≤ n) × (n ≤ 16))
+Inv-loop out₀ at n row next₀ i₀ out next i = Wrote out₀ at (joined i (λ j. rightsBits (rightsAt row (addressOf j)))) out next × ((i ≤ n) × (n ≤ 16))
 
 abbrev μ-loop : tie.MeasureT-loop
 μ-loop out₀ at n row next₀ i₀ out next i = n - i

@@ -1,6 +1,6 @@
 -- `writer::nodes::put_all_tuples` meets its contract. Assumes nothing.
 use Prim.Native.Nat.{_-_, _≤_}
-use Rattle.net.specs.Records.{nodeAt}
+use Rattle.net.specs.Records.{nodeAt, addressOf}
 use Rattle.writer.proofs.CountLaws.{few-node}
 use Rattle.writer.proofs.WritingLaws.{joined-end, joined-more, joined-none, wrote-length}
 use Rattle.writer.specs.ImageOf.{allTuplesBits, joined, tuplesBits}
@@ -10,7 +10,7 @@ use Rattle.writer.proofs.nodes.put_all_tuples.Statement.{statement}
 use Rattle.writer.proofs.nodes.put_all_tuples.Tie as tie
 
 abbrev Inv-loop : tie.InvT-loop
-Inv-loop out₀ at net n next₀ i₀ out next i = Wrote out₀ at (joined i (λ j. tuplesBits (nodeAt net j))) out next × ((i ≤ n) × (n ≤ 16))
+Inv-loop out₀ at net n next₀ i₀ out next i = Wrote out₀ at (joined i (λ j. tuplesBits (nodeAt net (addressOf j)))) out next × ((i ≤ n) × (n ≤ 16))
 
 abbrev μ-loop : tie.MeasureT-loop
 μ-loop out₀ at net n next₀ i₀ out next i = n - i

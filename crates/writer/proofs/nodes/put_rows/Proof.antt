@@ -1,6 +1,6 @@
 -- `writer::nodes::put_rows` meets its contract. Assumes nothing.
 use Prim.Native.Nat.{_-_, _≤_}
-use Rattle.net.specs.Records.{nodeAt}
+use Rattle.net.specs.Records.{nodeAt, addressOf}
 use Rattle.writer.proofs.WritingLaws.{joined-end, joined-more, joined-none, wrote-length}
 use Rattle.writer.specs.ImageOf.{joined, rowBits, rowsBits}
 use Rattle.writer.specs.Writing.{Wrote}
@@ -9,7 +9,7 @@ use Rattle.writer.proofs.nodes.put_rows.Statement.{statement}
 use Rattle.writer.proofs.nodes.put_rows.Tie as tie
 
 abbrev Inv-loop : tie.InvT-loop
-Inv-loop out₀ at net n next₀ i₀ out next i = Wrote out₀ at (joined i (λ j. rowBits n (nodeAt net j .row))) out next × ((i ≤ n) × (n ≤ 16))
+Inv-loop out₀ at net n next₀ i₀ out next i = Wrote out₀ at (joined i (λ j. rowBits n (nodeAt net (addressOf j) .row))) out next × ((i ≤ n) × (n ≤ 16))
 
 abbrev μ-loop : tie.MeasureT-loop
 μ-loop out₀ at net n next₀ i₀ out next i = n - i

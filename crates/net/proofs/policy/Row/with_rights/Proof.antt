@@ -14,5 +14,6 @@ with-rights-spec =
     (tie.spec
     (λ c. search needs)
     (λ c. search needs)
+    (λ c. search needs)
     (λ c. refl)
     (λ c. search (needs, rights-out, length-mapped)))

@@ -1,0 +1,18 @@
+-- `step::plan::host_after` meets its contract. Assumes nothing.
+use Rattle.net.proofs.Laws.{if-true, if-false}
+use Rattle.step.specs.Plan.{hostAfter}
+use Rattle.step.proofs.StepLaws.{row-as}
+use borrow.Author.Needs.{needs}
+use Rattle.step.proofs.plan.host_after.Statement.{statement}
+use Rattle.step.proofs.plan.host_after.Tie as tie
+
+pub host-after-spec : {M : Type 1} → statement M
+unfolding hostAfter
+host-after-spec =
+    tie.close
+    (tie.spec
+    (λ c κs. search needs)
+    (λ c κs. search needs)
+    (λ c κs. search needs)
+    (λ c. search (needs, if-true, if-false, row-as))
+    (λ c. search (needs, if-true, if-false, row-as)))

@@ -1,0 +1,15 @@
+-- `step::plan::open_plan` meets its contract. Assumes nothing.
+use Rattle.step.specs.Plan.{opening}
+use Rattle.step.proofs.StepLaws.{opening-as}
+use borrow.Author.Needs.{needs}
+use Rattle.step.proofs.plan.open_plan.Statement.{statement}
+use Rattle.step.proofs.plan.open_plan.Tie as tie
+
+pub open-plan-spec : {M : Type 1} → statement M
+unfolding opening
+open-plan-spec =
+    tie.close
+    (tie.spec
+    (λ c κs. search needs)
+    (λ c κs. search needs)
+    (λ c. search (needs, opening-as)))

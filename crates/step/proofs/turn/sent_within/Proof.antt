@@ -1,0 +1,29 @@
+-- `step::turn::sent_within` meets its contract. Assumes nothing.
+use Rattle.step.proofs.StepLaws.{by3}
+use Rattle.step.specs.Plan.{sentWithin}
+use borrow.Author.Needs.{needs}
+use Rattle.step.proofs.turn.sent_within.Statement.{statement}
+use Rattle.step.proofs.turn.sent_within.Tie as tie
+
+pub sent-within-spec : {M : Type 1} → statement M
+unfolding sentWithin
+sent-within-spec =
+    tie.close
+    (tie.spec
+    (λ c. search needs)
+    (λ c. search needs)
+    (λ c. search needs)
+    (λ c. search needs)
+    (λ c. search needs)
+    (λ c. search needs)
+    (λ c κs. search needs)
+    (λ c. search needs)
+    (λ c. search needs)
+    (λ c. search (needs, by3 sentWithin))
+    (λ c. search (needs, by3 sentWithin))
+    (λ c. search (needs, by3 sentWithin))
+    (λ c. search (needs, by3 sentWithin))
+    (λ c. search (needs, by3 sentWithin))
+    (λ c. search (needs, by3 sentWithin))
+    (λ c. search (needs, by3 sentWithin))
+    (λ c. search (needs, by3 sentWithin)))
