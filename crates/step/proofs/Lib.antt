@@ -1,14 +1,8 @@
-pub mod DemandOne
 pub mod Lengths
-pub mod Outcomes
 pub mod PutBack
-pub mod ReadBack
-pub mod Rules
 pub mod SoundChanges
 pub mod SoundFacts
 pub mod SoundKept
 pub mod SoundRequests
-pub mod StepFacts
 pub mod StepLaws
 pub mod TurnLaws
-pub mod Within

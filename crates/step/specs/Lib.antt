@@ -1,9 +1,7 @@
 pub mod Answer
-pub mod DemandOne
 pub mod Pick
 pub mod Plan
 pub mod Request
-pub mod Rules
 pub mod Shape
 pub mod SoundKept
 pub mod Turn

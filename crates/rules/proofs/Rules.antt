@@ -14,19 +14,20 @@ use Rattle.net.specs.MatchingPromise.{OldestThatFits}
 use Rattle.net.proofs.Laws.{both-l, both-r, choose-true}
 use Rattle.net.proofs.MatchingPromise.{matchingPromise as promise}
 use Rattle.net.proofs.Lowest.{Lowest, first-is, first-cases}
-use Rattle.step.specs.Types.{Locality, Place, Process, Node, Slot, Target, Action, Evaluated, Net, Found, Matched}
-use Rattle.step.specs.Answer.{Answer, Picked, numberOf}
-use Rattle.step.specs.Request.{Aim, Request, targetOf, at, spoken, asked, requestOf, granted}
+use Rattle.rules.specs.Types.{Locality, Place, Process, Node, Slot, Target, Action, Evaluated, Net, Found, Matched}
+use Rattle.rules.specs.Types.{Answer, Picked, Aim, Request}
+use Rattle.step.specs.Answer.{numberOf}
+use Rattle.step.specs.Request.{targetOf, at, spoken, asked, requestOf, granted}
 use Rattle.step.specs.Pick.{hostOf, slotOf, spareOf, performed, unchanged, withHost, stopped, out, inFound, input}
 use Rattle.step.specs.Pick.{readFound, read, startedIn, eval, fork, create, carriedOut, acting, processStep}
 use Rattle.step.specs.Pick.{stepOf, slotStep, pickOf}
-use Rattle.step.specs.Rules.{processIn, instructionIn, templateIn, rowIn, Stands, Points}
-use Rattle.step.specs.Rules.{LowestFree, Reduces, OUT, IN, READ, EVAL, NEW, FORK, Ends, NIL}
-use Rattle.step.specs.Rules.{StepIsPick, StopIsPick}
-use Rattle.step.proofs.StepFacts.{Facts, facts, stored-few, Runs, running, target-exists}
-use Rattle.step.proofs.Within.{keeps-within, within-keeps}
-use Rattle.step.proofs.Outcomes.{ComesTo, performs, refuses, ends, outcome}
-use Rattle.step.proofs.ReadBack.{Gave, same-number, refused, through, Aimed, acted, aimed, spoke, seated}
+use Rattle.rules.specs.Rules.{processIn, instructionIn, templateIn, rowIn, Stands, Points}
+use Rattle.rules.specs.Rules.{LowestFree, Reduces, OUT, IN, READ, EVAL, NEW, FORK, Ends, NIL}
+use Rattle.rules.specs.Rules.{StepIsPick, StopIsPick}
+use Rattle.rules.proofs.StepFacts.{Facts, facts, stored-few, Runs, running, target-exists}
+use Rattle.rules.proofs.Within.{keeps-within, within-keeps}
+use Rattle.rules.proofs.Outcomes.{ComesTo, performs, refuses, ends, outcome}
+use Rattle.rules.proofs.ReadBack.{Gave, same-number, refused, through, Aimed, acted, aimed, spoke, seated}
 
 -- ---- the lowest free slot, as the definition looks for it
 free-test : Node → ℕ → Bool

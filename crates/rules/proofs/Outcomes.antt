@@ -5,11 +5,12 @@ use mathlib.Core.Bool.{Bool}
 use native.Mathlib.Omega.{arith}
 use Rattle.net.specs.Choice.{choose}
 use Rattle.net.proofs.Every.{chosen}
-use Rattle.step.specs.Types.{Locality, Place, Process, Slot, Found, Action, Evaluated, Net}
-use Rattle.step.specs.Answer.{Answer, Picked, numberOf}
-use Rattle.step.specs.Request.{Aim, Request, at, spoken, asked}
+use Rattle.rules.specs.Types.{Locality, Place, Process, Slot, Found, Action, Evaluated, Net}
+use Rattle.rules.specs.Types.{Answer, Picked, Aim, Request}
+use Rattle.step.specs.Answer.{numberOf}
+use Rattle.step.specs.Request.{at, spoken, asked}
 use Rattle.step.specs.Pick.{unchanged, performed, stopped, out, input, inFound, read, readFound, startedIn, eval}
 use Rattle.step.specs.Pick.{fork, create, carriedOut, acting}
 
 pub data ComesTo (s : Net) (a : Locality) (k : ℕ) : Action → Picked → Type 0 where
   performs : {x : Action} (n : Net) → ComesTo s a k x (performed n)

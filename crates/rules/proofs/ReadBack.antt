@@ -9,11 +9,12 @@ use borrow.Author.Tests.{ltb-true, eqb-true}
 use Rattle.net.specs.Choice.{choose}
 use Rattle.net.specs.Records.{nodeAt, processAt, instructionAt}
 use Rattle.net.specs.Soundness.{soundOf}
-use Rattle.step.specs.Types.{Locality, Process, Evaluated, Net}
-use Rattle.step.specs.Answer.{Answer, Picked, numberOf}
-use Rattle.step.specs.Request.{Aim, Request, at, spoken, granted}
+use Rattle.rules.specs.Types.{Locality, Process, Evaluated, Net}
+use Rattle.rules.specs.Types.{Answer, Picked, Aim, Request}
+use Rattle.step.specs.Answer.{numberOf}
+use Rattle.step.specs.Request.{at, spoken, granted}
 use Rattle.step.specs.Pick.{hostOf, slotOf, spareOf, unchanged, carriedOut, acting, processStep, slotStep}
 use Rattle.step.specs.Pick.{stepOf, pickOf}
 
 -- what was picked is the answer w with the net after
 pub record Gave (w : Answer) (after : Net) (x : Picked) : Type 0 where

@@ -7,10 +7,10 @@ use mathlib.Core.Bool.{true}
 use Rattle.net.specs.Records.{instructionAt}
 use Rattle.net.specs.Reaching.{Follows}
 use Rattle.net.specs.Keeping.{keepsOf}
-use Rattle.step.specs.Types.{Locality, Place, Row, Net}
-use Rattle.step.specs.Rules.{KeepsWithin}
+use Rattle.rules.specs.Types.{Locality, Place, Row, Net}
+use Rattle.rules.specs.Rules.{KeepsWithin}
 use Rattle.net.proofs.KeepingPromise.{keepingPromise as promise}
-use Rattle.step.proofs.StepFacts.{Facts, follow-low}
+use Rattle.rules.proofs.StepFacts.{Facts, follow-low}
 
 module _ (s : Net) (ok : Facts s) (sent : Place) (low : sent .0 < s .length) (l : Locality) (row : Row) where
   closed : (p q : Place) → p .0 < s .length → Follows q (instructionAt (s .code) p .action) → q .0 < s .length

@@ -6,10 +6,11 @@ use mathlib.Core.Path.{_≡_}
 use mathlib.Core.Bool.{true}
 use Rattle.net.specs.Records.{processAt, nodeAt, instructionAt}
 use Rattle.net.specs.Keeping.{mayTake, mayRead, mayPut, maySend, mayCreate}
 use Rattle.step.specs.Answer.{numberOf}
-use Rattle.step.specs.Request.{Aim, targetOf}
+use Rattle.step.specs.Request.{targetOf}
 use Rattle.step.specs.Pick.{hostOf, slotOf, pickOf}
-use Rattle.step.specs.Types.{Locality, Place, Row, Process, Target, Action, Net}
+use Rattle.rules.specs.Types.{Locality, Place, Row, Process, Target, Action, Net}
+use Rattle.rules.specs.Types.{Aim}
 
 -- the row holds the right of an action of the process p hosted at a: at the address that its target points to o for an
 -- out, i for an in, r for a read and e for an eval, and n for a new. A fork needs none, and a stop is no action.

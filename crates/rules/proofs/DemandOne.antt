@@ -7,15 +7,16 @@ use mathlib.Core.Bool.{Bool}
 use native.Mathlib.Omega.{arith}
 use Rattle.net.specs.Choice.{choose}
 use Rattle.net.proofs.Every.{chosen}
-use Rattle.step.specs.Types.{Locality, Action, Net}
-use Rattle.step.specs.Answer.{Answer, Picked, numberOf}
+use Rattle.rules.specs.Types.{Locality, Action, Net}
+use Rattle.rules.specs.Types.{Answer, Picked}
+use Rattle.step.specs.Answer.{numberOf}
 use Rattle.step.specs.Request.{requestOf}
 use Rattle.step.specs.Pick.{hostOf, slotOf, unchanged, performed, stopped, processStep, stepOf, slotStep, pickOf}
-use Rattle.step.specs.Rules.{processIn, instructionIn, rowIn, Stands, Reduces, OUT, IN, READ, EVAL, NEW, FORK}
-use Rattle.step.specs.DemandOne.{Held, out-held, in-held, read-held, eval-held, new-held, fork-held}
-use Rattle.step.specs.DemandOne.{pickedProcess, pickedAction, OnlyWithRight, RefusedChangesNothing}
-use Rattle.step.proofs.Outcomes.{ComesTo, performs, refuses, ends, outcome}
-use Rattle.step.proofs.Rules.{picked-step}
+use Rattle.rules.specs.Rules.{processIn, instructionIn, rowIn, Stands, Reduces, OUT, IN, READ, EVAL, NEW, FORK}
+use Rattle.rules.specs.DemandOne.{Held, out-held, in-held, read-held, eval-held, new-held, fork-held}
+use Rattle.rules.specs.DemandOne.{pickedProcess, pickedAction, OnlyWithRight, RefusedChangesNothing}
+use Rattle.rules.proofs.Outcomes.{ComesTo, performs, refuses, ends, outcome}
+use Rattle.rules.proofs.Rules.{picked-step}
 
 -- ---- only with the right
 module _ (s : Net) (a : Locality) (k : ℕ) where

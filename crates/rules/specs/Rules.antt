@@ -13,11 +13,11 @@ use Rattle.net.specs.Matching.{evaluatedOf, boundOf}
 use Rattle.net.specs.Reaching.{Reaches}
 use Rattle.net.specs.Keeping.{mayTake, mayRead, mayPut, maySend, mayCreate, permits}
 use Rattle.net.specs.Soundness.{soundOf}
-use Rattle.step.specs.Answer.{Answer}
 use Rattle.net.specs.MatchingPromise.{OldestThatFits}
-use Rattle.step.specs.Request.{Aim, targetOf}
+use Rattle.step.specs.Request.{targetOf}
 use Rattle.step.specs.Pick.{hostOf, slotOf, spareOf, pickOf, withHost, added, taken, created, tupleOf}
-use Rattle.step.specs.Types.{Locality, Place, Row, Process, Node, Target, Action, Instruction, Evaluated, Net}
+use Rattle.rules.specs.Types.{Locality, Place, Row, Process, Node, Target, Action, Instruction, Evaluated, Net}
+use Rattle.rules.specs.Types.{Answer, Aim}
 
 -- ---- what the rules speak of
 

@@ -12,8 +12,9 @@ use Rattle.net.specs.Reaching.{Follows, out-next, in-next, read-next, eval-next
 use Rattle.net.specs.Soundness.{inRange, valueSound, processSound, tuplesSound, nodeSound, targetSound, actionSound}
 use Rattle.net.specs.Soundness.{instructionSound, nodesSound, codeSound, soundOf}
 use Rattle.net.proofs.Laws.{both-l, both-r, all-e, choose-true}
-use Rattle.step.specs.Request.{Aim, aimOf, targetOf}
-use Rattle.step.specs.Types.{Locality, Place, Value, Process, Node, Target, Action, Net}
+use Rattle.step.specs.Request.{aimOf, targetOf}
+use Rattle.rules.specs.Types.{Locality, Place, Value, Process, Node, Target, Action, Net}
+use Rattle.rules.specs.Types.{Aim}
 
 high : (low x top : ℕ) → inRange low x top ≡ true → x ≤ top
 unfolding inRange

@@ -1,0 +1,6 @@
+pub mod DemandOne
+pub mod Outcomes
+pub mod ReadBack
+pub mod Rules
+pub mod StepFacts
+pub mod Within

@@ -1,0 +1,3 @@
+pub mod DemandOne
+pub mod Rules
+pub mod Types

@@ -1,0 +1,19 @@
+-- The types of the crates below that the definitions of this crate speak of.
+pub use Rattle.net.specs.declared.locality.Locality.{Locality}
+pub use Rattle.net.specs.declared.locality.Place.{Place}
+pub use Rattle.net.specs.declared.tuple.Value.{Value}
+pub use Rattle.net.specs.declared.policy.Row.{Row}
+pub use Rattle.net.specs.declared.process.Process.{Process}
+pub use Rattle.net.specs.declared.node.Node.{Node}
+pub use Rattle.net.specs.declared.node.Slot.{Slot}
+pub use Rattle.net.specs.declared.instruction.Target.{Target}
+pub use Rattle.net.specs.declared.instruction.Action.{Action}
+pub use Rattle.net.specs.declared.instruction.Instruction.{Instruction}
+pub use Rattle.net.specs.declared.network.Net.{Net}
+pub use Rattle.net.specs.declared.matching.Evaluated.{Evaluated}
+pub use Rattle.net.specs.declared.matching.Found.{Found}
+pub use Rattle.net.specs.declared.matching.Matched.{Matched}
+pub use Rattle.step.specs.declared.request.Aim.{Aim}
+pub use Rattle.step.specs.declared.request.Request.{Request}
+pub use Rattle.step.specs.declared.answer.Answer.{Answer}
+pub use Rattle.step.specs.declared.answer.Picked.{Picked}
