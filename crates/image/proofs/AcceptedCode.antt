@@ -13,10 +13,10 @@ use borrow.Author.Tests.{ltb-true, lt-ltb}
 use Rattle.net.specs.Choice.{both, implies, all}
 use Rattle.image.specs.Types.{Place, Target, Pattern, TemplateField, Action, Instruction}
 use Rattle.net.specs.Records.{zeroTemplateField, zeroInstruction, patternAt, withPattern, withAction}
-use Rattle.net.specs.Matching.{sameReading}
-use Rattle.net.specs.Soundness.{targetSound, patternSound, isZeroPattern, templateSound, noTemplate}
-use Rattle.net.specs.Soundness.{isActual, actualsOnly, unboundBefore, bindsAnew, formalsApart}
-use Rattle.net.specs.Soundness.{actionSound, templateFor, instructionSound, isStop, isZeroInstruction}
+use Rattle.net.specs.Readings.{sameReading}
+use Rattle.sound.specs.Soundness.{targetSound, patternSound, isZeroPattern, templateSound, noTemplate}
+use Rattle.sound.specs.Soundness.{isActual, actualsOnly, unboundBefore, bindsAnew, formalsApart}
+use Rattle.sound.specs.Soundness.{actionSound, templateFor, instructionSound, isStop, isZeroInstruction}
 use Rattle.image.specs.Image.{writtenTarget, heldTarget, target, readingPattern, addressPattern, heldPattern}
 use Rattle.image.specs.Image.{fresh, formalReading, formalAddress, kind, pattern, templateField, template}
 use Rattle.image.specs.Image.{communication, evaluation, creation, forking, instruction}

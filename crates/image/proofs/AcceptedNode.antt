@@ -13,10 +13,10 @@ use Rattle.image.specs.Types.{Locality, Place, Field, Tuple, Row, Proces
 use Rattle.net.specs.Records.{startingAt, zeroField, zeroTuple, unsetVariable, freeProcess, noRights, zeroRow, zeroNode}
 use Rattle.net.specs.Records.{addressOf, fieldAt, variableAt, rightsAt, processAt, tupleAt}
 use Rattle.net.specs.Records.{withField, withRights, withRow, withProcess, withTuple}
-use Rattle.net.specs.Matching.{sameReading}
-use Rattle.net.specs.Soundness.{itemSound, isZeroItem, tupleSound, isZeroTuple, tuplesSound}
-use Rattle.net.specs.Soundness.{isNone, rowSound, isZeroRow, valueSound, isUnset, isFree, processSound}
-use Rattle.net.specs.Soundness.{nodeSound, isZeroNode}
+use Rattle.net.specs.Readings.{sameReading}
+use Rattle.sound.specs.Soundness.{itemSound, isZeroItem, tupleSound, isZeroTuple, tuplesSound}
+use Rattle.sound.specs.Soundness.{isNone, rowSound, isZeroRow, valueSound, isUnset, isFree, processSound}
+use Rattle.sound.specs.Soundness.{nodeSound, isZeroNode}
 use Rattle.image.specs.Image.{eachAddress, address, place, variable, reading, creating, rightsOf, rights, row}
 use Rattle.image.specs.Image.{process, processes}
 use Rattle.image.specs.Image.{readingItem, addressItem, item, tupleField, tuple, stored, tuples}

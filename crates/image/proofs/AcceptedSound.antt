@@ -10,8 +10,8 @@ use lib.ListN.{length}
 use Rattle.image.specs.Types.{Locality, Place, Node, Instruction, Net}
 use Rattle.net.specs.Records.{zeroNode, zeroInstruction, emptyNet, nodeAt, instructionAt, addressOf, placeOf}
 use Rattle.net.specs.Records.{withNode, withInstruction, withCounts}
-use Rattle.net.specs.Soundness.{nodeSound, isZeroNode, instructionSound, isZeroInstruction}
-use Rattle.net.specs.Soundness.{nodesSound, codeSound, soundOf}
+use Rattle.sound.specs.Soundness.{nodeSound, isZeroNode, instructionSound, isZeroInstruction}
+use Rattle.sound.specs.Soundness.{nodesSound, codeSound, soundOf}
 use Rattle.image.specs.BitReader.{Fault, Parsed, Reader, each, numbered}
 use Rattle.image.specs.Image.{Verdict, Opened, eachAddress, eachPlace, header, row, rowOf, rows, processes, processesOf, allProcesses}
 use Rattle.image.specs.Image.{tuples, tuplesOf, allTuples, instruction, instructionOf, code, endsAt, ending}

@@ -8,9 +8,9 @@ use native.Mathlib.Omega.{arith}
 use borrow.Author.Tests.{ltb-true, lt-ltb}
 use Rattle.net.specs.Choice.{choose}
 use Rattle.net.specs.Records.{addressOf}
-use Rattle.net.specs.ReachingClaims.{KeepsIsEvery}
+use Rattle.keeping.specs.ReachingClaims.{KeepsIsEvery}
 use Rattle.net.proofs.Laws.{implies-i, implies-e, all-i, all-e, choose-true}
-use Rattle.net.proofs.Reached.{keepsIsEvery}
+use Rattle.keeping.proofs.Reached.{keepsIsEvery}
 use Rattle.image.specs.Types.{Net}
 use Rattle.image.specs.BitReader.{Parsed, got, numbered}
 use Rattle.image.specs.Image.{layout, admitsProcess, admitsNode, admitsAt, admits, refused, accepted, judgedNet}

@@ -12,7 +12,7 @@ use Rattle.image.specs.Types.{Target, Action}
 use mathlib.Core.Bool.{Bool, not}
 use lib.Dec.{ltb}
 use Rattle.net.specs.Choice.{implies}
-use Rattle.net.specs.Soundness.{unboundBefore}
+use Rattle.sound.specs.Soundness.{unboundBefore}
 use Rattle.image.specs.BitReader.{field, bits, require}
 use Rattle.image.specs.Progress.{Step, PartsRead, Went, Spoken}
 use Rattle.image.specs.Image.{rightsOf, rights, row, rowOf, place, process, processes}

@@ -7,8 +7,8 @@ use mathlib.Core.Bool.{true}
 use mathlib.Core.List.{List}
 use lib.ListN.{length}
 use Rattle.net.specs.Records.{processAt, nodeAt, instructionAt}
-use Rattle.net.specs.Reaching.{Reaches}
-use Rattle.net.specs.Keeping.{permits}
+use Rattle.keeping.specs.Reaching.{Reaches}
+use Rattle.keeping.specs.Keeping.{permits}
 use Rattle.image.specs.Types.{Locality, Place, Net}
 use Rattle.image.specs.BitReader.{got}
 use Rattle.image.specs.Image.{layout, admits, accepted, openedOf, numberOf}

@@ -14,8 +14,8 @@ use Rattle.image.specs.Types.{Target, Pattern, Action, Instruction, Net}
 use Rattle.net.specs.Records.{processAt, nodeAt, startingAt, zeroTuple, zeroRow, zeroInstruction, emptyNet, addressOf, placeOf}
 use Rattle.net.specs.Records.{withField, withRights, withRow, withProcess, withTuple, withPattern, withAction}
 use Rattle.net.specs.Records.{withNode, withInstruction, withCounts}
-use Rattle.net.specs.Soundness.{unboundBefore}
-use Rattle.net.specs.Keeping.{keepsOf}
+use Rattle.sound.specs.Soundness.{unboundBefore}
+use Rattle.keeping.specs.Keeping.{keepsOf}
 use Rattle.image.specs.BitReader.{Fault, Parsed, got, fault, Reader, pure, _>>=_, _>>_, each, alternative}
 use Rattle.image.specs.BitReader.{numbered, require, numberAt, field, bits}
 

@@ -5,7 +5,7 @@ use mathlib.Core.Logic.{_↔_}
 use mathlib.Core.Bool.{true}
 use mathlib.Core.List.{List}
 use Rattle.net.specs.Records.{emptyNet}
-use Rattle.net.specs.Soundness.{soundOf}
+use Rattle.sound.specs.Soundness.{soundOf}
 use Rattle.image.specs.BitReader.{Fault}
 use Rattle.image.specs.Image.{Verdict, openedOf, numberOf}
 

@@ -10,7 +10,7 @@ use crate::reader::Fault;
 use net::instruction::Instruction;
 use net::instruction::Pattern;
 use net::instruction::TemplateField;
-use net::sound::unbound_before;
+use sound::soundness::unbound_before;
 ghost use Prim.Native.Nat.{ℕ, _+_, _<_};
 ghost use mathlib.Core.Bool.{not};
 ghost use mathlib.Core.List.{List};

@@ -8,7 +8,7 @@ use lib.ListN.{length, set}
 use lib.Seq.{set-out}
 use borrow.Author.Tests.{lt-ltb, le-ltb, ltb-true}
 use Rattle.net.specs.Choice.{choose, fold}
-use Rattle.net.specs.Records.{Locality, Tuple, Rights, Row, Process, Node, tupleAt, zeroTuple, withRights, withProcess}
+use Rattle.net.specs.Records.{Locality, Value, Tuple, Rights, Row, Process, Node, tupleAt, zeroTuple, withRights, withVariable, withProcess}
 use Rattle.net.specs.Records.{afterTaking, withoutTuple, Slot, Changed, withTuple, freeSlot, putIn, takenFrom, startedAtSlot, startedOn}
 use Rattle.net.proofs.Laws.{choose-false}
 use Rattle.net.proofs.FoldLaws.{fold-none, fold-more, fold-end}
@@ -17,6 +17,10 @@ use Rattle.net.proofs.FoldLaws.{fold-none, fold-more, fold-end}
 pub rights-out : (r : Row) (l : Locality) (x : Rights) → length (r .rights) ≡ 16 → 16 ≤ l .0 → r ≡ withRights r l x
 unfolding withRights
 rights-out r l x e h = rw (set-out (r .rights) (l .0) x (omega arith))
+
+pub variable-out : (p : Process) (v : ℕ) (x : Value) → length (p .variables) ≡ 8 → 8 ≤ v → p ≡ withVariable p v x
+unfolding withVariable
+variable-out p v x e h = rw (set-out (p .variables) v _ (omega arith))
 
 pub process-out : (x : Node) (k : ℕ) (p : Process) → length (x .processes) ≡ 4 → 4 ≤ k → x ≡ withProcess x k p
 unfolding withProcess

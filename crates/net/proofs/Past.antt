@@ -5,7 +5,7 @@ use mathlib.Core.Bool.{true, false}
 use mathlib.Core.List.{[]}
 use borrow.Author.Tests.{le-leb}
 use Rattle.net.specs.Records.{Process, Tuple}
-use Rattle.net.specs.Soundness.{inRange}
+use Rattle.net.specs.Choice.{inRange}
 use Rattle.net.proofs.Laws.{both-i}
 
 abbrev pub pastProcess : Process

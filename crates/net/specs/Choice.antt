@@ -1,6 +1,7 @@
 -- Choices and bounded tests, which every other definition here is made of.
 use Prim.Native.Nat.{ℕ, zero, suc}
 use mathlib.Core.Bool.{Bool, true, false}
+use lib.Dec.{leb}
 
 unfoldable pub choose : {A : Type 0} → Bool → A → A → A
 choose true a b = a
@@ -14,6 +15,10 @@ both false b = false
 unfoldable pub implies : Bool → Bool → Bool
 implies true b = b
 implies false b = true
+
+-- x is from low to high
+unfoldable pub inRange : ℕ → ℕ → ℕ → Bool
+inRange low x high = both (leb low x) (leb x high)
 
 -- the test holds at each number below n
 unfoldable pub all : ℕ → (ℕ → Bool) → Bool

@@ -1,14 +1,4 @@
 pub mod Choice
-pub mod Fitting
-pub mod Judged
-pub mod Keeping
-pub mod KeepingPromise
-pub mod Matching
-pub mod MatchingPromise
-pub mod Reaching
-pub mod ReachingClaims
+pub mod Readings
 pub mod Records
 pub mod Shape
-pub mod Soundness
-pub mod Worklist
-pub mod ZeroClaims

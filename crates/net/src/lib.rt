@@ -1,14 +1,9 @@
-// The lower crate: the records of a net, matching, policies and the soundness test.
-// Everything above it rests on the promises written here and on the definitions of specs/.
+// The lowest crate: the records of a net, and what is read and changed of them.
 pub mod instruction;
-pub mod keeping;
 pub mod locality;
-pub mod matching;
 pub mod network;
 pub mod node;
 pub mod policy;
 pub mod process;
-mod reaching;
-mod reading;
-pub mod sound;
+pub mod reading;
 pub mod tuple;

@@ -8,7 +8,7 @@ use native.Mathlib.Omega.{arith}
 use borrow.Author.Tests.{ltb-true, eqb-true}
 use Rattle.net.specs.Choice.{choose}
 use Rattle.net.specs.Records.{nodeAt, processAt, instructionAt}
-use Rattle.net.specs.Soundness.{soundOf}
+use Rattle.sound.specs.Soundness.{soundOf}
 use Rattle.rules.specs.Types.{Locality, Process, Evaluated, Net}
 use Rattle.rules.specs.Types.{Answer, Picked, Aim, Request}
 use Rattle.step.specs.Answer.{numberOf}

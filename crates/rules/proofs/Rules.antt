@@ -8,11 +8,11 @@ use mathlib.Core.Bool.{Bool, true, not}
 use native.Mathlib.Omega.{arith}
 use borrow.Author.Tests.{ltb-true, lt-ltb, eq-eqb, not-true, not-false}
 use Rattle.net.specs.Records.{processAt, tupleAt, nodeAt, movedTo, copiedTo, freeSlot}
-use Rattle.net.specs.Matching.{boundOf, matchedOf}
-use Rattle.net.specs.Soundness.{soundOf, targetSound, actionSound}
-use Rattle.net.specs.MatchingPromise.{OldestThatFits}
+use Rattle.matching.specs.Matching.{boundOf, matchedOf}
+use Rattle.sound.specs.Soundness.{soundOf, targetSound, actionSound}
+use Rattle.matching.specs.MatchingPromise.{OldestThatFits}
 use Rattle.net.proofs.Laws.{both-l, both-r, choose-true}
-use Rattle.net.proofs.MatchingPromise.{matchingPromise as promise}
+use Rattle.matching.proofs.MatchingPromise.{matchingPromise as promise}
 use Rattle.net.proofs.Lowest.{Lowest, first-is, first-cases}
 use Rattle.rules.specs.Types.{Locality, Place, Process, Node, Slot, Target, Action, Evaluated, Net, Found, Matched}
 use Rattle.rules.specs.Types.{Answer, Picked, Aim, Request}

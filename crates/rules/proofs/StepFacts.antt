@@ -8,9 +8,10 @@ use lib.Dec.{ltb}
 use borrow.Author.Tests.{ltb-true, leb-true, lt-ltb}
 use Rattle.net.specs.Choice.{choose}
 use Rattle.net.specs.Records.{variableAt, processAt, nodeAt, instructionAt}
-use Rattle.net.specs.Reaching.{Follows, out-next, in-next, read-next, eval-next, new-next, fork-first, fork-second}
-use Rattle.net.specs.Soundness.{inRange, valueSound, processSound, tuplesSound, nodeSound, targetSound, actionSound}
-use Rattle.net.specs.Soundness.{instructionSound, nodesSound, codeSound, soundOf}
+use Rattle.keeping.specs.Reaching.{Follows, out-next, in-next, read-next, eval-next, new-next, fork-first, fork-second}
+use Rattle.net.specs.Choice.{inRange}
+use Rattle.sound.specs.Soundness.{valueSound, processSound, tuplesSound, nodeSound, targetSound, actionSound}
+use Rattle.sound.specs.Soundness.{instructionSound, nodesSound, codeSound, soundOf}
 use Rattle.net.proofs.Laws.{both-l, both-r, all-e, choose-true}
 use Rattle.step.specs.Request.{aimOf, targetOf}
 use Rattle.rules.specs.Types.{Locality, Place, Value, Process, Node, Target, Action, Net}

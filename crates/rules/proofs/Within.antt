@@ -5,11 +5,11 @@ use Prim.Native.Nat.{_<_}
 use mathlib.Core.Path.{_≡_}
 use mathlib.Core.Bool.{true}
 use Rattle.net.specs.Records.{instructionAt}
-use Rattle.net.specs.Reaching.{Follows}
-use Rattle.net.specs.Keeping.{keepsOf}
+use Rattle.keeping.specs.Reaching.{Follows}
+use Rattle.keeping.specs.Keeping.{keepsOf}
 use Rattle.rules.specs.Types.{Locality, Place, Row, Net}
 use Rattle.rules.specs.Rules.{KeepsWithin}
-use Rattle.net.proofs.KeepingPromise.{keepingPromise as promise}
+use Rattle.keeping.proofs.KeepingPromise.{keepingPromise as promise}
 use Rattle.rules.proofs.StepFacts.{Facts, follow-low}
 
 module _ (s : Net) (ok : Facts s) (sent : Place) (low : sent .0 < s .length) (l : Locality) (row : Row) where

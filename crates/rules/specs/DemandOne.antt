@@ -5,7 +5,7 @@ use Prim.Native.Nat.{ℕ, _<_}
 use mathlib.Core.Path.{_≡_}
 use mathlib.Core.Bool.{true}
 use Rattle.net.specs.Records.{processAt, nodeAt, instructionAt}
-use Rattle.net.specs.Keeping.{mayTake, mayRead, mayPut, maySend, mayCreate}
+use Rattle.keeping.specs.Keeping.{mayTake, mayRead, mayPut, maySend, mayCreate}
 use Rattle.step.specs.Answer.{numberOf}
 use Rattle.step.specs.Request.{targetOf}
 use Rattle.step.specs.Pick.{hostOf, slotOf, pickOf}

@@ -9,11 +9,11 @@ use mathlib.Core.Logic.{_↔_}
 use mathlib.Core.Bool.{true, false}
 use mathlib.Core.List.{List}
 use Rattle.net.specs.Records.{processAt, tupleAt, nodeAt, instructionAt, movedTo, copiedTo, freeProcess}
-use Rattle.net.specs.Matching.{evaluatedOf, boundOf}
-use Rattle.net.specs.Reaching.{Reaches}
-use Rattle.net.specs.Keeping.{mayTake, mayRead, mayPut, maySend, mayCreate, permits}
-use Rattle.net.specs.Soundness.{soundOf}
-use Rattle.net.specs.MatchingPromise.{OldestThatFits}
+use Rattle.matching.specs.Matching.{evaluatedOf, boundOf}
+use Rattle.keeping.specs.Reaching.{Reaches}
+use Rattle.keeping.specs.Keeping.{mayTake, mayRead, mayPut, maySend, mayCreate, permits}
+use Rattle.sound.specs.Soundness.{soundOf}
+use Rattle.matching.specs.MatchingPromise.{OldestThatFits}
 use Rattle.step.specs.Request.{targetOf}
 use Rattle.step.specs.Pick.{hostOf, slotOf, spareOf, pickOf, withHost, added, taken, created, tupleOf}
 use Rattle.rules.specs.Types.{Locality, Place, Row, Process, Node, Target, Action, Instruction, Evaluated, Net}

@@ -10,9 +10,9 @@ pub use Rattle.net.specs.declared.instruction.Target.{Target}
 pub use Rattle.net.specs.declared.instruction.Action.{Action}
 pub use Rattle.net.specs.declared.instruction.Instruction.{Instruction}
 pub use Rattle.net.specs.declared.network.Net.{Net}
-pub use Rattle.net.specs.declared.matching.Evaluated.{Evaluated}
-pub use Rattle.net.specs.declared.matching.Found.{Found}
-pub use Rattle.net.specs.declared.matching.Matched.{Matched}
+pub use Rattle.matching.specs.declared.template.Evaluated.{Evaluated}
+pub use Rattle.matching.specs.declared.template.Found.{Found}
+pub use Rattle.matching.specs.declared.template.Matched.{Matched}
 pub use Rattle.step.specs.declared.request.Aim.{Aim}
 pub use Rattle.step.specs.declared.request.Request.{Request}
 pub use Rattle.step.specs.declared.answer.Answer.{Answer}

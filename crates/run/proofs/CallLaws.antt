@@ -11,7 +11,7 @@ use lib.Dec.{leb}
 use borrow.Author.Tests.{le-leb, lt-leb}
 use Rattle.net.specs.Choice.{choose}
 use Rattle.net.specs.Records.{emptyNet}
-use Rattle.net.specs.Soundness.{soundOf}
+use Rattle.sound.specs.Soundness.{soundOf}
 use Rattle.net.proofs.Laws.{choose-true, choose-false}
 use Rattle.image.specs.Image.{openedOf}
 use Rattle.image.specs.ImageClaims.{AcceptedIsSound}

@@ -8,7 +8,7 @@ use native.Mathlib.Omega.{arith}
 use lib.ListN.{length, getD, set, drop, length-set}
 use native.Mathlib.Numerals.{add-one}
 use lib.Seq.{drop-cons, drop-nil}
-use Rattle.net.specs.Soundness.{soundOf}
+use Rattle.sound.specs.Soundness.{soundOf}
 use Rattle.net.proofs.Laws.{choose-true}
 use Rattle.step.specs.Answer.{numberOf}
 use Rattle.step.specs.Pick.{pickOf, stepOf}

@@ -5,7 +5,7 @@ use mathlib.Core.Path.{_≡_}
 use mathlib.Core.Bool.{true}
 use mathlib.Core.List.{List}
 use lib.ListN.{length, drop}
-use Rattle.net.specs.Soundness.{soundOf}
+use Rattle.sound.specs.Soundness.{soundOf}
 use Rattle.step.specs.Shape.{Shaped}
 use Rattle.run.specs.Types.{Net}
 use Rattle.run.specs.Run.{numbers, ranFrom}

@@ -15,11 +15,11 @@ use Rattle.net.specs.Choice.{choose, both}
 use Rattle.net.specs.Records.{processAt, nodeAt, rightsAt, withNode, withRow, withProcess, withTuple, withCounts, withoutTuple}
 use Rattle.net.specs.Records.{tupleAt, afterTaking, freeSlot, noRights, putIn, takenFrom, startedAtSlot, startedOn}
 use Rattle.net.specs.Records.{movedTo, copiedTo, freeProcess, zeroNode, withVariable}
-use Rattle.net.specs.Keeping.{keepsOf}
+use Rattle.keeping.specs.Keeping.{keepsOf}
 use Rattle.net.proofs.Laws.{choose-true}
 use Rattle.net.proofs.Lowest.{first-cases}
-use Rattle.net.proofs.MatchingPromise.{matchingPromise as matching}
-use Rattle.net.proofs.KeepingPromise.{keepingPromise as keeping}
+use Rattle.matching.proofs.MatchingPromise.{matchingPromise as matching}
+use Rattle.keeping.proofs.KeepingPromise.{keepingPromise as keeping}
 use Rattle.step.specs.Types.{Locality, Place, Value, Tuple, Rights, Row, Process, Node, Slot, Net, Evaluated, Found}
 use Rattle.step.specs.Answer.{Answer, Picked}
 use Rattle.step.specs.Request.{Request, granted}

@@ -15,12 +15,12 @@ use Rattle.net.specs.Records.{variableAt, tupleAt, nodeAt, instructionAt, field
 use Rattle.net.specs.Records.{zeroField, zeroTuple, unsetVariable, freeProcess, noRights, zeroRow, zeroNode, allRights}
 use Rattle.net.specs.Records.{withVariable, withRights, withRow, withProcess, withTuple, withNode}
 use Rattle.net.specs.Records.{movedTo, copiedTo, afterTaking, withoutTuple}
-use Rattle.net.specs.Soundness.{tupleSound, isZeroItem, isZeroTuple, isNone, valueSound, isUnset, isFree, processSound}
-use Rattle.net.specs.Soundness.{nodeSound, instructionSound}
+use Rattle.sound.specs.Soundness.{tupleSound, isZeroItem, isZeroTuple, isNone, valueSound, isUnset, isFree, processSound}
+use Rattle.sound.specs.Soundness.{nodeSound, instructionSound}
 use Rattle.net.proofs.Laws.{both-i, both-l, both-r, choose-true, all-i, all-e}
 use Rattle.net.proofs.Every.{chosen-lt, Every, every-replicate, every-set, every-weaken, Filled, filled-set, filled-add}
 use Rattle.net.proofs.Past.{pastProcess, pastTuple}
-use Rattle.net.proofs.MatchingPromise.{matchingPromise as promise}
+use Rattle.matching.proofs.MatchingPromise.{matchingPromise as promise}
 use Rattle.net.proofs.FoldLaws.{fold-keeps}
 use Rattle.step.specs.Types.{Locality, Value, Variable, Tuple, Row, Process, Node, Place, Net}
 use Rattle.step.specs.Shape.{ShapedTuple, ShapedProcess}

@@ -13,10 +13,11 @@ use lib.Dec.{ltb, leb}
 use borrow.Author.Tests.{ltb-true, leb-true, lt-ltb, le-ltb, le-leb}
 use Rattle.net.specs.Choice.{choose, both, all}
 use Rattle.net.specs.Records.{variableAt, fieldAt, rightsAt, processAt, tupleAt, patternAt, nodeAt, instructionAt, addressOf, placeOf}
-use Rattle.net.specs.Soundness.{inRange, itemSound, tupleSound, isZeroTuple, tuplesSound}
-use Rattle.net.specs.Soundness.{isNone, rowSound, valueSound, processSound, nodeSound, isZeroNode}
-use Rattle.net.specs.Soundness.{targetSound, patternSound, templateSound, actionSound, templateFor}
-use Rattle.net.specs.Soundness.{instructionSound, isZeroInstruction, nodesSound, codeSound, soundOf}
+use Rattle.net.specs.Choice.{inRange}
+use Rattle.sound.specs.Soundness.{itemSound, tupleSound, isZeroTuple, tuplesSound}
+use Rattle.sound.specs.Soundness.{isNone, rowSound, valueSound, processSound, nodeSound, isZeroNode}
+use Rattle.sound.specs.Soundness.{targetSound, patternSound, templateSound, actionSound, templateFor}
+use Rattle.sound.specs.Soundness.{instructionSound, isZeroInstruction, nodesSound, codeSound, soundOf}
 use Rattle.net.proofs.Laws.{both-i, both-l, both-r, implies-i, implies-e, choose-true, choose-false, all-i, all-e}
 use Rattle.net.proofs.Every.{chosen, chosen-lt, Every, Filled}
 use Rattle.net.proofs.Past.{in-range, pastProcess, pastTuple}

@@ -9,12 +9,12 @@ use native.Mathlib.Omega.{arith}
 use lib.ListN.{getD, set, List·getD-map}
 use lib.Seq.{map-set-same}
 use Rattle.net.specs.Records.{processAt, nodeAt, tupleAt, withProcess, withNode, movedTo, freeProcess}
-use Rattle.net.specs.Matching.{matchedOf}
-use Rattle.net.specs.Soundness.{tupleSound, instructionSound, soundOf}
-use Rattle.net.specs.MatchingPromise.{OldestThatFits}
+use Rattle.matching.specs.Matching.{matchedOf}
+use Rattle.sound.specs.Soundness.{tupleSound, instructionSound, soundOf}
+use Rattle.matching.specs.MatchingPromise.{OldestThatFits}
 use Rattle.net.proofs.Laws.{choose-true}
 use Rattle.net.proofs.Every.{chosen, chosen-lt}
-use Rattle.net.proofs.MatchingPromise.{matchingPromise as promise}
+use Rattle.matching.proofs.MatchingPromise.{matchingPromise as promise}
 use Rattle.step.specs.Types.{Locality, Place, Tuple, Process, Slot, Instruction, Net, Evaluated, Found}
 use Rattle.step.specs.Answer.{Answer, Picked}
 use Rattle.step.specs.Request.{Request}

@@ -10,14 +10,15 @@ use lib.IntN.{ℤ}
 use lib.Dec.{ltb}
 use borrow.Author.Tests.{ltb-true}
 use Rattle.net.specs.Records.{zeroField, zeroTuple, fieldAt, variableAt, withField}
-use Rattle.net.specs.Matching.{evaluatedOf, wantAt, fitsOf, boundOf}
-use Rattle.net.specs.Soundness.{inRange, itemSound, isZeroItem, tupleSound, valueSound}
-use Rattle.net.specs.Soundness.{targetSound, templateSound, actionSound, templateFor, instructionSound}
-use Rattle.net.specs.MatchingPromise.{Holds, reading-met, address-met, as-before}
+use Rattle.matching.specs.Matching.{evaluatedOf, wantAt, fitsOf, boundOf}
+use Rattle.net.specs.Choice.{inRange}
+use Rattle.sound.specs.Soundness.{itemSound, isZeroItem, tupleSound, valueSound}
+use Rattle.sound.specs.Soundness.{targetSound, templateSound, actionSound, templateFor, instructionSound}
+use Rattle.matching.specs.MatchingPromise.{Holds, reading-met, address-met, as-before}
 use Rattle.net.proofs.Laws.{both-i, both-l, both-r, all-e}
 use Rattle.net.proofs.Every.{chosen, chosen-lt, Every, every-replicate, Filled, filled-add, filled-all}
 use Rattle.net.proofs.Past.{in-range}
-use Rattle.net.proofs.MatchingPromise.{matchingPromise as promise}
+use Rattle.matching.proofs.MatchingPromise.{matchingPromise as promise}
 use Rattle.net.proofs.FoldLaws.{fold-keeps}
 use Rattle.step.specs.Types.{Locality, Value, Item, Field, Tuple, Process, Target}
 use Rattle.step.specs.Types.{Action, Instruction, Want, Evaluated}

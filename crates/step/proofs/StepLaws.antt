@@ -6,11 +6,11 @@ use lib.ListN.{getD}
 use lib.IntN.{ℤ}
 use Rattle.net.specs.Choice.{choose}
 use Rattle.net.specs.Records.{rightsAt, withField, withRights, withRow, withVariable, movedTo, copiedTo, putIn, startedOn, zeroNode}
-use Rattle.net.specs.Keeping.{mayTake, mayRead, mayPut, maySend, mayCreate}
-use Rattle.net.specs.Matching.{wantAt}
+use Rattle.keeping.specs.Keeping.{mayTake, mayRead, mayPut, maySend, mayCreate}
+use Rattle.matching.specs.Matching.{wantAt}
 use Rattle.net.proofs.Laws.{choose-true, choose-false}
-use Rattle.net.proofs.KeepingPromise.{keepingPromise as keeping}
-use Rattle.net.proofs.MatchingPromise.{matchingPromise as matching}
+use Rattle.keeping.proofs.KeepingPromise.{keepingPromise as keeping}
+use Rattle.matching.proofs.MatchingPromise.{matchingPromise as matching}
 use Rattle.step.specs.Types.{Locality, Place, Value, Item, Tuple, Rights, Row, Process, Node, Changed, Want, Evaluated, Found, Matched}
 use Rattle.step.specs.Answer.{Answer}
 use Rattle.step.specs.Plan.{Plan, going, changing, opening}

@@ -11,7 +11,7 @@ use lib.ListN.{length, getD, set, List·getD-eq-default}
 use borrow.Author.Tests.{ltb-true, lt-ltb, le-ltb}
 use Rattle.net.specs.Choice.{choose, both}
 use Rattle.net.specs.Records.{nodeAt, processAt, instructionAt, withNode, withCounts, zeroInstruction}
-use Rattle.net.specs.Matching.{evaluatedOf}
+use Rattle.matching.specs.Matching.{evaluatedOf}
 use Rattle.net.proofs.Laws.{choose-true, choose-false, both-l, both-r}
 use Rattle.step.specs.Types.{Locality, Action, Row, Process, Node, Instruction, Net, Evaluated}
 use Rattle.step.specs.Answer.{Answer, Picked}

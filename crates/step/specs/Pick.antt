@@ -7,9 +7,9 @@ use Rattle.net.specs.Choice.{choose, fold}
 use Rattle.net.specs.Records.{processAt, nodeAt, instructionAt, withProcess, withTuple, withNode, withRow, withRights}
 use Rattle.net.specs.Records.{withVariable, movedTo, copiedTo, withoutTuple, freeSlot, freeProcess, allRights, zeroNode}
 use Rattle.net.specs.Records.{zeroTuple, withField, addressOf}
-use Rattle.net.specs.Matching.{evaluatedOf, matchedOf, wantAt}
-use Rattle.net.specs.Keeping.{keepsOf}
-use Rattle.net.specs.Soundness.{soundOf}
+use Rattle.matching.specs.Matching.{evaluatedOf, matchedOf, wantAt}
+use Rattle.keeping.specs.Keeping.{keepsOf}
+use Rattle.sound.specs.Soundness.{soundOf}
 use Rattle.step.specs.Answer.{Answer, Picked}
 use Rattle.step.specs.Request.{Request, requestOf, granted}
 use Rattle.step.specs.Types.{Locality, Place, Item, Tuple, Row, Process, Slot, Net, Instruction, Value}

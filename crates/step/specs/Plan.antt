@@ -8,8 +8,8 @@ use lib.Dec.{ltb}
 use Rattle.net.specs.Choice.{choose}
 use Rattle.net.specs.Records.{nodeAt, withProcess, withNode, withRow, withVariable, withCounts, movedTo, copiedTo}
 use Rattle.net.specs.Records.{putIn, takenFrom, startedOn, freeProcess, zeroNode, addressOf}
-use Rattle.net.specs.Matching.{matchedOf}
-use Rattle.net.specs.Keeping.{keepsOf}
+use Rattle.matching.specs.Matching.{matchedOf}
+use Rattle.keeping.specs.Keeping.{keepsOf}
 use Rattle.step.specs.Types.{Locality, Place, Value, Tuple, Row, Process, Node, Changed, Net, Evaluated, Found, Instruction}
 use Rattle.step.specs.Answer.{Answer}
 use Rattle.step.specs.Request.{Request, granted}

@@ -5,8 +5,8 @@ pub use Rattle.step.specs.declared.request.Request.{Request}
 use mathlib.Core.Bool.{Bool, true}
 use Rattle.net.specs.Choice.{choose}
 use Rattle.net.specs.Records.{variableAt}
-use Rattle.net.specs.Matching.{evaluatedOf}
-use Rattle.net.specs.Keeping.{mayTake, mayRead, mayPut, maySend, mayCreate}
+use Rattle.matching.specs.Matching.{evaluatedOf}
+use Rattle.keeping.specs.Keeping.{mayTake, mayRead, mayPut, maySend, mayCreate}
 use Rattle.step.specs.Types.{Locality, Value, Process, Row, Target, Action, Instruction, Evaluated}
 
 -- the address that a variable holds

@@ -2,7 +2,7 @@
 use Prim.Native.Nat.{ℕ}
 use mathlib.Core.Path.{_≡_}
 use mathlib.Core.Bool.{true}
-use Rattle.net.specs.Soundness.{soundOf}
+use Rattle.sound.specs.Soundness.{soundOf}
 use Rattle.step.specs.Pick.{pickOf}
 use Rattle.step.specs.Shape.{Shaped}
 use Rattle.step.specs.Types.{Net}

@@ -8,7 +8,7 @@ use mathlib.Core.Path.{_≡_}
 use lib.Dec.{eqb, ltb}
 use Rattle.net.specs.Choice.{choose, both}
 use Rattle.net.specs.Records.{zeroInstruction, nodeAt}
-use Rattle.net.specs.Matching.{evaluatedOf}
+use Rattle.matching.specs.Matching.{evaluatedOf}
 use Rattle.step.specs.Types.{Locality, Place, Row, Process, Node, Instruction, Net, Evaluated}
 use Rattle.step.specs.Answer.{Answer}
 use Rattle.step.specs.Request.{Request, requestOf}

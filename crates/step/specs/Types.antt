@@ -18,8 +18,8 @@ pub use Rattle.net.specs.declared.instruction.TemplateField.{TemplateField}
 pub use Rattle.net.specs.declared.instruction.Action.{Action}
 pub use Rattle.net.specs.declared.instruction.Instruction.{Instruction}
 pub use Rattle.net.specs.declared.network.Net.{Net}
-pub use Rattle.net.specs.declared.matching.Want.{Want}
-pub use Rattle.net.specs.declared.matching.Wanted.{Wanted}
-pub use Rattle.net.specs.declared.matching.Evaluated.{Evaluated}
-pub use Rattle.net.specs.declared.matching.Found.{Found}
-pub use Rattle.net.specs.declared.matching.Matched.{Matched}
+pub use Rattle.matching.specs.declared.template.Want.{Want}
+pub use Rattle.matching.specs.declared.template.Wanted.{Wanted}
+pub use Rattle.matching.specs.declared.template.Evaluated.{Evaluated}
+pub use Rattle.matching.specs.declared.template.Found.{Found}
+pub use Rattle.matching.specs.declared.template.Matched.{Matched}

@@ -1,19 +1,19 @@
 // What an instruction asks for, once its variables are read (document 01, "One pick").
+use keeping::rights::rights_over;
+use matching::template::Evaluated;
+use matching::template::evaluate;
+use matching::template::variable;
 use net::instruction::Action;
 use net::instruction::Instruction;
 use net::instruction::Target;
-use net::keeping::rights_over;
 use net::locality::Locality;
 use net::locality::Place;
-use net::matching::Evaluated;
-use net::matching::evaluate;
-use net::matching::variable;
 use net::policy::Row;
 use net::process::Process;
 use net::tuple::Value;
 ghost use mathlib.Core.Path.{_≡_};
 ghost use Rattle.net.specs.Choice.{choose};
-ghost use Rattle.net.specs.Matching.{evaluatedOf};
+ghost use Rattle.matching.specs.Matching.{evaluatedOf};
 ghost use Rattle.net.specs.Records.{variableAt};
 ghost use Rattle.step.specs.Request.{Aim, Request, aimOf, targetOf, at, asked, requestOf, granted};
 

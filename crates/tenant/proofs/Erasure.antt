@@ -5,7 +5,7 @@ use Prim.Native.Nat.{ℕ}
 use mathlib.Core.Path.{_≡_, refl, ap, _∙_}
 use mathlib.Core.Bool.{Bool, true, false}
 use Rattle.net.specs.Records.{nodeAt, rightsAt, noRights}
-use Rattle.net.specs.Keeping.{mayTake, mayRead, mayPut, maySend, mayCreate}
+use Rattle.keeping.specs.Keeping.{mayTake, mayRead, mayPut, maySend, mayCreate}
 use Rattle.net.proofs.Every.{chosen}
 use Rattle.step.specs.Request.{granted}
 use Rattle.step.specs.Pick.{hostOf, unchanged, performed, withHost, stopped, added, out, taken, inFound, input}

@@ -10,7 +10,7 @@ use lib.Seq.{getD-set-other}
 use Rattle.net.specs.Choice.{choose}
 use Rattle.net.specs.Records.{nodeAt, rightsAt, noRights, addressOf}
 use Rattle.net.specs.Records.{withNode, withProcess, withTuple, withoutTuple, withRow, withRights}
-use Rattle.net.specs.Keeping.{mayCreate}
+use Rattle.keeping.specs.Keeping.{mayCreate}
 use Rattle.net.proofs.Every.{chosen}
 use Rattle.step.specs.Request.{granted}
 use Rattle.step.specs.Pick.{unchanged, performed, withHost, stopped, added, out, taken, inFound, input}

@@ -6,7 +6,7 @@ use mathlib.Core.Path.{_≡_, refl, sym, ap, _∙_}
 use mathlib.Core.Bool.{Bool, true, false}
 use mathlib.Core.List.{List, [], _∷_}
 use Rattle.net.specs.Records.{nodeAt, addressOf}
-use Rattle.net.specs.Soundness.{soundOf}
+use Rattle.sound.specs.Soundness.{soundOf}
 use Rattle.net.proofs.Laws.{choose-true, choose-false}
 use Rattle.step.specs.Pick.{hostOf, stepOf, pickOf}
 use Rattle.step.specs.Shape.{Shaped}

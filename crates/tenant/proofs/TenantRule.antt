@@ -10,7 +10,7 @@ use mathlib.Core.Logic.{_⊎_, inl, inr}
 use native.Mathlib.Omega.{arith}
 use lib.ListN.{getD-replicate, List·getD-eq-default}
 use Rattle.net.specs.Records.{nodeAt, rightsAt, noRights, zeroNode, zeroRow, emptyNet}
-use Rattle.net.specs.Soundness.{soundOf}
+use Rattle.sound.specs.Soundness.{soundOf}
 use Rattle.image.specs.Image.{openedOf}
 use Rattle.image.specs.ImageClaims.{AcceptedIsSound}
 use Rattle.net.proofs.Laws.{both-l}

@@ -10,8 +10,8 @@ pub use Rattle.net.specs.declared.node.Slot.{Slot}
 pub use Rattle.net.specs.declared.instruction.Action.{Action}
 pub use Rattle.net.specs.declared.instruction.Instruction.{Instruction}
 pub use Rattle.net.specs.declared.network.Net.{Net}
-pub use Rattle.net.specs.declared.matching.Evaluated.{Evaluated}
-pub use Rattle.net.specs.declared.matching.Found.{Found}
+pub use Rattle.matching.specs.declared.template.Evaluated.{Evaluated}
+pub use Rattle.matching.specs.declared.template.Found.{Found}
 pub use Rattle.image.specs.declared.reader.Verdict.{Verdict}
 pub use Rattle.step.specs.declared.request.Request.{Request}
 pub use Rattle.step.specs.declared.answer.Answer.{Answer}

@@ -9,7 +9,7 @@ use native.Mathlib.Omega.{arith}
 use lib.ListN.{length}
 use Rattle.net.specs.Choice.{choose, all}
 use Rattle.net.specs.Records.{emptyNet, nodeAt, addressOf}
-use Rattle.net.specs.Soundness.{soundOf}
+use Rattle.sound.specs.Soundness.{soundOf}
 use Rattle.writer.specs.Types.{Net}
 use Rattle.image.specs.BitReader.{Parsed, got, fault, Reader, pure, andThen, require, numbered, _>>=_, _>>_}
 use Rattle.writer.specs.Types.{Fault}

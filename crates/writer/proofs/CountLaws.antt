@@ -7,9 +7,10 @@ use lib.Dec.{eqb, leb}
 use borrow.Author.Tests.{eqb-true, leb-true}
 use Rattle.net.specs.Choice.{choose, both, all}
 use Rattle.net.specs.Records.{processAt, tupleAt, nodeAt, instructionAt, addressOf, placeOf}
-use Rattle.net.specs.Soundness.{inRange, tupleSound, isZeroTuple, tuplesSound, rowSound, processSound, nodeSound, isZeroNode}
-use Rattle.net.specs.Soundness.{isZeroRow, isFree, templateSound, noTemplate, actionSound, templateFor}
-use Rattle.net.specs.Soundness.{instructionSound, isStop, isZeroInstruction, nodesSound, codeSound, soundOf}
+use Rattle.net.specs.Choice.{inRange}
+use Rattle.sound.specs.Soundness.{tupleSound, isZeroTuple, tuplesSound, rowSound, processSound, nodeSound, isZeroNode}
+use Rattle.sound.specs.Soundness.{isZeroRow, isFree, templateSound, noTemplate, actionSound, templateFor}
+use Rattle.sound.specs.Soundness.{instructionSound, isStop, isZeroInstruction, nodesSound, codeSound, soundOf}
 use Rattle.writer.specs.Types.{Tuple, Node, Action, Instruction, Net}
 use Rattle.writer.specs.Writing.{NodeCounts, Counts}
 use Rattle.net.proofs.Laws.{both-l, both-r, all-e}

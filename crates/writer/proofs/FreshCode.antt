@@ -11,9 +11,10 @@ use borrow.Author.Tests.{eqb-true, ltb-true, lt-ltb}
 use Rattle.net.specs.Choice.{both, implies}
 use Rattle.net.specs.Records.{zeroTemplateField, zeroInstruction, patternAt, withAction}
 use Rattle.writer.specs.Types.{Pattern, TemplateField, Action, Instruction}
-use Rattle.net.specs.Soundness.{inRange, targetSound, patternSound, isZeroPattern, templateSound, noTemplate, isActual}
-use Rattle.net.specs.Soundness.{actualsOnly, bindsAnew, formalsApart, actionSound, templateFor, instructionSound, isStop}
-use Rattle.net.specs.Soundness.{isZeroInstruction}
+use Rattle.net.specs.Choice.{inRange}
+use Rattle.sound.specs.Soundness.{targetSound, patternSound, isZeroPattern, templateSound, noTemplate, isActual}
+use Rattle.sound.specs.Soundness.{actualsOnly, bindsAnew, formalsApart, actionSound, templateFor, instructionSound, isStop}
+use Rattle.sound.specs.Soundness.{isZeroInstruction}
 use Rattle.writer.specs.Fresh.{instructionFits}
 use Rattle.net.proofs.Laws.{both-l, both-r, implies-e, all-e}
 use Rattle.writer.proofs.ReadsCells.{zeros-are}

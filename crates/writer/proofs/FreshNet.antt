@@ -14,8 +14,9 @@ use Rattle.net.specs.Records.{startingAt, zeroField, zeroTuple, unsetVariable, 
 use Rattle.net.specs.Records.{zeroTemplateField, zeroInstruction, fieldAt, variableAt, processAt, tupleAt, patternAt, nodeAt}
 use Rattle.net.specs.Records.{instructionAt, withAction}
 use Rattle.writer.specs.Types.{Place, Tuple, Process, Node, Target, Action, Instruction, Net}
-use Rattle.net.specs.Soundness.{inRange, isUnset, nodeSound, isZeroNode, nodesSound, instructionSound, isZeroInstruction}
-use Rattle.net.specs.Soundness.{codeSound, soundOf}
+use Rattle.net.specs.Choice.{inRange}
+use Rattle.sound.specs.Soundness.{isUnset, nodeSound, isZeroNode, nodesSound, instructionSound, isZeroInstruction}
+use Rattle.sound.specs.Soundness.{codeSound, soundOf}
 use Rattle.writer.specs.ImageOf.{processCount}
 use Rattle.writer.specs.Fresh.{readingFits, itemFits, patternFits, tupleFits, processFits, nodeFits, instructionFits}
 use Rattle.writer.specs.Fresh.{netFits, slotStarts, nodeStarts}

@@ -15,8 +15,8 @@ use Rattle.net.specs.declared.tuple.Value.{Value}
 use Rattle.net.specs.Records.{zeroField, zeroTuple, unsetVariable, freeProcess, noRights, zeroRow, zeroNode}
 use Rattle.net.specs.Records.{placeOf, fieldAt, variableAt, rightsAt, processAt, tupleAt}
 use Rattle.writer.specs.Types.{Item, Field, Tuple, Rights, Row, Process, Node}
-use Rattle.net.specs.Matching.{sameReading}
-use Rattle.net.specs.Soundness.{isZeroItem, isZeroTuple, isNone, isZeroRow, isUnset, isFree, isZeroNode}
+use Rattle.net.specs.Readings.{sameReading}
+use Rattle.sound.specs.Soundness.{isZeroItem, isZeroTuple, isNone, isZeroRow, isUnset, isFree, isZeroNode}
 use Rattle.writer.specs.Fresh.{tupleFits, processFits, nodeFits}
 use Rattle.net.proofs.Laws.{both-l, both-r, choose-true, choose-false, all-e}
 use Rattle.net.proofs.Every.{Every, Filled}

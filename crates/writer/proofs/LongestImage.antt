@@ -11,10 +11,11 @@ use Rattle.net.specs.Choice.{choose, both, implies, all, fold}
 use Rattle.net.specs.Records.{startingAt, zeroField, unsetVariable, allRights, zeroTemplateField, addressOf, placeOf}
 use Rattle.net.specs.Records.{fieldAt, variableAt, rightsAt, processAt, tupleAt, patternAt, nodeAt, instructionAt}
 use Rattle.writer.specs.Types.{Locality, Place, Tuple, Node, Target, Action, Instruction, Net}
-use Rattle.net.specs.Soundness.{inRange, itemSound, tupleSound, tuplesSound, rowSound, isUnset, valueSound, processSound}
-use Rattle.net.specs.Soundness.{nodeSound, targetSound, patternSound, templateSound, isActual, actualsOnly, actionSound}
-use Rattle.net.specs.Soundness.{templateFor, instructionSound, nodesSound, codeSound, soundOf}
-use Rattle.net.specs.Keeping.{mayPut, atTarget, permits, permitsMarked, keepsOf}
+use Rattle.net.specs.Choice.{inRange}
+use Rattle.sound.specs.Soundness.{itemSound, tupleSound, tuplesSound, rowSound, isUnset, valueSound, processSound}
+use Rattle.sound.specs.Soundness.{nodeSound, targetSound, patternSound, templateSound, isActual, actualsOnly, actionSound}
+use Rattle.sound.specs.Soundness.{templateFor, instructionSound, nodesSound, codeSound, soundOf}
+use Rattle.keeping.specs.Keeping.{mayPut, atTarget, permits, permitsMarked, keepsOf}
 use Rattle.image.specs.Image.{admitsProcess, admitsNode, admitsAt, admits, accepted, openedOf}
 use Rattle.writer.specs.Types.{Verdict, Opened}
 use Rattle.writer.specs.ImageOf.{bitsOf, joined, addressBits, placeBits, readingBits, headerBits, rightsBits, rowBits}

@@ -10,7 +10,7 @@ use lib.ListN.{length, getD, replicate, length-replicate, getD-replicate, List·
 use lib.Seq.{sets-eq, getD-append-add, getD-drop}
 use Rattle.net.specs.Choice.{choose, both, all}
 use Rattle.net.specs.Records.{variableAt, processAt, nodeAt, addressOf}
-use Rattle.net.specs.Soundness.{isUnset, soundOf}
+use Rattle.sound.specs.Soundness.{isUnset, soundOf}
 use Rattle.net.proofs.Laws.{both-l, both-r, choose-true, choose-false}
 use Rattle.image.specs.Image.{accepted, admits}
 use Rattle.image.specs.LengthClaims.{LongestAccepted}

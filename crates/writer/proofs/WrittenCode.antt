@@ -7,7 +7,7 @@ use mathlib.Core.List.{List, [], _∷_, _++_}
 use native.Mathlib.Omega.{arith}
 use Rattle.writer.specs.Types.{Place, Target, Action, Instruction}
 use Rattle.net.specs.Records.{placeOf, zeroInstruction, withAction, patternAt}
-use Rattle.net.specs.Soundness.{targetSound}
+use Rattle.sound.specs.Soundness.{targetSound}
 use Rattle.image.specs.BitReader.{pure, alternative}
 use Rattle.image.specs.Image.{communication, evaluation, creation, forking, instruction}
 use Rattle.writer.specs.ImageOf.{bitsOf, placeBits, variableBits, targetBits, templateBits, actionBits, instructionBits}

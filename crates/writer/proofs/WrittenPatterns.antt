@@ -10,7 +10,7 @@ use lib.IntN.{ℤ}
 use borrow.Author.Tests.{ltb-true, lt-ltb}
 use Rattle.net.specs.Choice.{implies}
 use Rattle.writer.specs.Types.{Locality, Target, Pattern, Instruction}
-use Rattle.net.specs.Soundness.{targetSound, patternSound, isActual, unboundBefore, bindsAnew}
+use Rattle.sound.specs.Soundness.{targetSound, patternSound, isActual, unboundBefore, bindsAnew}
 use Rattle.image.specs.BitReader.{pure, alternative}
 use Rattle.image.specs.Image.{writtenTarget, heldTarget, target, readingPattern, addressPattern, heldPattern}
 use Rattle.image.specs.Image.{fresh, formalReading, formalAddress, kind, pattern}

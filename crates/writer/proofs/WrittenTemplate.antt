@@ -12,7 +12,7 @@ use lib.Dec.{ltb}
 use borrow.Author.Tests.{ltb-true, lt-ltb}
 use Rattle.writer.specs.Types.{Pattern, TemplateField, Action, Instruction}
 use Rattle.net.specs.Records.{zeroTemplateField, zeroInstruction, patternAt, withPattern}
-use Rattle.net.specs.Soundness.{bindsNot, unboundBefore, bindsAnew}
+use Rattle.sound.specs.Soundness.{bindsNot, unboundBefore, bindsAnew}
 use Rattle.image.specs.Image.{templateField, template}
 use Rattle.writer.specs.ImageOf.{bitsOf, joined, patternBits, templateBits}
 use Rattle.net.proofs.Laws.{choose-true, implies-i, implies-e, all-i, all-e, split}

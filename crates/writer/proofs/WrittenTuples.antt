@@ -13,7 +13,7 @@ use borrow.Author.Tests.{ltb-true, lt-ltb}
 use Rattle.net.specs.Choice.{choose}
 use Rattle.writer.specs.Types.{Locality, Item, Field, Tuple}
 use Rattle.net.specs.Records.{zeroField, zeroTuple, fieldAt, withField}
-use Rattle.net.specs.Soundness.{itemSound}
+use Rattle.sound.specs.Soundness.{itemSound}
 use Rattle.image.specs.Image.{readingItem, addressItem, item, tupleField, tuple}
 use Rattle.writer.specs.ImageOf.{bitsOf, joined, addressBits, readingBits, itemBits, tupleBits}
 use Rattle.writer.specs.Fresh.{readingFits, itemFits}

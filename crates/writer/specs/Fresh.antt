@@ -7,7 +7,7 @@ use lib.Dec.{eqb, ltb}
 use lib.IntN.{ℤ}
 use Rattle.net.specs.Choice.{choose, both, all}
 use Rattle.net.specs.Records.{fieldAt, variableAt, processAt, tupleAt, patternAt, nodeAt, instructionAt, addressOf, placeOf}
-use Rattle.net.specs.Soundness.{isUnset, soundOf}
+use Rattle.sound.specs.Soundness.{isUnset, soundOf}
 use Rattle.writer.specs.Types.{Item, Tuple, Process, Node, Pattern, Instruction, Net}
 use Rattle.image.specs.Image.{admits}
 use Rattle.writer.specs.ImageOf.{processCount}

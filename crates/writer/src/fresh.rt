@@ -4,14 +4,14 @@ use image::reader::admitted;
 use net::network::Net;
 use net::node::Node;
 use net::process::Process;
-use net::sound::sound;
 use net::tuple::Value;
+use sound::soundness::sound;
 ghost use Prim.Native.Nat.{_+_, _<_, _≤_};
 ghost use mathlib.Core.Bool.{not};
 ghost use mathlib.Core.Path.{_≡_};
 ghost use Rattle.net.specs.Choice.{choose, both, all};
 ghost use Rattle.net.specs.Records.{variableAt, nodeAt, addressOf};
-ghost use Rattle.net.specs.Soundness.{isUnset};
+ghost use Rattle.sound.specs.Soundness.{isUnset};
 ghost use Rattle.writer.specs.ImageOf.{processCount};
 ghost use Rattle.writer.specs.Fresh.{nodeStarts, freshOf};
 

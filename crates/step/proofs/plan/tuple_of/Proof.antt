@@ -2,7 +2,7 @@
 use Rattle.net.proofs.FoldLaws.{fold-none, fold-more, fold-end}
 use Rattle.net.specs.Choice.{fold, choose}
 use Rattle.net.specs.Records.{withField, zeroTuple}
-use Rattle.net.specs.Matching.{wantAt}
+use Rattle.matching.specs.Matching.{wantAt}
 use Rattle.step.specs.Pick.{itemOf, tupleOf}
 use lib.Dec.{ltb}
 use Prim.Native.Nat.{_≤_, _-_}

@@ -4,7 +4,7 @@ use mathlib.Core.Path.{_≡_}
 use Rattle.net.proofs.AllLaws.{all-end, all-more, all-none}
 use Rattle.net.specs.Choice.{all}
 use Rattle.net.specs.Records.{variableAt}
-use Rattle.net.specs.Soundness.{isUnset}
+use Rattle.sound.specs.Soundness.{isUnset}
 use borrow.Author.Needs.{needs}
 use Rattle.writer.proofs.fresh.all_unset.Statement.{statement}
 use Rattle.writer.proofs.fresh.all_unset.Tie as tie

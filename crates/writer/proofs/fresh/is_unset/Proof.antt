@@ -1,5 +1,5 @@
 -- `writer::fresh::is_unset` meets its contract. Assumes nothing.
-use Rattle.net.specs.Soundness.{isUnset}
+use Rattle.sound.specs.Soundness.{isUnset}
 use borrow.Author.Needs.{needs}
 use Rattle.writer.proofs.fresh.is_unset.Statement.{statement}
 use Rattle.writer.proofs.fresh.is_unset.Tie as tie

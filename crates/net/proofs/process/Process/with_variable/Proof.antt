@@ -1,7 +1,8 @@
 -- `net::process::Process::with_variable` meets its contract: the store made, or none past the last variable. Assumes nothing.
 use borrow.Author.Needs.{needs}
 use Rattle.net.specs.Records.{withVariable}
-use Rattle.net.proofs.MatchingLaws.{set-past}
+use Rattle.net.proofs.NodeLaws.{variable-out}
+use Rattle.net.proofs.Laws.{length-mapped}
 use Rattle.net.proofs.process.Process.with_variable.Statement.{statement}
 use Rattle.net.proofs.process.Process.with_variable.Tie as tie
 
@@ -13,4 +14,4 @@ with-variable-spec =
     (λ c. search needs)
     (λ c. search needs)
     (λ c. search needs)
-    (λ c. search (needs, set-past)))
+    (λ c. search (needs, variable-out, length-mapped)))

@@ -1,0 +1,5 @@
+pub mod KeepingLaws
+pub mod KeepingPromise
+pub mod Reached
+pub mod Unmarked
+pub mod WorklistLaws

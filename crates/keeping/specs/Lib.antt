@@ -1,0 +1,7 @@
+pub mod Judged
+pub mod Keeping
+pub mod KeepingPromise
+pub mod Reaching
+pub mod ReachingClaims
+pub mod Types
+pub mod Worklist

@@ -1,0 +1,4 @@
+// Reaching and rights (document 01, "Reaching and rights"). What the crates above may rest on is `KeepingPromise` of
+// specs/.
+mod reaching;
+pub mod rights;

@@ -1,0 +1,4 @@
+pub mod Fitting
+pub mod Matching
+pub mod MatchingPromise
+pub mod Types

@@ -1,0 +1,33 @@
+-- `sound::soundness::formals_apart` meets its contract: `ok` joins the tests at the numbers below the counter. Assumes nothing.
+use Prim.Native.Nat.{_≤_, _-_}
+use mathlib.Core.Path.{_≡_}
+use lib.Dec.{ltb}
+use Rattle.net.specs.Choice.{implies, all}
+use Rattle.net.specs.Records.{patternAt}
+use Rattle.sound.specs.Soundness.{bindsAnew, formalsApart}
+use Rattle.net.proofs.AllLaws.{all-none, all-more, all-end}
+use borrow.Author.Needs.{needs}
+use Rattle.sound.proofs.soundness.formals_apart.Statement.{statement}
+use Rattle.sound.proofs.soundness.formals_apart.Tie as tie
+
+abbrev Inv-loop : tie.InvT-loop
+Inv-loop c ok₀ i₀ ok i = (i ≤ 4) × (ok ≡ all i (λ m. implies (ltb m (c .count)) (bindsAnew c m (patternAt c m))))
+
+abbrev μ-loop : tie.MeasureT-loop
+μ-loop c ok₀ i₀ ok i = 4 - i
+
+pub formals-apart-spec : {M : Type 1} → statement M
+unfolding formalsApart patternAt
+formals-apart-spec =
+    tie.close
+    (tie.spec
+    Inv-loop
+    μ-loop
+    (λ c. search (needs, all-none))
+    (λ c. search needs)
+    (λ c. search needs)
+    (λ c κs. search needs)
+    (λ c. search needs)
+    (λ c. search needs)
+    (λ c. search (needs, all-more))
+    (λ c. search (needs, all-end)))
