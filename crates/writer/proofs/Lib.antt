@@ -8,13 +8,12 @@ pub mod FreshNode
 pub mod FreshZero
 pub mod LongestImage
 pub mod NetTypes
+pub mod NumberLaws
 pub mod PackLaws
 pub mod PackedClaims
 pub mod ReadsCells
 pub mod ReadsParts
 pub mod ReadsWrites
-pub mod SignedLaws
-pub mod WritingLaws
 pub mod WrittenBytes
 pub mod WrittenCode
 pub mod WrittenFields

@@ -1,4 +1,3 @@
-pub mod Buffer
 pub mod Calls
 pub mod Fresh
 pub mod ImageOf
