@@ -1,5 +1,6 @@
 // Numbers put into a buffer, little-endian. Each function puts at `at` and gives the place after what it
 // put; what does not fit is left off.
+use text::signed::complement;
 
 pub fn put(out: &mut [u8], at: usize, b: u8) -> usize {
     if at < out.len() {
@@ -36,17 +37,6 @@ fn put_four(out: &mut [u8], at: usize, x: u32) -> usize {
     let high = (x / 65536) as u16;
     let next = put_two(out, at, low);
     put_two(out, next, high)
-}
-
-// The two's complement of a reading.
-fn complement(x: i32) -> u32 {
-    if x >= 0 {
-        x as u32
-    } else {
-        let above = -1 - x;
-        let rest = above as u32;
-        4294967295 - rest
-    }
 }
 
 // A kind in one byte, then a number in four.

@@ -6,7 +6,7 @@ use run::run::Finish;
 use run::run::run;
 ghost use mathlib.Core.Path.{_≡_};
 ghost use lib.ListN.{length};
-ghost use Rattle.writer.specs.Buffer.{over};
+ghost use Rattle.text.specs.Buffer.{over};
 ghost use Rattle.run.specs.Calls.{finishedOf, finishNumber, answersIn, registeredOf, registeredLength};
 ghost use Rattle.run.specs.Register.{registerOf};
 ghost use Rattle.run.specs.Run.{runOf};

@@ -171,6 +171,10 @@ withoutTuple x i = record {
 unfoldable pub freeSlot : Node → Slot
 freeSlot x = firstBelow 4 (λ j. not (processAt x j .busy)) Slot.Number Slot.Full
 
+-- how many processes a node has: its busy slots
+unfoldable pub processCount : Node → ℕ
+processCount x = fold 4 (λ i count. choose (processAt x i .busy) (count + 1) count) 0
+
 -- ---- what a node answers: whether the change was made, and the node after it
 
 -- a tuple put as the newest, where there is room for it

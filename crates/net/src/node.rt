@@ -2,12 +2,12 @@
 use crate::policy::Row;
 use crate::process::Process;
 use crate::tuple::Tuple;
-ghost use Prim.Native.Nat.{_+_, _-_, _<_};
+ghost use Prim.Native.Nat.{_+_, _-_, _<_, _≤_};
 ghost use mathlib.Core.Path.{_≡_};
 ghost use lib.Dec.{ltb};
 ghost use Rattle.net.specs.Choice.{choose};
 ghost use Rattle.net.specs.Records.{zeroTuple, zeroNode, withRow, withProcess, withoutTuple, freeSlot};
-ghost use Rattle.net.specs.Records.{putIn, takenFrom, startedOn};
+ghost use Rattle.net.specs.Records.{processCount, putIn, takenFrom, startedOn};
 
 // A node: its policy, its process slots and its tuple space, oldest tuple first.
 pub struct Node {
@@ -96,6 +96,20 @@ impl Node {
         }
     }
 
+    // How many processes the node has: its busy slots.
+    pub fn process_count(self) -> usize
+        ensures { λ r. ⌜ (r ≡ processCount self) × (r ≤ 4) ⌝ }
+    {
+        let mut n = 0;
+        let mut i = 0;
+        while i < 4 {
+            let p = self.processes[i];
+            n = counted(p, n);
+            i += 1;
+        }
+        n
+    }
+
     // The node with another row.
     pub fn with_row(mut self, row: Row) -> Node
         ensures { λ r. ⌜ r ≡ withRow self row ⌝ }
@@ -148,6 +162,14 @@ impl Node {
         }
         Slot::Full
     }
+}
+
+// A count, one more where the slot is busy.
+fn counted(p: Process, n: usize) -> usize
+    requires { ⌜ n < 4 ⌝ }
+    ensures { λ r. ⌜ (r ≡ choose (p .busy) (n + 1) n) × (r ≤ n + 1) ⌝ }
+{
+    if p.busy { n + 1 } else { n }
 }
 
 // One less, or 0.

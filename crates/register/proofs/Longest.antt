@@ -21,7 +21,9 @@ use Rattle.step.specs.Answer.{numberOf}
 use Rattle.step.specs.Pick.{hostOf, slotOf}
 use Rattle.run.specs.Run.{Ran, Outcome, refused, ran}
 use Rattle.run.specs.Run.{numbers}
-use Rattle.run.specs.Register.{digit, digits, decimal, signedDecimal, itemText, field, newline, words, line, pieces, fewer}
+use Rattle.run.specs.Register.{itemText, field, newline, words, line, fewer}
+use Rattle.text.specs.Decimal.{digit, digits, decimal, signedDecimal}
+use Rattle.text.specs.Joined.{joined}
 use Rattle.run.specs.Register.{refusedLine, netLine, pickLine, nodeLine, tupleFields, tupleLine, tupleLines, nodeLines}
 use Rattle.run.specs.Register.{netLines, pickLines, registerIn, registerOf}
 use Rattle.register.specs.Longest.{LongestRegister}
@@ -61,15 +63,15 @@ item-short (Item.Reading (ℤ.pos n)) = omega (arith, decimal-short n)
 item-short (Item.Reading (ℤ.negsuc n)) = omega (arith, decimal-short (n + 1))
 item-short (Item.Address l) = omega (arith, decimal-short (l .0))
 
--- ---- pieces, counts
-pieces-short :
-    (n m : ℕ) (f : ℕ → List ℕ) → ((i : ℕ) → i < n → length (f i) ≤ m) → length (pieces n f) ≤ n * m
-unfolding pieces
-pieces-short zero m f h = omega arith
-pieces-short (suc n) m f h =
-    let before = pieces-short n m f (λ i l. h i (omega arith)) in
+-- ---- joined, counts
+joined-short :
+    (n m : ℕ) (f : ℕ → List ℕ) → ((i : ℕ) → i < n → length (f i) ≤ m) → length (joined n f) ≤ n * m
+unfolding joined
+joined-short zero m f h = omega arith
+joined-short (suc n) m f h =
+    let before = joined-short n m f (λ i l. h i (omega arith)) in
     let last = h n (omega arith) in
-    let whole = length-append (pieces n f) (f n) in
+    let whole = length-append (joined n f) (f n) in
     let product : suc n * m ≡ n * m + m = suc-mul n m in
     omega (arith, before, last, whole, product)
 
@@ -77,13 +79,13 @@ fewer-below : (count size : ℕ) → fewer count size ≤ size
 unfolding fewer
 fewer-below count size = chosen-lt (λ (n : ℕ). n ≤ size) count size _ _ (λ l. omega arith) (λ l. omega arith)
 
--- so many pieces at most
+-- so many joined at most
 some-short :
     (count size m : ℕ) (f : ℕ → List ℕ) → ((i : ℕ) → i < size → length (f i) ≤ m)
-    → length (pieces (fewer count size) f) ≤ size * m
+    → length (joined (fewer count size) f) ≤ size * m
 some-short count size m f h =
     let few = fewer-below count size in
-    let some = pieces-short (fewer count size) m f (λ i l. h i (omega (arith, few))) in
+    let some = joined-short (fewer count size) m f (λ i l. h i (omega (arith, few))) in
     le-trans some (mul-le-mul-right m few)
 
 -- ---- words of a line
@@ -208,7 +210,7 @@ picks-short :
     → length (pickLines picks (numbers r)) ≤ 1245184
 unfolding pickLines numbers
 picks-short picks r h g =
-    let each = pieces-short (length picks) 19 _ (λ i l. pick-short (i + 1) _ _ (omega arith) (g i) (answers-small (r .answers) i)) in
+    let each = joined-short (length picks) 19 _ (λ i l. pick-short (i + 1) _ _ (omega arith) (g i) (answers-small (r .answers) i)) in
     le-trans each (mul-le-mul-right 19 h)
 
 register-short :

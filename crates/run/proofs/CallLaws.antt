@@ -1,8 +1,8 @@
 -- Laws by which the public calls meet their definitions (`specs/Calls.antt`). Assumes nothing.
-use Prim.Native.Nat.{ℕ, zero, suc, _+_, _<_, _≤_}
+use Prim.Native.Nat.{ℕ, suc, _+_, _<_, _≤_}
 use mathlib.Core.Path.{_≡_, refl, sym, ap, subst, _∙_}
 use mathlib.Core.Bool.{Bool, true, false}
-use mathlib.Core.List.{List, [], _∷_, _++_}
+use mathlib.Core.List.{List, [], _∷_}
 use native.Mathlib.Omega.{arith}
 use native.Mathlib.Decide.{decLe}
 use lib.ListN.{length, getD, take, length-map, List·getD-append}
@@ -20,15 +20,15 @@ use Rattle.step.specs.Answer.{numberOf}
 use Rattle.step.specs.Shape.{Shaped}
 use Rattle.run.specs.Types.{Net, Fault, Opened, Verdict}
 use Rattle.run.specs.Run.{Outcome, refused, ran, answered, ranFrom, runIn, runOf}
-use Rattle.writer.specs.Buffer.{over}
+use Rattle.text.specs.Buffer.{over}
 use Rattle.run.specs.Calls.{Finish, Finished, Registered, finished, finishedOf, answersIn, registeredOf}
 use Rattle.run.specs.Calls.{registeredNumber, roomNumber}
 use Rattle.run.specs.Making.{Startable, Made}
 use Rattle.run.specs.Run.{numbers}
-use Rattle.run.specs.Register.{pieces, pickLine, pickLines, netLine, netLines, refusedLine, registerIn, registerOf}
-use Rattle.writer.specs.Writing.{Wrote}
+use Rattle.run.specs.Register.{pickLine, pickLines, netLine, netLines, refusedLine, registerIn, registerOf}
+use Rattle.text.specs.Writing.{Wrote}
 use Rattle.run.proofs.OpenedShaped.{opened-shaped}
-use Rattle.writer.proofs.WritingLaws.{wrote-then, wrote-length}
+use Rattle.text.proofs.WritingLaws.{wrote-then, wrote-length, joined-same}
 
 -- ---- an image that was read
 module _ (image : List ℕ) (o : Opened) (read : o ≡ openedOf image) where
@@ -156,13 +156,6 @@ unfolding over
 over-at xs text i h g =
     ap (λ (ys : List ℕ). getD ys i 0) (sets-eq text xs 0 (omega arith)) ∙ List·getD-append text _ 0 i g
 
-pieces-same :
-    (n : ℕ) (f g : ℕ → List ℕ) → ((i : ℕ) → i < n → f i ≡ g i) → pieces n f ≡ pieces n g
-unfolding pieces
-pieces-same zero f g h = refl
-pieces-same (suc n) f g h =
-    ap (λ (t : List ℕ). t ++ f n) (pieces-same n f g (λ i l. h i (omega arith))) ∙ ap (λ (t : List ℕ). pieces n g ++ t) (h n (omega arith))
-
 module _ (s : Net) (picks xs ys : List ℕ) (last : Net) (m : Made s picks xs ys last) (room : length picks ≤ length xs) where
   numbers-length : length (numbers (ranFrom s picks)) ≡ length picks
   unfolding numbers
@@ -171,7 +164,7 @@ module _ (s : Net) (picks xs ys : List ℕ) (last : Net) (m : Made s picks xs ys
   lines-same : pickLines picks ys ≡ pickLines picks (numbers (ranFrom s picks))
   unfolding pickLines
   lines-same =
-      pieces-same (length picks) _ _
+      joined-same (length picks) _ _
       (λ i h. ap (pickLine (i + 1) (getD picks i 0))
       (ap (λ (zs : List ℕ). getD zs i 0) (m .left-is)
       ∙ over-at xs _ i (omega (arith, numbers-length)) (omega (arith, numbers-length))))

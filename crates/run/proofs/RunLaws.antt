@@ -16,7 +16,7 @@ use Rattle.step.specs.Shape.{Shaped}
 use Rattle.step.proofs.SoundKept.{step-sound-kept}
 use Rattle.run.specs.Types.{Net, Answer, Picked}
 use Rattle.run.specs.Run.{Ran, answered, ranFrom}
-use Rattle.writer.specs.Buffer.{over}
+use Rattle.text.specs.Buffer.{over}
 use Rattle.run.specs.Making.{Startable, Making, Made}
 use Rattle.run.specs.Run.{numbers}
 

@@ -10,7 +10,7 @@ use Rattle.net.specs.Choice.{choose}
 use Rattle.net.specs.Records.{emptyNet}
 use Rattle.run.specs.Types.{Net}
 use Rattle.run.specs.Run.{Outcome, refused, ran}
-use Rattle.writer.specs.Buffer.{over}
+use Rattle.text.specs.Buffer.{over}
 use Rattle.run.specs.Run.{numbers}
 
 -- the paper's number of how a run ended: 21 to 30 for a refused image, 35 for a buffer that is too short

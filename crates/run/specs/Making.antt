@@ -9,7 +9,7 @@ use Rattle.sound.specs.Soundness.{soundOf}
 use Rattle.step.specs.Shape.{Shaped}
 use Rattle.run.specs.Types.{Net}
 use Rattle.run.specs.Run.{numbers, ranFrom}
-use Rattle.writer.specs.Buffer.{over}
+use Rattle.text.specs.Buffer.{over}
 
 -- a net that the loop may start from
 pub record Startable (s : Net) : Type 0 where

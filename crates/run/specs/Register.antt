@@ -1,11 +1,12 @@
 -- The register (document 01, "The register"): its bytes, line after line.
-use Prim.Native.Nat.{ℕ, zero, suc, _+_, _/_, _%_}
+use Prim.Native.Nat.{ℕ, _+_}
 use mathlib.Core.List.{List, [], _∷_, _++_}
 use lib.ListN.{getD, take, length}
 use lib.Dec.{ltb}
-use lib.IntN.{ℤ}
-use Rattle.net.specs.Choice.{choose, fold}
-use Rattle.net.specs.Records.{fieldAt, tupleAt, processAt, nodeAt, addressOf}
+use Rattle.text.specs.Decimal.{decimal, signedDecimal}
+use Rattle.text.specs.Joined.{joined}
+use Rattle.net.specs.Choice.{choose}
+use Rattle.net.specs.Records.{fieldAt, tupleAt, nodeAt, addressOf, processCount}
 use Rattle.image.specs.Image.{openedOf}
 use Rattle.step.specs.Pick.{hostOf, slotOf}
 use Rattle.run.specs.Types.{Locality, Item, Tuple, Node, Net, Fault}
@@ -13,24 +14,6 @@ use Rattle.run.specs.Run.{Outcome, refused, ran, runOf}
 use Rattle.run.specs.Run.{numbers}
 
 -- ---- words and numbers
-
--- the digit of a number below 10
-unfoldable pub digit : ℕ → ℕ
-digit n = 48 + n
-
--- a number's digits, of which there are at most as many as the first argument says
-unfoldable pub digits : ℕ → ℕ → List ℕ
-digits zero n = []
-digits (suc k) n = choose (ltb n 10) (digit n ∷ []) (digits k (n / 10) ++ digit (n % 10) ∷ [])
-
--- plain decimal: 20 digits are enough for every number of 64 bits
-unfoldable pub decimal : ℕ → List ℕ
-decimal n = digits 20 n
-
--- a reading, with a minus (45) below nought
-unfoldable pub signedDecimal : ℤ → List ℕ
-signedDecimal (ℤ.pos n) = decimal n
-signedDecimal (ℤ.negsuc n) = 45 ∷ decimal (n + 1)
 
 -- a field of a tuple: an address has an @ (64) before it
 unfoldable pub itemText : Item → List ℕ
@@ -53,11 +36,6 @@ words (word ∷ more) = field word ++ words more
 unfoldable pub line : List ℕ → List ℕ → List ℕ
 line word rest = word ++ rest
 
--- f at 0, then at 1, and so on below n
-unfoldable pub pieces : ℕ → (ℕ → List ℕ) → List ℕ
-pieces zero f = []
-pieces (suc n) f = pieces n f ++ f n
-
 -- a count, or the size of its array where the count is larger, which no sound net's is
 unfoldable pub fewer : ℕ → ℕ → ℕ
 fewer count size = choose (ltb count size) count size
@@ -78,18 +56,14 @@ pickLine i b x =
     line (112 ∷ 105 ∷ 99 ∷ 107 ∷ [])
     (words (decimal i ∷ decimal (hostOf b .0) ∷ decimal (slotOf b) ∷ decimal x ∷ []))
 
--- how many of a node's slots are busy
-unfoldable pub busyOf : Node → ℕ
-busyOf x = fold 4 (λ i n. choose (processAt x i .busy) (n + 1) n) 0
-
 -- node, address, tuple count and busy slots
 unfoldable pub nodeLine : Locality → Node → List ℕ
 nodeLine a x =
-    line (110 ∷ 111 ∷ 100 ∷ 101 ∷ []) (words (decimal (a .0) ∷ decimal (x .stored) ∷ decimal (busyOf x) ∷ []))
+    line (110 ∷ 111 ∷ 100 ∷ 101 ∷ []) (words (decimal (a .0) ∷ decimal (x .stored) ∷ decimal (processCount x) ∷ []))
 
 -- tuple, address and fields
 unfoldable pub tupleFields : Tuple → List ℕ
-tupleFields t = pieces (fewer (t .count) 4) (λ i. field (itemText (fieldAt t i)))
+tupleFields t = joined (fewer (t .count) 4) (λ i. field (itemText (fieldAt t i)))
 
 unfoldable pub tupleLine : Locality → Tuple → List ℕ
 tupleLine a t =
@@ -97,18 +71,18 @@ tupleLine a t =
 
 -- a node's line, followed by its tuples, oldest first
 unfoldable pub tupleLines : Locality → Node → List ℕ
-tupleLines a x = pieces (fewer (x .stored) 16) (λ i. tupleLine a (tupleAt x i))
+tupleLines a x = joined (fewer (x .stored) 16) (λ i. tupleLine a (tupleAt x i))
 
 unfoldable pub nodeLines : Locality → Node → List ℕ
 nodeLines a x = nodeLine a x ++ tupleLines a x
 
 -- each address in use, ascending
 unfoldable pub netLines : Net → List ℕ
-netLines s = pieces (fewer (s .addresses) 16) (λ a. nodeLines (addressOf a) (nodeAt s (addressOf a)))
+netLines s = joined (fewer (s .addresses) 16) (λ a. nodeLines (addressOf a) (nodeAt s (addressOf a)))
 
 -- each pick, numbered from 1, with its answer
 unfoldable pub pickLines : List ℕ → List ℕ → List ℕ
-pickLines picks answers = pieces (length picks) (λ i. pickLine (i + 1) (getD picks i 0) (getD answers i 0))
+pickLines picks answers = joined (length picks) (λ i. pickLine (i + 1) (getD picks i 0) (getD answers i 0))
 
 -- ---- the register of an image and its picks, of which the first 65,536 count
 unfoldable pub registerIn : Net → List ℕ → Outcome → List ℕ

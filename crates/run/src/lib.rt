@@ -2,4 +2,4 @@
 mod lines;
 pub mod register;
 pub mod run;
-mod text;
+mod words;

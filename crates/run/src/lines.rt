@@ -1,25 +1,24 @@
 // The lines of a register (document 01, "The register").
-use crate::text::put;
-use crate::text::put_bytes;
-use crate::text::put_field;
-use crate::text::put_number;
+use crate::words::put_field;
+use crate::words::put_number;
 use image::reader::Fault;
 use net::locality::Locality;
 use net::network::Net;
 use net::node::Node;
-use net::process::Process;
 use net::tuple::Tuple;
 use step::turn::host_of;
 use step::turn::slot_of;
-ghost use Prim.Native.Nat.{_+_, _<_, _≤_};
+use text::writing::put;
+use text::writing::put_bytes;
+ghost use Prim.Native.Nat.{_≤_};
 ghost use mathlib.Core.List.{[], _∷_, _++_};
 ghost use mathlib.Core.Path.{_≡_};
 ghost use lib.ListN.{length};
-ghost use Rattle.net.specs.Choice.{choose};
 ghost use Rattle.step.specs.Pick.{hostOf, slotOf};
-ghost use Rattle.run.specs.Register.{decimal, newline, words, fewer, refusedLine, netLine, pickLine, busyOf, nodeLine, tupleFields};
+ghost use Rattle.run.specs.Register.{newline, words, fewer, refusedLine, netLine, pickLine, nodeLine, tupleFields};
+ghost use Rattle.text.specs.Decimal.{decimal};
 ghost use Rattle.run.specs.Register.{tupleLine, tupleLines, nodeLines, netLines, pickLines};
-ghost use Rattle.writer.specs.Writing.{Wrote};
+ghost use Rattle.text.specs.Writing.{Wrote};
 
 // A count, or the size of its array where the count is larger.
 fn at_most(count: usize, size: usize) -> usize
@@ -99,32 +98,10 @@ pub fn put_picks(out: &mut [u8], at: usize, picks: &[u8], answers: &[u8]) -> usi
     next
 }
 
-// A count, one more where the slot is busy.
-fn counted(p: Process, n: usize) -> usize
-    requires { ⌜ n < 4 ⌝ }
-    ensures { λ r. ⌜ (r ≡ choose (p .busy) (n + 1) n) × (r ≤ n + 1) ⌝ }
-{
-    if p.busy { n + 1 } else { n }
-}
-
-// How many slots are busy.
-fn busy_slots(x: Node) -> usize
-    ensures { λ r. ⌜ r ≡ busyOf x ⌝ }
-{
-    let mut n = 0;
-    let mut i = 0;
-    while i < 4 {
-        let p = x.processes[i];
-        n = counted(p, n);
-        i += 1;
-    }
-    n
-}
-
 fn put_node(out: &mut [u8], at: usize, a: Locality, x: Node) -> usize
     ensures { λ r. ⌜ Wrote (now (out .entry)) at (nodeLine a x) (now (out .exit)) r ⌝ }
 {
-    let busy = busy_slots(x);
+    let busy = x.process_count();
     let next = put_bytes(out, at, b"node");
     end_three(out, next, a.0 as usize, x.stored, busy)
 }

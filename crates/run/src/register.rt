@@ -10,12 +10,12 @@ use net::network::Net;
 ghost use Prim.Native.Nat.{_≤_};
 ghost use mathlib.Core.Path.{_≡_};
 ghost use lib.ListN.{length, take};
-ghost use Rattle.writer.specs.Buffer.{over};
+ghost use Rattle.text.specs.Buffer.{over};
 ghost use Rattle.run.specs.Calls.{registeredOf, registeredNumber, roomNumber};
 ghost use Rattle.run.specs.Making.{Startable};
 ghost use Rattle.run.specs.Register.{registerIn, registerOf};
 ghost use Rattle.run.specs.Run.{ran, ranFrom};
-ghost use Rattle.writer.specs.Writing.{Wrote};
+ghost use Rattle.text.specs.Writing.{Wrote};
 
 // A register was written whole, with its length, or the buffer is too short.
 pub enum Registered {

@@ -8,11 +8,12 @@ use lib.Dec.{leb}
 use lib.ListN.{length, getD, set, List·getD-eq-default}
 use borrow.Author.Tests.{le-leb, lt-leb}
 use Rattle.net.proofs.Laws.{choose-true, choose-false}
-use Rattle.writer.specs.Buffer.{over}
+use Rattle.text.specs.Buffer.{over}
 use Rattle.writer.specs.Calls.{Packed, placedOf, placedIn}
-use Rattle.written.specs.ImageOf.{joined, digit, numberIn}
+use Rattle.written.specs.ImageOf.{digit, numberIn}
+use Rattle.text.specs.Joined.{joined}
 use Rattle.writer.specs.Writing.{bytesIn}
-use Rattle.writer.proofs.WritingLaws.{over-both}
+use Rattle.text.proofs.WritingLaws.{over-both}
 use Rattle.written.proofs.WrittenBytes.{number-small, listed-length}
 
 -- ---- a bit as a number

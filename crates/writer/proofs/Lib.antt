@@ -1,7 +1,6 @@
 pub mod ByteLaws
 pub mod CountLaws
 pub mod NetTypes
+pub mod NumberLaws
 pub mod PackLaws
 pub mod PackedClaims
-pub mod SignedLaws
-pub mod WritingLaws

@@ -9,18 +9,20 @@ use lib.Dec.{ltb}
 use lib.ListN.{length, getD, replicate, length-replicate, getD-replicate, List·getD-append, List·getD-eq-default, drop}
 use lib.Seq.{sets-eq, getD-append-add, getD-drop}
 use Rattle.net.specs.Choice.{choose, both, all}
-use Rattle.net.specs.Records.{variableAt, processAt, nodeAt, addressOf}
+use Rattle.net.specs.Records.{variableAt, processAt, nodeAt, addressOf, processCount}
 use Rattle.sound.specs.Soundness.{isUnset, soundOf}
 use Rattle.net.proofs.Laws.{both-l, both-r, choose-true, choose-false}
 use Rattle.image.specs.Image.{accepted, admits}
 use Rattle.image.specs.LengthClaims.{LongestAccepted}
 use Rattle.image.proofs.FirstBytes.{longestAccepted}
 use Rattle.writer.specs.Types.{Node, Net}
-use Rattle.writer.specs.Buffer.{over}
+use Rattle.text.specs.Buffer.{over}
 use Rattle.writer.specs.Calls.{Packed, placedOf, placedIn, packedOf, imageIn}
 use Rattle.written.specs.Fresh.{netFits, slotStarts, nodeStarts, freshOf}
-use Rattle.written.specs.ImageOf.{joined, processCount, digit, numberIn, bytesOf, netBits, imageOf}
-use Rattle.writer.specs.Writing.{Wrote, Counts, bytesIn}
+use Rattle.written.specs.ImageOf.{digit, numberIn, bytesOf, netBits, imageOf}
+use Rattle.text.specs.Joined.{joined}
+use Rattle.writer.specs.Writing.{Counts, bytesIn}
+use Rattle.text.specs.Writing.{Wrote}
 use Rattle.written.proofs.AcceptedWritten.{fresh-accepted}
 use Rattle.writer.proofs.CountLaws.{counts-of}
 use Rattle.written.proofs.WrittenBytes.{bytes-length}

@@ -11,7 +11,7 @@ use borrow.Author.Tests.{leb-true}
 use Rattle.net.proofs.Laws.{choose-true, choose-false}
 use Rattle.image.specs.Image.{openedOf, accepted}
 use Rattle.writer.specs.Types.{Net}
-use Rattle.writer.specs.Buffer.{over}
+use Rattle.text.specs.Buffer.{over}
 use Rattle.writer.specs.Calls.{Packed, placedOf, packedOf, packedNumber, packedLength, placedIn, imageIn}
 use Rattle.written.specs.Fresh.{freshOf}
 use Rattle.written.specs.ImageOf.{imageOf}

@@ -6,7 +6,7 @@ use lib.ListN.{length}
 use lib.Dec.{leb}
 use Rattle.net.specs.Choice.{choose}
 use Rattle.writer.specs.Types.{Net}
-use Rattle.writer.specs.Buffer.{over}
+use Rattle.text.specs.Buffer.{over}
 use Rattle.written.specs.ImageOf.{imageOf}
 use Rattle.written.specs.Fresh.{freshOf}
 

@@ -1,4 +1,3 @@
-pub mod Buffer
 pub mod Calls
 pub mod PackedClaims
 pub mod Types

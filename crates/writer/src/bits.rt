@@ -2,7 +2,7 @@
 // after its bits, or one past the buffer's end once they no longer fit.
 ghost use mathlib.Core.List.{[], _∷_, _++_};
 ghost use Rattle.written.specs.ImageOf.{bitsOf};
-ghost use Rattle.writer.specs.Writing.{Wrote};
+ghost use Rattle.text.specs.Writing.{Wrote};
 
 // One bit.
 pub fn put_bit(out: &mut [bool], at: usize, b: bool) -> usize

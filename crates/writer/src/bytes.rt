@@ -3,7 +3,7 @@ ghost use Prim.Native.Nat.{_≤_};
 ghost use mathlib.Core.Bool.{false};
 ghost use mathlib.Core.Path.{_≡_};
 ghost use lib.ListN.{length, getD};
-ghost use Rattle.writer.specs.Buffer.{over};
+ghost use Rattle.text.specs.Buffer.{over};
 ghost use Rattle.written.specs.ImageOf.{digit, numberIn};
 ghost use Rattle.writer.specs.Writing.{bytesIn};
 

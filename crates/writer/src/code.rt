@@ -14,9 +14,11 @@ use net::network::Net;
 ghost use Prim.Native.Nat.{_≤_};
 ghost use mathlib.Core.List.{_++_};
 ghost use Rattle.net.specs.Records.{patternAt};
-ghost use Rattle.written.specs.ImageOf.{bitsOf, joined, placeBits, variableBits, readingBits, targetBits, patternBits};
+ghost use Rattle.written.specs.ImageOf.{bitsOf, placeBits, variableBits, readingBits, targetBits, patternBits};
+ghost use Rattle.text.specs.Joined.{joined};
 ghost use Rattle.written.specs.ImageOf.{templateBits, actionBits, instructionBits, codeBits};
-ghost use Rattle.writer.specs.Writing.{Wrote, Counts};
+ghost use Rattle.writer.specs.Writing.{Counts};
+ghost use Rattle.text.specs.Writing.{Wrote};
 
 // A target.
 fn put_target(out: &mut [bool], at: usize, target: Target) -> usize

@@ -2,10 +2,11 @@
 use crate::bits::put_number;
 use net::locality::Locality;
 use net::locality::Place;
+use text::signed::complement;
 ghost use Prim.Native.Nat.{_-_};
 ghost use mathlib.Core.Path.{_≡_};
 ghost use Rattle.written.specs.ImageOf.{addressBits, placeBits, variableBits, readingBits};
-ghost use Rattle.writer.specs.Writing.{Wrote, complementOf};
+ghost use Rattle.text.specs.Writing.{Wrote};
 
 // An address.
 pub fn put_address(out: &mut [bool], at: usize, l: Locality) -> usize
@@ -28,25 +29,12 @@ pub fn put_variable(out: &mut [bool], at: usize, v: u8) -> usize
     put_number(out, at, 3, v as usize)
 }
 
-// The two's complement of a reading.
-fn complement(x: i32) -> usize
-    ensures { λ r. ⌜ r ≡ complementOf x ⌝ }
-{
-    if x >= 0 {
-        x as usize
-    } else {
-        let above = -1 - x;
-        let rest = above as usize;
-        4294967295 - rest
-    }
-}
-
 // A reading.
 pub fn put_reading(out: &mut [bool], at: usize, x: i32) -> usize
     ensures { λ r. ⌜ Wrote (now (out .entry)) at (readingBits x) (now (out .exit)) r ⌝ }
 {
     let value = complement(x);
-    put_number(out, at, 32, value)
+    put_number(out, at, 32, value as usize)
 }
 
 // One less, or 0.

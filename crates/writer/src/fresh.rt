@@ -6,36 +6,12 @@ use net::node::Node;
 use net::process::Process;
 use net::tuple::Value;
 use sound::soundness::sound;
-ghost use Prim.Native.Nat.{_+_, _<_, _≤_};
 ghost use mathlib.Core.Bool.{not};
 ghost use mathlib.Core.Path.{_≡_};
 ghost use Rattle.net.specs.Choice.{choose, both, all};
 ghost use Rattle.net.specs.Records.{variableAt, nodeAt, addressOf};
 ghost use Rattle.sound.specs.Soundness.{isUnset};
-ghost use Rattle.written.specs.ImageOf.{processCount};
 ghost use Rattle.written.specs.Fresh.{nodeStarts, freshOf};
-
-// A count, one more where the slot is busy.
-fn counted(p: Process, n: usize) -> usize
-    requires { ⌜ n < 4 ⌝ }
-    ensures { λ r. ⌜ (r ≡ choose (p .busy) (n + 1) n) × (r ≤ n + 1) ⌝ }
-{
-    if p.busy { n + 1 } else { n }
-}
-
-// How many processes a node has.
-pub fn process_count(x: Node) -> usize
-    ensures { λ r. ⌜ (r ≡ processCount x) × (r ≤ 4) ⌝ }
-{
-    let mut n = 0;
-    let mut i = 0;
-    while i < 4 {
-        let p = x.processes[i];
-        n = counted(p, n);
-        i += 1;
-    }
-    n
-}
 
 fn is_unset(value: Value) -> bool
     ensures { λ r. ⌜ r ≡ isUnset value ⌝ }
@@ -83,7 +59,7 @@ fn slot_starts(used: bool, p: Process) -> bool
 fn node_starts(x: Node) -> bool
     ensures { λ r. ⌜ r ≡ nodeStarts x ⌝ }
 {
-    let n = process_count(x);
+    let n = x.process_count();
     let mut ok = true;
     let mut i = 0;
     while i < 4 {

@@ -5,7 +5,6 @@ use crate::fields::one_less;
 use crate::fields::put_address;
 use crate::fields::put_place;
 use crate::fields::put_reading;
-use crate::fresh::process_count;
 use net::locality::Locality;
 use net::network::Net;
 use net::node::Node;
@@ -17,9 +16,11 @@ ghost use Prim.Native.Nat.{_≤_};
 ghost use mathlib.Core.Bool.{true, false};
 ghost use mathlib.Core.List.{_∷_};
 ghost use Rattle.net.specs.Records.{fieldAt, rightsAt, processAt, tupleAt, addressOf};
-ghost use Rattle.written.specs.ImageOf.{joined, addressBits, placeBits, readingBits, rightsBits, rowBits, processesBits};
+ghost use Rattle.written.specs.ImageOf.{addressBits, placeBits, readingBits, rightsBits, rowBits, processesBits};
+ghost use Rattle.text.specs.Joined.{joined};
 ghost use Rattle.written.specs.ImageOf.{itemBits, tupleBits, tuplesBits, rowsBits, allProcessesBits, allTuplesBits};
-ghost use Rattle.writer.specs.Writing.{Wrote, NodeCounts, Counts};
+ghost use Rattle.writer.specs.Writing.{NodeCounts, Counts};
+ghost use Rattle.text.specs.Writing.{Wrote};
 
 // The rights over one address.
 fn put_rights(out: &mut [bool], at: usize, rights: Rights) -> usize
@@ -90,7 +91,7 @@ fn put_places(out: &mut [bool], at: usize, n: usize, x: Node) -> usize
 fn put_processes(out: &mut [bool], at: usize, x: Node) -> usize
     ensures { λ r. ⌜ Wrote (now (out .entry)) at (processesBits x) (now (out .exit)) r ⌝ }
 {
-    let n = process_count(x);
+    let n = x.process_count();
     let next = put_number(out, at, 3, n);
     put_places(out, next, n, x)
 }

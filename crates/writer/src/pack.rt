@@ -15,7 +15,8 @@ ghost use lib.ListN.{length};
 ghost use Rattle.writer.specs.Calls.{placedOf, placedIn, packedOf, imageIn};
 ghost use Rattle.written.specs.Fresh.{freshOf};
 ghost use Rattle.written.specs.ImageOf.{headerBits, rowsBits, allProcessesBits, allTuplesBits, codeBits, netBits, imageOf};
-ghost use Rattle.writer.specs.Writing.{Wrote, Counts, bytesIn};
+ghost use Rattle.writer.specs.Writing.{Counts, bytesIn};
+ghost use Rattle.text.specs.Writing.{Wrote};
 
 // An image was written, with its length; or no accepted image gives the net; or the buffer is too short.
 pub enum Packed {

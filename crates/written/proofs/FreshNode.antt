@@ -8,13 +8,12 @@ use lib.ListN.{length, replicate}
 use lib.Dec.{eqb, leb, ltb}
 use borrow.Author.Tests.{eqb-true, leb-true, ltb-true, lt-ltb, le-ltb, le-leb}
 use Rattle.net.specs.Choice.{choose, all, fold}
-use Rattle.net.specs.Records.{startingAt, unsetVariable}
-use Rattle.net.specs.Records.{fieldAt, variableAt, rightsAt, processAt, tupleAt}
+use Rattle.net.specs.Records.{startingAt, unsetVariable, processCount}
+use Rattle.net.specs.Records.{fieldAt, variableAt, rightsAt, processAt, tupleAt, processCount}
 use Rattle.written.specs.Types.{Tuple, Row, Process, Node}
 use Rattle.net.specs.Choice.{inRange}
 use Rattle.sound.specs.Soundness.{itemSound, isZeroItem, tupleSound, isZeroTuple, tuplesSound, rowSound}
 use Rattle.sound.specs.Soundness.{isUnset, processSound, nodeSound}
-use Rattle.written.specs.ImageOf.{processCount}
 use Rattle.written.specs.Fresh.{tupleFits, processFits, nodeFits, slotStarts, nodeStarts}
 use Rattle.net.proofs.Laws.{both-l, both-r, choose-true, choose-false, implies-e, all-e}
 use Rattle.net.proofs.Every.{chosen}

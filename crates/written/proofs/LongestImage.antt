@@ -8,8 +8,8 @@ use native.Mathlib.Omega.{arith}
 use lib.ListN.{length, replicate, length-append, length-replicate, getD-replicate}
 use borrow.Author.Tests.{eq-eqb, lt-ltb}
 use Rattle.net.specs.Choice.{choose, both, implies, all, fold}
-use Rattle.net.specs.Records.{startingAt, zeroField, unsetVariable, allRights, zeroTemplateField, addressOf, placeOf}
-use Rattle.net.specs.Records.{fieldAt, variableAt, rightsAt, processAt, tupleAt, patternAt, nodeAt, instructionAt}
+use Rattle.net.specs.Records.{startingAt, zeroField, unsetVariable, allRights, zeroTemplateField, addressOf, placeOf, processCount}
+use Rattle.net.specs.Records.{fieldAt, variableAt, rightsAt, processAt, tupleAt, patternAt, nodeAt, instructionAt, processCount}
 use Rattle.written.specs.Types.{Locality, Place, Tuple, Node, Target, Action, Instruction, Net}
 use Rattle.net.specs.Choice.{inRange}
 use Rattle.sound.specs.Soundness.{itemSound, tupleSound, tuplesSound, rowSound, isUnset, valueSound, processSound}
@@ -18,8 +18,9 @@ use Rattle.sound.specs.Soundness.{templateFor, instructionSound, nodesSound, co
 use Rattle.keeping.specs.Keeping.{mayPut, atTarget, permits, permitsMarked, keepsOf}
 use Rattle.image.specs.Image.{admitsProcess, admitsNode, admitsAt, admits, accepted, openedOf}
 use Rattle.written.specs.Types.{Verdict, Opened}
-use Rattle.written.specs.ImageOf.{bitsOf, joined, addressBits, placeBits, readingBits, headerBits, rightsBits, rowBits}
-use Rattle.written.specs.ImageOf.{processCount, processesBits, itemBits, tupleBits, tuplesBits, targetBits, patternBits}
+use Rattle.written.specs.ImageOf.{bitsOf, addressBits, placeBits, readingBits, headerBits, rightsBits, rowBits}
+use Rattle.text.specs.Joined.{joined}
+use Rattle.written.specs.ImageOf.{processesBits, itemBits, tupleBits, tuplesBits, targetBits, patternBits}
 use Rattle.written.specs.ImageOf.{templateBits, actionBits, instructionBits, rowsBits, allProcessesBits, allTuplesBits}
 use Rattle.written.specs.ImageOf.{codeBits, netBits, imageOf}
 use Rattle.written.specs.Fresh.{readingFits, itemFits, patternFits, tupleFits, processFits, nodeFits, instructionFits}

@@ -14,7 +14,8 @@ use lib.Dec.{eqb}
 use borrow.Author.Tests.{eqb-true, eq-eqb}
 use Rattle.image.specs.BitReader.{bitAt, numberAt}
 use Rattle.image.specs.Image.{padding, endsAt}
-use Rattle.written.specs.ImageOf.{digit, joined, numberIn, bytesOf}
+use Rattle.written.specs.ImageOf.{digit, numberIn, bytesOf}
+use Rattle.text.specs.Joined.{joined}
 use Rattle.written.specs.WrittenClaims.{Bytes}
 use Rattle.net.proofs.Laws.{both-i, both-l, both-r, split}
 use Rattle.written.proofs.BitsAt.{BitsAt}

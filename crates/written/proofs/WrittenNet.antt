@@ -11,7 +11,8 @@ use Rattle.written.specs.Types.{Node, Net}
 use Rattle.net.specs.Records.{zeroNode, zeroInstruction, emptyNet, nodeAt, instructionAt, withCounts, addressOf}
 use Rattle.image.specs.BitReader.{Reader, _>>=_}
 use Rattle.image.specs.Image.{header, rows, allProcesses, allTuples, code}
-use Rattle.written.specs.ImageOf.{bitsOf, joined, rowBits, processesBits, tuplesBits, instructionBits}
+use Rattle.written.specs.ImageOf.{bitsOf, rowBits, processesBits, tuplesBits, instructionBits}
+use Rattle.text.specs.Joined.{joined}
 use Rattle.written.specs.ImageOf.{headerBits, rowsBits, allProcessesBits, allTuplesBits, codeBits, netBits}
 use Rattle.net.proofs.Every.{every-replicate}
 use Rattle.written.proofs.ReadsWrites.{Reads, Ranged, reads-as, reads-map, reads-field}

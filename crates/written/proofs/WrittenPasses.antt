@@ -13,7 +13,8 @@ use Rattle.net.specs.Records.{withRow, withNode, withInstruction}
 use Rattle.image.specs.BitReader.{Reader}
 use Rattle.image.specs.Image.{eachAddress, eachPlace, row, rowOf, rows, processes, processesOf, allProcesses, tuples, tuplesOf, allTuples}
 use Rattle.image.specs.Image.{instruction, instructionOf, code}
-use Rattle.written.specs.ImageOf.{joined, rowBits, processesBits, tuplesBits, instructionBits}
+use Rattle.written.specs.ImageOf.{rowBits, processesBits, tuplesBits, instructionBits}
+use Rattle.text.specs.Joined.{joined}
 use Rattle.written.proofs.ReadsWrites.{Reads}
 use Rattle.written.proofs.ReadsCells.{Arrayed, Through, Turned, Filling, reads-turn, reads-cells}
 use Rattle.written.proofs.WrittenCode.{InstructionOk, reads-instruction}

@@ -9,10 +9,11 @@ use lib.ListN.{getD, set, replicate, length-replicate, getD-replicate}
 use lib.Seq.{set-getD, set-set}
 use Rattle.net.specs.Choice.{choose, fold}
 use Rattle.written.specs.Types.{Place, Tuple, Row, Process, Node}
-use Rattle.net.specs.Records.{startingAt, freeProcess, zeroTuple, processAt}
-use Rattle.net.specs.Records.{withProcess}
+use Rattle.net.specs.Records.{startingAt, freeProcess, zeroTuple, processAt, processCount}
+use Rattle.net.specs.Records.{withProcess, processCount}
 use Rattle.image.specs.Image.{row, process, processes, stored, tuples}
-use Rattle.written.specs.ImageOf.{bitsOf, joined, placeBits, processCount, processesBits}
+use Rattle.written.specs.ImageOf.{bitsOf, placeBits, processesBits}
+use Rattle.text.specs.Joined.{joined}
 use Rattle.net.proofs.Laws.{choose-true, choose-false}
 use Rattle.net.proofs.Every.{Every, Filled}
 use Rattle.net.proofs.Past.{pastProcess}

@@ -12,7 +12,8 @@ use Rattle.written.specs.Types.{Rights, Row}
 use Rattle.net.specs.Records.{noRights, zeroRow, rightsAt, addressOf}
 use Rattle.net.specs.Records.{withRights}
 use Rattle.image.specs.Image.{eachAddress, rightsOf, creating, rights, row}
-use Rattle.written.specs.ImageOf.{bitsOf, joined, rightsBits, rowBits}
+use Rattle.written.specs.ImageOf.{bitsOf, rightsBits, rowBits}
+use Rattle.text.specs.Joined.{joined}
 use Rattle.written.specs.ImageOf.{digit}
 use Rattle.net.proofs.Every.{Every, Filled}
 use Rattle.written.proofs.ReadsWrites.{Reads, reads-then, reads-bits}

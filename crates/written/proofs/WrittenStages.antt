@@ -6,8 +6,9 @@ use mathlib.Core.List.{[], _++_}
 use native.Mathlib.Omega.{arith}
 use lib.ListN.{length, getD, replicate}
 use Rattle.written.specs.Types.{Locality, Node, Net}
-use Rattle.net.specs.Records.{zeroTuple, zeroRow, zeroNode, emptyNet, nodeAt, processAt, withRow, addressOf}
-use Rattle.written.specs.ImageOf.{bitsOf, joined, rowBits, processCount, processesBits, tuplesBits}
+use Rattle.net.specs.Records.{zeroTuple, zeroRow, zeroNode, emptyNet, nodeAt, processAt, withRow, addressOf, processCount}
+use Rattle.written.specs.ImageOf.{bitsOf, rowBits, processesBits, tuplesBits}
+use Rattle.text.specs.Joined.{joined}
 use Rattle.written.specs.ImageOf.{headerBits, rowsBits, allProcessesBits, allTuplesBits}
 use Rattle.net.proofs.Every.{Every, Filled}
 use Rattle.written.proofs.ReadsWrites.{Ranged, joined-same}

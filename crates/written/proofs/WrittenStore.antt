@@ -11,7 +11,8 @@ use Rattle.written.specs.Types.{Tuple, Row, Process, Node}
 use Rattle.net.specs.Records.{zeroTuple, tupleAt}
 use Rattle.net.specs.Records.{withTuple}
 use Rattle.image.specs.Image.{row, processes, stored, tuples}
-use Rattle.written.specs.ImageOf.{bitsOf, joined}
+use Rattle.written.specs.ImageOf.{bitsOf}
+use Rattle.text.specs.Joined.{joined}
 use Rattle.written.specs.ImageOf.{tupleBits, tuplesBits}
 use Rattle.net.proofs.Laws.{choose-true}
 use Rattle.net.proofs.Every.{Every, Filled}

@@ -14,7 +14,8 @@ use Rattle.written.specs.Types.{Pattern, TemplateField, Action, Instruct
 use Rattle.net.specs.Records.{zeroTemplateField, zeroInstruction, patternAt, withPattern}
 use Rattle.sound.specs.Soundness.{bindsNot, unboundBefore, bindsAnew}
 use Rattle.image.specs.Image.{templateField, template}
-use Rattle.written.specs.ImageOf.{bitsOf, joined, patternBits, templateBits}
+use Rattle.written.specs.ImageOf.{bitsOf, patternBits, templateBits}
+use Rattle.text.specs.Joined.{joined}
 use Rattle.net.proofs.Laws.{choose-true, implies-i, implies-e, all-i, all-e, split}
 use Rattle.net.proofs.Every.{Every, Filled}
 use Rattle.image.proofs.PastRecords.{pastTemplate}

@@ -15,7 +15,8 @@ use Rattle.written.specs.Types.{Locality, Item, Field, Tuple}
 use Rattle.net.specs.Records.{zeroField, zeroTuple, fieldAt, withField}
 use Rattle.sound.specs.Soundness.{itemSound}
 use Rattle.image.specs.Image.{readingItem, addressItem, item, tupleField, tuple}
-use Rattle.written.specs.ImageOf.{bitsOf, joined, addressBits, readingBits, itemBits, tupleBits}
+use Rattle.written.specs.ImageOf.{bitsOf, addressBits, readingBits, itemBits, tupleBits}
+use Rattle.text.specs.Joined.{joined}
 use Rattle.written.specs.Fresh.{readingFits, itemFits}
 use Rattle.net.proofs.Laws.{choose-true}
 use Rattle.net.proofs.Every.{Every, Filled}

@@ -6,22 +6,17 @@ use mathlib.Core.List.{List, [], _∷_, _++_}
 use lib.ListN.{getD, length}
 use lib.Dec.{eqb}
 use lib.IntN.{ℤ}
-use Rattle.net.specs.Choice.{choose, fold}
+use Rattle.text.specs.Joined.{joined}
 use Rattle.written.specs.Types.{Locality, Place, Item, Tuple, Rights, Row, Node}
 use Rattle.written.specs.Types.{Target, Pattern, Action, Instruction, Net}
-use Rattle.net.specs.Records.{fieldAt, rightsAt, processAt, tupleAt, patternAt, nodeAt, instructionAt, addressOf, placeOf}
+use Rattle.net.specs.Records.{fieldAt, rightsAt, processAt, tupleAt, patternAt, nodeAt, instructionAt, addressOf, placeOf, processCount}
 
--- ---- numbers, and one part after another
+-- ---- numbers
 
 -- the last w binary digits of v, the most significant first
 unfoldable pub bitsOf : ℕ → ℕ → List Bool
 bitsOf zero v = []
 bitsOf (suc w) v = bitsOf w (v / 2) ++ (eqb (v % 2) 1 ∷ [])
-
--- what f gives for 0, then for 1, and so on below n
-unfoldable pub joined : {A : Type 0} → ℕ → (ℕ → List A) → List A
-joined zero f = []
-joined (suc n) f = joined n f ++ f n
 
 -- ---- fields that stand in several places
 unfoldable pub addressBits : Locality → List Bool
@@ -50,9 +45,6 @@ unfoldable pub rowBits : ℕ → Row → List Bool
 rowBits n r = r .create ∷ joined n (λ l. rightsBits (rightsAt r (addressOf l)))
 
 -- ---- 3. the processes of a node: their number, then the first place of each
-unfoldable pub processCount : Node → ℕ
-processCount x = fold 4 (λ i count. choose (processAt x i .busy) (count + 1) count) 0
-
 unfoldable pub processesBits : Node → List Bool
 processesBits x = bitsOf 3 (processCount x) ++ joined (processCount x) (λ i. placeBits (processAt x i .at))
 

@@ -1,5 +1,6 @@
 -- `image::fields::signed_of` meets its contract. Assumes nothing.
-use Rattle.image.proofs.SignedLaws.{signed-fits, signed-low, signed-high}
+use Rattle.text.proofs.SignedLaws.{high-fits}
+use Rattle.image.proofs.SignedLaws.{signed-low, signed-high}
 use borrow.Author.Needs.{needs}
 use Rattle.image.proofs.fields.signed_of.Statement.{statement}
 use Rattle.image.proofs.fields.signed_of.Tie as tie
@@ -11,6 +12,6 @@ signed-of-spec =
     (λ c. search needs)
     (λ c. search needs)
     (λ c. search needs)
-    (λ c. search (needs, signed-fits))
+    (λ c. search (needs, high-fits))
     (λ c. search (needs, signed-low))
     (λ c. search (needs, signed-high)))

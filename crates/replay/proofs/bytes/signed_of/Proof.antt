@@ -1,5 +1,5 @@
 -- `replay::bytes::signed_of` is safe and ends: -1 - x fits. Assumes nothing.
-use Rattle.replay.proofs.SignedLaws.{signed-fits}
+use Rattle.text.proofs.SignedLaws.{high-fits}
 use borrow.Author.Needs.{needs}
 use Rattle.replay.proofs.bytes.signed_of.Statement.{statement}
 use Rattle.replay.proofs.bytes.signed_of.Tie as tie
@@ -11,6 +11,6 @@ signed-of-spec =
     (λ c. search needs)
     (λ c. search needs)
     (λ c. search needs)
-    (λ c. search (needs, signed-fits))
+    (λ c. search (needs, high-fits))
     (λ c. search needs)
     (λ c. search needs))

@@ -1,6 +1,6 @@
 -- `run::lines::end_tuple` meets its contract. Assumes nothing.
 use Rattle.run.specs.Register.{newline}
-use Rattle.writer.proofs.WritingLaws.{wrote-then}
+use Rattle.text.proofs.WritingLaws.{wrote-then}
 use borrow.Author.Needs.{needs}
 use Rattle.run.proofs.lines.end_tuple.Statement.{statement}
 use Rattle.run.proofs.lines.end_tuple.Tie as tie

@@ -1,16 +1,16 @@
 -- `run::lines::put_fields` meets its contract. Assumes nothing.
 use Prim.Native.Nat.{_-_, _≤_}
-use Rattle.run.specs.Register.{pieces, field, itemText, tupleFields}
-use Rattle.writer.specs.Writing.{Wrote}
-use Rattle.writer.proofs.WritingLaws.{wrote-length}
-use Rattle.run.proofs.WritingLaws.{pieces-none, pieces-more, pieces-upto}
+use Rattle.run.specs.Register.{field, itemText, tupleFields}
+use Rattle.text.specs.Joined.{joined}
+use Rattle.text.specs.Writing.{Wrote}
+use Rattle.text.proofs.WritingLaws.{wrote-length, joined-none, joined-more, joined-upto}
 use Rattle.net.specs.Records.{fieldAt}
 use borrow.Author.Needs.{needs}
 use Rattle.run.proofs.lines.put_fields.Statement.{statement}
 use Rattle.run.proofs.lines.put_fields.Tie as tie
 
 abbrev Inv-loop : tie.InvT-loop
-Inv-loop out₀ at t n next₀ i₀ out next i = Wrote out₀ at (pieces i (λ j. field (itemText (fieldAt t j)))) out next × (i ≤ n)
+Inv-loop out₀ at t n next₀ i₀ out next i = Wrote out₀ at (joined i (λ j. field (itemText (fieldAt t j)))) out next × (i ≤ n)
 
 abbrev μ-loop : tie.MeasureT-loop
 μ-loop out₀ at t n next₀ i₀ out next i = n - i
@@ -23,12 +23,12 @@ put-fields-spec =
     Inv-loop
     μ-loop
     (λ c κs. search needs)
-    (λ c. search (needs, pieces-none))
+    (λ c. search (needs, joined-none))
     (λ c. search needs)
     (λ c. search needs)
     (λ c κs. search needs)
     (λ c. search needs)
     (λ c. search needs)
-    (λ c. search (needs, pieces-more))
+    (λ c. search (needs, joined-more))
     (λ c. search (needs, wrote-length))
-    (λ c. search (needs, pieces-upto)))
+    (λ c. search (needs, joined-upto)))

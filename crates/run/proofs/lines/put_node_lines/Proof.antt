@@ -1,6 +1,6 @@
 -- `run::lines::put_node_lines` meets its contract. Assumes nothing.
 use Rattle.run.specs.Register.{nodeLines}
-use Rattle.writer.proofs.WritingLaws.{wrote-then}
+use Rattle.text.proofs.WritingLaws.{wrote-then}
 use borrow.Author.Needs.{needs}
 use Rattle.run.proofs.lines.put_node_lines.Statement.{statement}
 use Rattle.run.proofs.lines.put_node_lines.Tie as tie

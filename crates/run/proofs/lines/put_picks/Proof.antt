@@ -1,16 +1,16 @@
 -- `run::lines::put_picks` meets its contract. Assumes nothing.
 use Prim.Native.Nat.{_+_, _-_, _≤_}
 use lib.ListN.{length, getD}
-use Rattle.run.specs.Register.{pieces, pickLine, pickLines}
-use Rattle.writer.specs.Writing.{Wrote}
-use Rattle.writer.proofs.WritingLaws.{wrote-length}
-use Rattle.run.proofs.WritingLaws.{pieces-none, pieces-more, pieces-end}
+use Rattle.run.specs.Register.{pickLine, pickLines}
+use Rattle.text.specs.Joined.{joined}
+use Rattle.text.specs.Writing.{Wrote}
+use Rattle.text.proofs.WritingLaws.{wrote-length, joined-none, joined-more, joined-end}
 use borrow.Author.Needs.{needs}
 use Rattle.run.proofs.lines.put_picks.Statement.{statement}
 use Rattle.run.proofs.lines.put_picks.Tie as tie
 
 abbrev Inv-loop : tie.InvT-loop
-Inv-loop out₀ at picks answers next₀ i₀ out next i = Wrote out₀ at (pieces i (λ j. pickLine (j + 1) (getD picks j 0) (getD answers j 0))) out next × (i ≤ length picks)
+Inv-loop out₀ at picks answers next₀ i₀ out next i = Wrote out₀ at (joined i (λ j. pickLine (j + 1) (getD picks j 0) (getD answers j 0))) out next × (i ≤ length picks)
 
 abbrev μ-loop : tie.MeasureT-loop
 μ-loop out₀ at picks answers next₀ i₀ out next i = length picks - i
@@ -22,13 +22,13 @@ put-picks-spec =
     (tie.spec
     Inv-loop
     μ-loop
-    (λ c. search (needs, pieces-none))
+    (λ c. search (needs, joined-none))
     (λ c. search needs)
     (λ c. search needs)
     (λ c. search needs)
     (λ c κs. search needs)
     (λ c. search needs)
     (λ c. search needs)
-    (λ c. search (needs, pieces-more))
+    (λ c. search (needs, joined-more))
     (λ c. search (needs, wrote-length))
-    (λ c. search (needs, pieces-end)))
+    (λ c. search (needs, joined-end)))

@@ -1,6 +1,6 @@
 -- `run::lines::put_tuple` meets its contract. Assumes nothing.
 use Rattle.run.specs.Register.{tupleLine}
-use Rattle.writer.proofs.WritingLaws.{wrote-then}
+use Rattle.text.proofs.WritingLaws.{wrote-then}
 use Rattle.run.proofs.WritingLaws.{wrote-line}
 use borrow.Author.Needs.{needs}
 use Rattle.run.proofs.lines.put_tuple.Statement.{statement}

@@ -1,7 +1,8 @@
 -- The cycle of calls {put_number}: the measure is the width. Assumes nothing.
 use native.Mathlib.Omega.{arith}
 use borrow.Author.Needs.{needs}
-use Rattle.writer.proofs.WritingLaws.{number-none, number-more, wrote-length}
+use Rattle.writer.proofs.NumberLaws.{number-none, number-more}
+use Rattle.text.proofs.WritingLaws.{wrote-length}
 use Prim.Native.Nat.{ℕ, _<_}
 use borrow.Fn.Kinds.{In}
 use borrow.Fn.PlainCycle.{Measures, is, falls, and}

@@ -1,5 +1,5 @@
 -- `writer::bits::put_bit` meets its contract. Assumes nothing.
-use Rattle.writer.proofs.WritingLaws.{wrote-one, wrote-past}
+use Rattle.text.proofs.WritingLaws.{wrote-one, wrote-past}
 use borrow.Author.Needs.{needs}
 use Rattle.writer.proofs.bits.put_bit.Statement.{statement}
 use Rattle.writer.proofs.bits.put_bit.Tie as tie

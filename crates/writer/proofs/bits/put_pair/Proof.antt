@@ -1,5 +1,5 @@
 -- `writer::bits::put_pair` meets its contract. Assumes nothing.
-use Rattle.writer.proofs.WritingLaws.{wrote-then}
+use Rattle.text.proofs.WritingLaws.{wrote-then}
 use borrow.Author.Needs.{needs}
 use Rattle.writer.proofs.bits.put_pair.Statement.{statement}
 use Rattle.writer.proofs.bits.put_pair.Tie as tie

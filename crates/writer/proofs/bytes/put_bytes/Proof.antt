@@ -3,7 +3,7 @@ use Prim.Native.Nat.{_-_, _≤_}
 use lib.ListN.{length}
 use mathlib.Core.Path.{_≡_}
 use Rattle.writer.proofs.ByteLaws.{bytes-done, bytes-next, bytes-start}
-use Rattle.writer.specs.Buffer.{over}
+use Rattle.text.specs.Buffer.{over}
 use Rattle.writer.specs.Writing.{bytesIn}
 use borrow.Author.Needs.{needs}
 use Rattle.writer.proofs.bytes.put_bytes.Statement.{statement}

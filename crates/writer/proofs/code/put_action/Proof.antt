@@ -1,5 +1,5 @@
 -- `writer::code::put_action` meets its contract. Assumes nothing.
-use Rattle.writer.proofs.WritingLaws.{wrote-case-2}
+use Rattle.text.proofs.WritingLaws.{wrote-case-2}
 use Rattle.written.specs.ImageOf.{actionBits}
 use borrow.Author.Needs.{needs}
 use Rattle.writer.proofs.code.put_action.Statement.{statement}

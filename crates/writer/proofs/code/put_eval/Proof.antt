@@ -1,5 +1,5 @@
 -- `writer::code::put_eval` meets its contract. Assumes nothing.
-use Rattle.writer.proofs.WritingLaws.{wrote-then}
+use Rattle.text.proofs.WritingLaws.{wrote-then}
 use borrow.Author.Needs.{needs}
 use Rattle.writer.proofs.code.put_eval.Statement.{statement}
 use Rattle.writer.proofs.code.put_eval.Tie as tie

@@ -1,5 +1,5 @@
 -- `writer::code::put_fork` meets its contract. Assumes nothing.
-use Rattle.writer.proofs.WritingLaws.{wrote-then}
+use Rattle.text.proofs.WritingLaws.{wrote-then}
 use borrow.Author.Needs.{needs}
 use Rattle.writer.proofs.code.put_fork.Statement.{statement}
 use Rattle.writer.proofs.code.put_fork.Tie as tie

@@ -1,9 +1,10 @@
 -- `writer::code::put_patterns` meets its contract. Assumes nothing.
 use Prim.Native.Nat.{_-_, _≤_}
 use Rattle.net.specs.Records.{patternAt}
-use Rattle.writer.proofs.WritingLaws.{joined-end, joined-more, joined-none, wrote-length}
-use Rattle.written.specs.ImageOf.{joined, patternBits}
-use Rattle.writer.specs.Writing.{Wrote}
+use Rattle.text.proofs.WritingLaws.{joined-end, joined-more, joined-none, wrote-length}
+use Rattle.written.specs.ImageOf.{patternBits}
+use Rattle.text.specs.Joined.{joined}
+use Rattle.text.specs.Writing.{Wrote}
 use borrow.Author.Needs.{needs}
 use Rattle.writer.proofs.code.put_patterns.Statement.{statement}
 use Rattle.writer.proofs.code.put_patterns.Tie as tie

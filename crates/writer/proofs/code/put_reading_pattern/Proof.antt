@@ -1,6 +1,6 @@
 -- `writer::code::put_reading_pattern` meets its contract. Assumes nothing.
-use Rattle.writer.proofs.SignedLaws.{reading-back}
-use Rattle.writer.proofs.WritingLaws.{wrote-then}
+use Rattle.writer.proofs.NumberLaws.{reading-back}
+use Rattle.text.proofs.WritingLaws.{wrote-then}
 use borrow.Author.Needs.{needs}
 use Rattle.writer.proofs.code.put_reading_pattern.Statement.{statement}
 use Rattle.writer.proofs.code.put_reading_pattern.Tie as tie

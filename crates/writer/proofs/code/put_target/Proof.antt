@@ -1,5 +1,5 @@
 -- `writer::code::put_target` meets its contract. Assumes nothing.
-use Rattle.writer.proofs.WritingLaws.{wrote-case}
+use Rattle.text.proofs.WritingLaws.{wrote-case}
 use Rattle.written.specs.ImageOf.{addressBits, targetBits, variableBits}
 use borrow.Author.Needs.{needs}
 use Rattle.writer.proofs.code.put_target.Statement.{statement}

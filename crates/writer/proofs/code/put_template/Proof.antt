@@ -1,5 +1,5 @@
 -- `writer::code::put_template` meets its contract. Assumes nothing.
-use Rattle.writer.proofs.WritingLaws.{counted-then}
+use Rattle.writer.proofs.NumberLaws.{counted-then}
 use Rattle.written.specs.ImageOf.{templateBits}
 use borrow.Author.Needs.{needs}
 use Rattle.writer.proofs.code.put_template.Statement.{statement}

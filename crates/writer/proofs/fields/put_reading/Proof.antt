@@ -1,5 +1,5 @@
 -- `writer::fields::put_reading` meets its contract. Assumes nothing.
-use Rattle.writer.proofs.SignedLaws.{wrote-reading}
+use Rattle.writer.proofs.NumberLaws.{wrote-reading}
 use borrow.Author.Needs.{needs}
 use Rattle.writer.proofs.fields.put_reading.Statement.{statement}
 use Rattle.writer.proofs.fields.put_reading.Tie as tie
@@ -9,6 +9,7 @@ put-reading-spec =
     tie.close
     (tie.spec
     (λ c κs. search needs)
+    (λ c. search needs)
     (λ c κs. search needs)
     (λ c. search needs)
     (λ c. search (needs, wrote-reading)))

@@ -1,5 +1,5 @@
 -- `writer::nodes::put_address_item` meets its contract. Assumes nothing.
-use Rattle.writer.proofs.WritingLaws.{wrote-one-then}
+use Rattle.text.proofs.WritingLaws.{wrote-one-then}
 use borrow.Author.Needs.{needs}
 use Rattle.writer.proofs.nodes.put_address_item.Statement.{statement}
 use Rattle.writer.proofs.nodes.put_address_item.Tie as tie

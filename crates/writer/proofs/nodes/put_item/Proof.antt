@@ -1,6 +1,6 @@
 -- `writer::nodes::put_item` meets its contract. Assumes nothing.
-use Rattle.writer.proofs.SignedLaws.{wrote-signed}
-use Rattle.writer.proofs.WritingLaws.{wrote-case}
+use Rattle.text.proofs.SignedLaws.{wrote-signed}
+use Rattle.text.proofs.WritingLaws.{wrote-case}
 use Rattle.written.specs.ImageOf.{itemBits}
 use Rattle.writer.specs.Types.{Item}
 use borrow.Author.Needs.{needs}

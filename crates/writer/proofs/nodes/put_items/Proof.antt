@@ -1,9 +1,10 @@
 -- `writer::nodes::put_items` meets its contract. Assumes nothing.
 use Prim.Native.Nat.{_-_, _≤_}
 use Rattle.net.specs.Records.{fieldAt}
-use Rattle.writer.proofs.WritingLaws.{joined-end, joined-more, joined-none, wrote-length}
-use Rattle.written.specs.ImageOf.{itemBits, joined}
-use Rattle.writer.specs.Writing.{Wrote}
+use Rattle.text.proofs.WritingLaws.{joined-end, joined-more, joined-none, wrote-length}
+use Rattle.written.specs.ImageOf.{itemBits}
+use Rattle.text.specs.Joined.{joined}
+use Rattle.text.specs.Writing.{Wrote}
 use borrow.Author.Needs.{needs}
 use Rattle.writer.proofs.nodes.put_items.Statement.{statement}
 use Rattle.writer.proofs.nodes.put_items.Tie as tie

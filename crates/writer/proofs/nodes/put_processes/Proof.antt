@@ -1,5 +1,5 @@
 -- `writer::nodes::put_processes` meets its contract. Assumes nothing.
-use Rattle.writer.proofs.WritingLaws.{counted-then}
+use Rattle.writer.proofs.NumberLaws.{counted-then}
 use Rattle.written.specs.ImageOf.{processesBits}
 use borrow.Author.Needs.{needs}
 use Rattle.writer.proofs.nodes.put_processes.Statement.{statement}

@@ -1,6 +1,6 @@
 -- `writer::nodes::put_reading_item` meets its contract. Assumes nothing.
-use Rattle.writer.proofs.SignedLaws.{reading-back}
-use Rattle.writer.proofs.WritingLaws.{wrote-one-then}
+use Rattle.writer.proofs.NumberLaws.{reading-back}
+use Rattle.text.proofs.WritingLaws.{wrote-one-then}
 use borrow.Author.Needs.{needs}
 use Rattle.writer.proofs.nodes.put_reading_item.Statement.{statement}
 use Rattle.writer.proofs.nodes.put_reading_item.Tie as tie

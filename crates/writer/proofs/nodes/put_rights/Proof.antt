@@ -1,5 +1,5 @@
 -- `writer::nodes::put_rights` meets its contract. Assumes nothing.
-use Rattle.writer.proofs.WritingLaws.{wrote-one-then}
+use Rattle.text.proofs.WritingLaws.{wrote-one-then}
 use Rattle.written.specs.ImageOf.{rightsBits}
 use borrow.Author.Needs.{needs}
 use Rattle.writer.proofs.nodes.put_rights.Statement.{statement}

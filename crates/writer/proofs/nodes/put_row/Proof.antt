@@ -1,5 +1,5 @@
 -- `writer::nodes::put_row` meets its contract. Assumes nothing.
-use Rattle.writer.proofs.WritingLaws.{wrote-one-then}
+use Rattle.text.proofs.WritingLaws.{wrote-one-then}
 use Rattle.written.specs.ImageOf.{rowBits}
 use borrow.Author.Needs.{needs}
 use Rattle.writer.proofs.nodes.put_row.Statement.{statement}

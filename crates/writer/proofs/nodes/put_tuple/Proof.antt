@@ -1,5 +1,5 @@
 -- `writer::nodes::put_tuple` meets its contract. Assumes nothing.
-use Rattle.writer.proofs.WritingLaws.{counted-then}
+use Rattle.writer.proofs.NumberLaws.{counted-then}
 use Rattle.written.specs.ImageOf.{tupleBits}
 use borrow.Author.Needs.{needs}
 use Rattle.writer.proofs.nodes.put_tuple.Statement.{statement}

@@ -1,5 +1,5 @@
 -- `writer::nodes::put_tuples` meets its contract. Assumes nothing.
-use Rattle.writer.proofs.WritingLaws.{wrote-then}
+use Rattle.text.proofs.WritingLaws.{wrote-then}
 use Rattle.written.specs.ImageOf.{tuplesBits}
 use borrow.Author.Needs.{needs}
 use Rattle.writer.proofs.nodes.put_tuples.Statement.{statement}

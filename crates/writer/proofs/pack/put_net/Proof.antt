@@ -1,5 +1,5 @@
 -- `writer::pack::put_net` meets its contract. Assumes nothing.
-use Rattle.writer.proofs.WritingLaws.{wrote-then}
+use Rattle.text.proofs.WritingLaws.{wrote-then}
 use Rattle.written.specs.ImageOf.{netBits}
 use borrow.Author.Needs.{needs}
 use Rattle.writer.proofs.pack.put_net.Statement.{statement}

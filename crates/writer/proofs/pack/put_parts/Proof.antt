@@ -1,5 +1,5 @@
 -- `writer::pack::put_parts` meets its contract. Assumes nothing.
-use Rattle.writer.proofs.WritingLaws.{wrote-then}
+use Rattle.text.proofs.WritingLaws.{wrote-then}
 use borrow.Author.Needs.{needs}
 use Rattle.writer.proofs.pack.put_parts.Statement.{statement}
 use Rattle.writer.proofs.pack.put_parts.Tie as tie

@@ -1,0 +1,5 @@
+pub mod Buffer
+pub mod Decimal
+pub mod Joined
+pub mod Signed
+pub mod Writing
