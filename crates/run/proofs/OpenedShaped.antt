@@ -12,7 +12,7 @@ use borrow.Author.Tests.{eqb-true}
 use Rattle.net.specs.Choice.{both, all}
 use Rattle.net.specs.Records.{zeroNode, zeroInstruction, emptyNet, nodeAt, instructionAt, addressOf}
 use Rattle.image.specs.Image.{openedOf}
-use Rattle.written.specs.Fresh.{tupleFits, processFits, nodeFits, instructionFits, netFits}
+use Rattle.fresh.specs.Fresh.{tupleFits, processFits, nodeFits, instructionFits, netFits}
 use Rattle.net.proofs.Laws.{both-l, both-r, all-e}
 use Rattle.net.proofs.Every.{every-replicate}
 use Rattle.written.proofs.FreshZero.{node-fit}

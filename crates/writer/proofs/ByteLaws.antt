@@ -12,7 +12,7 @@ use Rattle.text.specs.Buffer.{over}
 use Rattle.writer.specs.Calls.{Packed, placedOf, placedIn}
 use Rattle.written.specs.ImageOf.{digit, numberIn}
 use Rattle.text.specs.Joined.{joined}
-use Rattle.writer.specs.Writing.{bytesIn}
+use Rattle.writer.specs.Packing.{bytesIn}
 use Rattle.text.proofs.WritingLaws.{over-both}
 use Rattle.written.proofs.WrittenBytes.{number-small, listed-length}
 

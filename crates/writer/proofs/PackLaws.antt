@@ -1,44 +1,29 @@
 -- What the writer of images gives, from what its parts give. Assumes nothing.
 use Prim.Native.Nat.{ℕ, zero, suc, _+_, _-_, _*_, _/_, _≤_}
 use mathlib.Core.Path.{_≡_, refl, sym, ap, _∙_}
-use mathlib.Core.Bool.{Bool, true, false, not}
+use mathlib.Core.Bool.{Bool, true, false}
 use mathlib.Core.List.{List, [], _∷_, _++_}
 use native.Mathlib.Omega.{arith}
 use native.Mathlib.Decide.{decLe}
-use lib.Dec.{ltb}
 use lib.ListN.{length, getD, replicate, length-replicate, getD-replicate, List·getD-append, List·getD-eq-default, drop}
 use lib.Seq.{sets-eq, getD-append-add, getD-drop}
-use Rattle.net.specs.Choice.{choose, both, all}
-use Rattle.net.specs.Records.{variableAt, processAt, nodeAt, addressOf, processCount}
-use Rattle.sound.specs.Soundness.{isUnset, soundOf}
+use Rattle.sound.specs.Soundness.{soundOf}
 use Rattle.net.proofs.Laws.{both-l, both-r, choose-true, choose-false}
-use Rattle.image.specs.Image.{accepted, admits}
+use Rattle.image.specs.Image.{accepted}
 use Rattle.image.specs.LengthClaims.{LongestAccepted}
 use Rattle.image.proofs.FirstBytes.{longestAccepted}
-use Rattle.writer.specs.Types.{Node, Net}
+use Rattle.writer.specs.Types.{Net}
 use Rattle.text.specs.Buffer.{over}
 use Rattle.writer.specs.Calls.{Packed, placedOf, placedIn, packedOf, imageIn}
-use Rattle.written.specs.Fresh.{netFits, slotStarts, nodeStarts, freshOf}
+use Rattle.fresh.specs.Fresh.{netFits, freshOf}
 use Rattle.written.specs.ImageOf.{digit, numberIn, bytesOf, netBits, imageOf}
 use Rattle.text.specs.Joined.{joined}
-use Rattle.writer.specs.Writing.{Counts, bytesIn}
+use Rattle.layout.specs.Counts.{Counts}
+use Rattle.writer.specs.Packing.{bytesIn}
 use Rattle.text.specs.Writing.{Wrote}
 use Rattle.written.proofs.AcceptedWritten.{fresh-accepted}
-use Rattle.writer.proofs.CountLaws.{counts-of}
+use Rattle.layout.proofs.CountLaws.{counts-of}
 use Rattle.written.proofs.WrittenBytes.{bytes-length}
-
-both-true : (a b : Bool) → a ≡ true → both a b ≡ b
-unfolding both
-both-true a b p = rw p
-
--- ---- a slot as an image starts it
-pub slot-as :
-    (x : Node) (i n : ℕ) (good : Bool) → n ≡ processCount x
-    → good ≡ both (choose (ltb i n) (processAt x i .busy) (not (processAt x i .busy)))
-    (all 8 (λ v. isUnset (variableAt (processAt x i) v)))
-    → good ≡ slotStarts x i
-unfolding slotStarts
-slot-as x i n good e d = rw (← e) d
 
 -- ---- a fresh net
 pub fresh-counts : (net : Net) → freshOf net ≡ true → Counts net
@@ -160,10 +145,3 @@ module _ (net : Net) (answer : Bool) (e : answer ≡ freshOf net) where
   pub image-kept : (before : List ℕ) → answer ≡ false → before ≡ imageIn net before
   unfolding imageIn
   image-kept before p = sym (choose-false (freshOf net) (placedIn (imageOf net) before) before (sym e ∙ p))
-
--- the test leaves away what holds of every net of a running program
-pub fresh-tested :
-    (net : Net) (r : Bool) → netFits net ≡ true
-    → r ≡ both (soundOf net) (both (all 16 (λ a. nodeStarts (nodeAt net (addressOf a)))) (admits net)) → r ≡ freshOf net
-unfolding freshOf
-fresh-tested net r f e = e ∙ sym (both-true (netFits net) _ f)

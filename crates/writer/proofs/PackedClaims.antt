@@ -13,7 +13,7 @@ use Rattle.image.specs.Image.{openedOf, accepted}
 use Rattle.writer.specs.Types.{Net}
 use Rattle.text.specs.Buffer.{over}
 use Rattle.writer.specs.Calls.{Packed, placedOf, packedOf, packedNumber, packedLength, placedIn, imageIn}
-use Rattle.written.specs.Fresh.{freshOf}
+use Rattle.fresh.specs.Fresh.{freshOf}
 use Rattle.written.specs.ImageOf.{imageOf}
 use Rattle.written.specs.WrittenClaims.{Bytes, AcceptedIsWritten, WrittenIsBytes}
 use Rattle.writer.specs.PackedClaims.{PackedIsAccepted, NotFreshIsUngiven, RefusalKeepsBuffer}

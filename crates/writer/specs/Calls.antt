@@ -8,7 +8,7 @@ use Rattle.net.specs.Choice.{choose}
 use Rattle.writer.specs.Types.{Net}
 use Rattle.text.specs.Buffer.{over}
 use Rattle.written.specs.ImageOf.{imageOf}
-use Rattle.written.specs.Fresh.{freshOf}
+use Rattle.fresh.specs.Fresh.{freshOf}
 
 -- bytes written into a buffer with the given room
 unfoldable pub placedOf : ℕ → ℕ → Packed

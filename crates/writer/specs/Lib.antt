@@ -1,4 +1,4 @@
 pub mod Calls
 pub mod PackedClaims
+pub mod Packing
 pub mod Types
-pub mod Writing

@@ -5,7 +5,7 @@ ghost use mathlib.Core.Path.{_≡_};
 ghost use lib.ListN.{length, getD};
 ghost use Rattle.text.specs.Buffer.{over};
 ghost use Rattle.written.specs.ImageOf.{digit, numberIn};
-ghost use Rattle.writer.specs.Writing.{bytesIn};
+ghost use Rattle.writer.specs.Packing.{bytesIn};
 
 // One bit, as a number.
 fn bit_at(bits: &[bool], at: usize) -> usize
@@ -41,7 +41,7 @@ fn byte_at(bits: &[bool], at: usize) -> u8
 }
 
 // The first n bytes, at the buffer's start.
-pub fn put_bytes(bits: &[bool], n: usize, out: &mut [u8])
+pub(crate) fn put_bytes(bits: &[bool], n: usize, out: &mut [u8])
     requires { ⌜ (n ≤ 16384) × (n ≤ length (now out)) ⌝ }
     ensures { λ _. ⌜ now (out .exit) ≡ over (now (out .entry)) 0 (bytesIn (now (bits .entry)) n) ⌝ }
 {

@@ -18,7 +18,7 @@ use Rattle.written.specs.Types.{Verdict, Opened}
 use Rattle.image.specs.Image.{admits, refused, accepted, judgedNet, openedOf}
 use Rattle.image.specs.ImageClaims.{AcceptedIsSound}
 use Rattle.written.specs.ImageOf.{netBits, imageOf}
-use Rattle.written.specs.Fresh.{netFits, nodeStarts, freshOf}
+use Rattle.fresh.specs.Fresh.{netFits, nodeStarts, freshOf}
 use Rattle.written.specs.WrittenClaims.{Bytes, AcceptedIsWritten, WrittenIsBytes, OneImage, OneNet}
 use Rattle.net.proofs.Laws.{both-i, both-l, both-r, choose-true}
 use Rattle.image.proofs.AcceptedSound.{accepted-is-sound}

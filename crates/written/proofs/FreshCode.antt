@@ -15,7 +15,7 @@ use Rattle.net.specs.Choice.{inRange}
 use Rattle.sound.specs.Soundness.{targetSound, patternSound, isZeroPattern, templateSound, noTemplate, isActual}
 use Rattle.sound.specs.Soundness.{actualsOnly, bindsAnew, formalsApart, actionSound, templateFor, instructionSound, isStop}
 use Rattle.sound.specs.Soundness.{isZeroInstruction}
-use Rattle.written.specs.Fresh.{instructionFits}
+use Rattle.fresh.specs.Fresh.{instructionFits}
 use Rattle.net.proofs.Laws.{both-l, both-r, implies-e, all-e}
 use Rattle.written.proofs.ReadsCells.{zeros-are}
 use Rattle.written.proofs.WrittenTemplate.{TemplateOk, anew-as}

@@ -17,8 +17,8 @@ use Rattle.written.specs.Types.{Place, Tuple, Process, Node, Target, Act
 use Rattle.net.specs.Choice.{inRange}
 use Rattle.sound.specs.Soundness.{isUnset, nodeSound, isZeroNode, nodesSound, instructionSound, isZeroInstruction}
 use Rattle.sound.specs.Soundness.{codeSound, soundOf}
-use Rattle.written.specs.Fresh.{readingFits, itemFits, patternFits, tupleFits, processFits, nodeFits, instructionFits}
-use Rattle.written.specs.Fresh.{netFits, slotStarts, nodeStarts}
+use Rattle.fresh.specs.Fresh.{readingFits, itemFits, patternFits, tupleFits, processFits, nodeFits, instructionFits}
+use Rattle.fresh.specs.Fresh.{netFits, slotStarts, nodeStarts}
 use Rattle.net.proofs.Laws.{both-i, both-l, both-r, choose-true, choose-false, all-i, all-e}
 use Rattle.net.proofs.Every.{Every, Filled}
 use Rattle.written.proofs.WrittenTuples.{TupleOk}

@@ -14,7 +14,7 @@ use Rattle.written.specs.Types.{Tuple, Row, Process, Node}
 use Rattle.net.specs.Choice.{inRange}
 use Rattle.sound.specs.Soundness.{itemSound, isZeroItem, tupleSound, isZeroTuple, tuplesSound, rowSound}
 use Rattle.sound.specs.Soundness.{isUnset, processSound, nodeSound}
-use Rattle.written.specs.Fresh.{tupleFits, processFits, nodeFits, slotStarts, nodeStarts}
+use Rattle.fresh.specs.Fresh.{tupleFits, processFits, nodeFits, slotStarts, nodeStarts}
 use Rattle.net.proofs.Laws.{both-l, both-r, choose-true, choose-false, implies-e, all-e}
 use Rattle.net.proofs.Every.{chosen}
 use Rattle.net.proofs.Past.{pastTuple}

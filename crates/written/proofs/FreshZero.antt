@@ -17,7 +17,7 @@ use Rattle.net.specs.Records.{placeOf, fieldAt, variableAt, rightsAt, processAt
 use Rattle.written.specs.Types.{Item, Field, Tuple, Rights, Row, Process, Node}
 use Rattle.net.specs.Readings.{sameReading}
 use Rattle.sound.specs.Soundness.{isZeroItem, isZeroTuple, isNone, isZeroRow, isUnset, isFree, isZeroNode}
-use Rattle.written.specs.Fresh.{tupleFits, processFits, nodeFits}
+use Rattle.fresh.specs.Fresh.{tupleFits, processFits, nodeFits}
 use Rattle.net.proofs.Laws.{both-l, both-r, choose-true, choose-false, all-e}
 use Rattle.net.proofs.Every.{Every, Filled}
 use Rattle.net.proofs.Past.{pastProcess, pastTuple}

@@ -23,8 +23,8 @@ use Rattle.text.specs.Joined.{joined}
 use Rattle.written.specs.ImageOf.{processesBits, itemBits, tupleBits, tuplesBits, targetBits, patternBits}
 use Rattle.written.specs.ImageOf.{templateBits, actionBits, instructionBits, rowsBits, allProcessesBits, allTuplesBits}
 use Rattle.written.specs.ImageOf.{codeBits, netBits, imageOf}
-use Rattle.written.specs.Fresh.{readingFits, itemFits, patternFits, tupleFits, processFits, nodeFits, instructionFits}
-use Rattle.written.specs.Fresh.{netFits, slotStarts, nodeStarts, freshOf}
+use Rattle.fresh.specs.Fresh.{readingFits, itemFits, patternFits, tupleFits, processFits, nodeFits, instructionFits}
+use Rattle.fresh.specs.Fresh.{netFits, slotStarts, nodeStarts, freshOf}
 use Rattle.written.specs.WrittenClaims.{Bytes, LongestIsReached}
 use Rattle.net.proofs.Laws.{both-i, implies-i, choose-true, all-i}
 use Rattle.net.proofs.Past.{in-range}

@@ -13,7 +13,7 @@ use Rattle.net.specs.Records.{addressOf, placeOf}
 use Rattle.written.specs.Types.{Rights}
 use Rattle.image.specs.Image.{address, place, variable, signed, reading, isSetBit, rightsOf}
 use Rattle.written.specs.ImageOf.{bitsOf, addressBits, placeBits, variableBits, readingBits, rightsBits, digit}
-use Rattle.written.specs.Fresh.{readingFits}
+use Rattle.fresh.specs.Fresh.{readingFits}
 use Rattle.net.proofs.Laws.{choose-true, choose-false}
 use Rattle.written.proofs.ReadsWrites.{Reads, reads-map, reads-field, reads-bits}
 

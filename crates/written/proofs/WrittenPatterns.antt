@@ -15,7 +15,7 @@ use Rattle.image.specs.BitReader.{pure, alternative}
 use Rattle.image.specs.Image.{writtenTarget, heldTarget, target, readingPattern, addressPattern, heldPattern}
 use Rattle.image.specs.Image.{fresh, formalReading, formalAddress, kind, pattern}
 use Rattle.written.specs.ImageOf.{bitsOf, addressBits, readingBits, variableBits, targetBits, patternBits}
-use Rattle.written.specs.Fresh.{readingFits, patternFits}
+use Rattle.fresh.specs.Fresh.{readingFits, patternFits}
 use Rattle.net.proofs.Laws.{implies-i}
 use Rattle.written.proofs.ReadsWrites.{Reads, Ranged, reads-as, reads-map, reads-pure, reads-field}
 use Rattle.written.proofs.ReadsParts.{Kinded, reads-kind, reads-tested}

@@ -17,7 +17,7 @@ use Rattle.sound.specs.Soundness.{itemSound}
 use Rattle.image.specs.Image.{readingItem, addressItem, item, tupleField, tuple}
 use Rattle.written.specs.ImageOf.{bitsOf, addressBits, readingBits, itemBits, tupleBits}
 use Rattle.text.specs.Joined.{joined}
-use Rattle.written.specs.Fresh.{readingFits, itemFits}
+use Rattle.fresh.specs.Fresh.{readingFits, itemFits}
 use Rattle.net.proofs.Laws.{choose-true}
 use Rattle.net.proofs.Every.{Every, Filled}
 use Rattle.image.proofs.PastRecords.{pastField}

@@ -1,4 +1,3 @@
-pub mod Fresh
 pub mod ImageOf
 pub mod Types
 pub mod WrittenClaims

@@ -9,7 +9,7 @@ use Rattle.written.specs.Types.{Net}
 use Rattle.image.specs.Image.{openedOf, accepted}
 use Rattle.written.specs.Types.{Verdict}
 use Rattle.written.specs.ImageOf.{imageOf}
-use Rattle.written.specs.Fresh.{freshOf}
+use Rattle.fresh.specs.Fresh.{freshOf}
 
 -- a list of bytes, as a slice of a running program is
 pub record Bytes (s : List ℕ) : Type 0 where

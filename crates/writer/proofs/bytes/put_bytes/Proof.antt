@@ -4,7 +4,7 @@ use lib.ListN.{length}
 use mathlib.Core.Path.{_≡_}
 use Rattle.writer.proofs.ByteLaws.{bytes-done, bytes-next, bytes-start}
 use Rattle.text.specs.Buffer.{over}
-use Rattle.writer.specs.Writing.{bytesIn}
+use Rattle.writer.specs.Packing.{bytesIn}
 use borrow.Author.Needs.{needs}
 use Rattle.writer.proofs.bytes.put_bytes.Statement.{statement}
 use Rattle.writer.proofs.bytes.put_bytes.Tie as tie

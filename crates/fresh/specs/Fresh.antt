@@ -1,0 +1,66 @@
+-- Nets as an image can write them (document 01, "The net", "The image", "Numbers for an image"): sound, with the
+-- processes of each node in slots 0 upward and every variable unset, and each starting process within its row.
+use Prim.Native.Nat.{ℕ}
+use mathlib.Core.Bool.{Bool, true, not}
+use lib.ListN.{length}
+use lib.Dec.{eqb, ltb}
+use lib.IntN.{ℤ}
+use Rattle.net.specs.Choice.{choose, both, all}
+use Rattle.net.specs.Records.{fieldAt, variableAt, processAt, tupleAt, patternAt, nodeAt, instructionAt, addressOf, placeOf, processCount}
+use Rattle.sound.specs.Soundness.{isUnset, soundOf}
+use Rattle.fresh.specs.Types.{Item, Tuple, Process, Node, Pattern, Instruction, Net}
+use Rattle.image.specs.Image.{admits}
+
+-- ---- what the types of a running program fix and the definitions' lists and whole numbers do not: readings of 32
+-- bits, and the length of each array ("The net")
+unfoldable pub readingFits : ℤ → Bool
+readingFits (ℤ.pos v) = ltb v 2147483648
+readingFits (ℤ.negsuc v) = ltb v 2147483648
+
+unfoldable pub itemFits : Item → Bool
+itemFits (Item.Reading x) = readingFits x
+itemFits (Item.Address l) = true
+
+unfoldable pub patternFits : Pattern → Bool
+patternFits (Pattern.Reading x) = readingFits x
+patternFits (Pattern.Address l) = true
+patternFits Pattern.Own = true
+patternFits (Pattern.Held v) = true
+patternFits (Pattern.FormalReading v) = true
+patternFits (Pattern.FormalAddress v) = true
+
+unfoldable pub tupleFits : Tuple → Bool
+tupleFits t = both (eqb (length (t .fields)) 4) (all 4 (λ i. itemFits (fieldAt t i)))
+
+unfoldable pub processFits : Process → Bool
+processFits p = eqb (length (p .variables)) 8
+
+unfoldable pub nodeFits : Node → Bool
+nodeFits x =
+    both (eqb (length (x .row .rights)) 16)
+    (both (both (eqb (length (x .processes)) 4) (all 4 (λ i. processFits (processAt x i))))
+    (both (eqb (length (x .tuples)) 16) (all 16 (λ i. tupleFits (tupleAt x i)))))
+
+unfoldable pub instructionFits : Instruction → Bool
+instructionFits c = both (eqb (length (c .template)) 4) (all 4 (λ i. patternFits (patternAt c i)))
+
+unfoldable pub netFits : Net → Bool
+netFits s =
+    both (both (eqb (length (s .nodes)) 16) (all 16 (λ a. nodeFits (nodeAt s (addressOf a)))))
+    (both (eqb (length (s .code)) 512) (all 512 (λ p. instructionFits (instructionAt (s .code) (placeOf p)))))
+
+-- ---- "They fill slots 0 upward" ("The image", 3); "8 variables for each process, all unset at the start" ("The net")
+
+-- busy below the process count and free from it on, every variable unset
+unfoldable pub slotStarts : Node → ℕ → Bool
+slotStarts x i =
+    both (choose (ltb i (processCount x)) (processAt x i .busy) (not (processAt x i .busy)))
+    (all 8 (λ v. isUnset (variableAt (processAt x i) v)))
+
+unfoldable pub nodeStarts : Node → Bool
+nodeStarts x = all 4 (slotStarts x)
+
+-- ---- the whole: counts, addresses, places and variables in range, rules 26 and 27, zero or unset elsewhere (sound),
+-- processes as they start, and rule 30
+unfoldable pub freshOf : Net → Bool
+freshOf s = both (netFits s) (both (soundOf s) (both (all 16 (λ a. nodeStarts (nodeAt s (addressOf a)))) (admits s)))
