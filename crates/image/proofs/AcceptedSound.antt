@@ -12,10 +12,12 @@ use Rattle.net.specs.Records.{zeroNode, zeroInstruction, emptyNet, nodeAt, inst
 use Rattle.net.specs.Records.{withNode, withInstruction, withCounts}
 use Rattle.sound.specs.Soundness.{nodeSound, isZeroNode, instructionSound, isZeroInstruction}
 use Rattle.sound.specs.Soundness.{nodesSound, codeSound, soundOf}
-use Rattle.image.specs.BitReader.{Fault, Parsed, Reader, each, numbered}
+use Rattle.image.specs.Types.{Fault}
+use Rattle.readers.specs.Reader.{Parsed, Reader, each, numbered}
 use Rattle.image.specs.Image.{Verdict, Opened, eachAddress, eachPlace, header, row, rowOf, rows, processes, processesOf, allProcesses}
 use Rattle.image.specs.Image.{tuples, tuplesOf, allTuples, instruction, instructionOf, code, endsAt, ending}
-use Rattle.image.specs.Image.{layout, admits, refused, accepted, judgedNet, openedOf, numberOf}
+use Rattle.image.specs.Image.{layout, refused, accepted, judgedNet, openedOf, numberOf}
+use Rattle.keeping.specs.Admission.{admits}
 use Rattle.image.specs.ImageClaims.{AcceptedIsSound, RefusedIsEmpty, Numbered, RefusedIsNumbered}
 use Rattle.net.proofs.Laws.{both-i}
 use Rattle.net.proofs.Every.{chosen, Every, every-replicate, every-weaken, Filled, filled-set, filled-all}

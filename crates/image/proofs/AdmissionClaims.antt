@@ -1,44 +1,23 @@
--- The claims of `specs/AdmissionClaims.antt`: the computed check of starting processes is what it means, and an image is
--- answered 30 exactly where it is the check that fails. Assumes nothing.
+-- The claims of `specs/AdmissionClaims.antt`: an image is answered 30 exactly where it is the check of starting processes
+-- that fails. Assumes nothing.
 use Prim.Native.Nat.{ℕ}
 use mathlib.Core.Path.{_≡_, refl, subst}
 use mathlib.Core.Bool.{Bool, true, false}
 use mathlib.Core.List.{List}
 use native.Mathlib.Omega.{arith}
-use borrow.Author.Tests.{ltb-true, lt-ltb}
 use Rattle.net.specs.Choice.{choose}
-use Rattle.net.specs.Records.{addressOf}
-use Rattle.keeping.specs.ReachingClaims.{KeepsIsEvery}
-use Rattle.net.proofs.Laws.{implies-i, implies-e, all-i, all-e, choose-true}
-use Rattle.keeping.proofs.Reached.{keepsIsEvery}
+use Rattle.keeping.specs.Admission.{admits}
+use Rattle.keeping.specs.AdmissionClaims.{StartsWithin, AdmitsIsWithin}
+use Rattle.net.proofs.Laws.{choose-true}
+use Rattle.keeping.proofs.AdmissionClaims.{admitsIsWithin}
 use Rattle.image.specs.Types.{Net}
-use Rattle.image.specs.BitReader.{Parsed, got, numbered}
-use Rattle.image.specs.Image.{layout, admitsProcess, admitsNode, admitsAt, admits, refused, accepted, judgedNet}
+use Rattle.readers.specs.Reader.{Parsed, got, numbered}
+use Rattle.image.specs.Image.{layout, refused, accepted, judgedNet}
 use Rattle.image.specs.Image.{openedOf, numberOf}
-use Rattle.image.specs.AdmissionClaims.{StartsWithin, AdmitsIsWithin, AcceptedIsWithin, Beyond, beyond}
+use Rattle.image.specs.AdmissionClaims.{AcceptedIsWithin, Beyond, beyond}
 use Rattle.image.specs.AdmissionClaims.{ThirtyIsBeyond}
 use Rattle.image.proofs.Gives.{Fine, value, stopped}
 use Rattle.image.proofs.AcceptedSound.{Laid, gives-layout, never}
-
-pub admitsIsWithin : AdmitsIsWithin
-unfolding AdmitsIsWithin admits admitsAt admitsNode admitsProcess KeepsIsEvery
-admitsIsWithin s few short = (
-  λ h. record {
-    permitted = λ a slot q used low busy m.
-        keepsIsEvery (s .code) short _ a _ .0
-        (implies-e _ _
-        (all-e 4 _ (implies-e _ _ (all-e 16 _ h (a .0) (omega arith)) (lt-ltb (a .0) (s .addresses) used)) slot low)
-        busy)
-        q
-        m;
-  },
-  λ w. all-i 16 _
-      (λ a h. implies-i _ _
-      (λ used. all-i 4 _
-      (λ slot low. implies-i _ _
-      (λ busy. keepsIsEvery (s .code) short _ _ _ .1
-      (λ q m. w .permitted (addressOf a) slot q (ltb-true a (s .addresses) used) low busy m))))),
-)
 
 -- ---- of a net that the layout gives
 judged : (s : Net) (p : ℕ) → judgedNet (got s p) ≡ choose (admits s) (accepted s) (refused (numbered 30))

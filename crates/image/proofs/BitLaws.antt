@@ -12,8 +12,12 @@ use mir.Val.{Fits}
 use native.Mathlib.Numerals.{add-one}
 use native.Mathlib.Omega.{arith}
 use borrow.Author.Tests.{lt-ltb, le-ltb, le-leb, lt-leb}
-use Rattle.image.specs.BitReader.{Fault, Parsed, fault, Reader, bitAt, numberAt, judged, field, numbered}
-use Rattle.image.specs.Progress.{Step, Taken, seen, outcome, runFrom, Bit, Number, Took, TookFrom}
+use Rattle.image.specs.BitReader.{bitAt, numberAt, judged, field}
+use Rattle.image.specs.Types.{Fault}
+use Rattle.readers.specs.Reader.{Parsed, fault, Reader, numbered}
+use Rattle.image.specs.Progress.{Taken, seen, Bit, Number, Took, TookFrom}
+use Rattle.image.specs.Types.{Step}
+use Rattle.readers.specs.Progress.{outcome, runFrom}
 use Rattle.net.proofs.Laws.{choose-true, choose-false, both-i, both-false-l, both-false-r}
 
 -- ---- the bytes looked at
@@ -66,9 +70,9 @@ pub number-next : (s : List ℕ) (p q i w v b : ℕ) → Number s p i v → Bit 
 number-next s p q i w v b h g l k = omega (arith, h .small, g .small, pow-mono (le-trans l k))
 
 -- ---- a field judged
-pub took-fault : (n w end : ℕ) → Took (fault (numbered n)) w end (record { value = 0; next = Step.Failed (record { number = n }) })
-unfolding outcome numbered
-took-fault n w end = record { took = refl; narrow = pow-pos w; below = omega arith }
+pub took-fault : (n w end : ℕ) (f : Fault) → f ≡ numbered n → Took (fault (numbered n)) w end (record { value = 0; next = Step.Failed f })
+unfolding outcome
+took-fault n w end f e = record { took = ap fault e; narrow = pow-pos w; below = omega arith }
 
 module _ (low end n q v w : ℕ) (small : v < 2 ^ w) where
   pub judged-in : low ≤ v → v < end → Took (judged low end n q v) w end (record { value = v; next = Step.At q })

@@ -12,9 +12,12 @@ use lib.Seq.{getD-take, take-all, length-take-le}
 use lib.Dec.{leb, ltb}
 use borrow.Author.Tests.{leb-true, ltb-true, le-leb}
 use Rattle.net.specs.Choice.{choose, both}
-use Rattle.image.specs.BitReader.{Fault, Parsed, got, fault, Reader, pure, andThen, _>>=_, _>>_, turns, each}
-use Rattle.image.specs.BitReader.{alternative, require, bitAt, numberAt, judged, field, bits}
+use Rattle.image.specs.Types.{Fault}
+use Rattle.readers.specs.Reader.{Parsed, got, fault, Reader, pure, andThen, _>>=_, _>>_, turns, each}
+use Rattle.image.specs.BitReader.{bitAt, numberAt, judged, field, bits}
+use Rattle.readers.specs.Reader.{alternative, require}
 use Rattle.net.proofs.Laws.{both-l, both-r}
+use Rattle.readers.proofs.ReaderLaws.{no-fault, choose-got}
 
 -- m takes at most b bits, its values satisfy P, and the bytes that hold those bits decide what it gives
 pub record Within {A : Type 0} (m : Reader A) (b : ℕ) (P : A → Type 0) : Type 0 where
@@ -29,17 +32,6 @@ pub record Closes {A : Type 0} (m : Reader A) (b : ℕ) : Type 0 where
 -- of a value of which nothing is said
 pub data Anything {A : Type 0} (a : A) : Type 0 where
   any : Anything a
-
--- no fault is a value
-pub no-fault : {A C : Type 0} {n : Fault} {a : A} {q : ℕ} → fault n ≡ got a q → C
-no-fault e = let z : _≡_ {A = ℕ} 0 1 = cc in absurd (omega arith)
-
--- a test that came out well
-pub choose-got : {A : Type 0} (t : Bool) {x : Parsed A} (n : Fault) {a : A} {q : ℕ} → choose t x (fault n) ≡ got a q
-    → (t ≡ true) × (x ≡ got a q)
-unfolding choose
-choose-got true n e = (refl, e)
-choose-got false n e = no-fault e
 
 -- ---- room for more bits
 pub widen : {A : Type 0} {P : A → Type 0} {m : Reader A} {b c : ℕ} → b ≤ c → Within m b P → Within m c P

@@ -11,7 +11,7 @@ use lib.Seq.{take-all, length-take-le}
 use borrow.Author.Tests.{eqb-true, ne-eqb}
 use Rattle.image.specs.Types.{Locality, Place, Tuple, Row, Node, Target, Action, Instruction, Net}
 use Rattle.net.specs.Records.{withNode, withInstruction, withCounts, addressOf, placeOf}
-use Rattle.image.specs.BitReader.{Parsed, got, fault, require}
+use Rattle.readers.specs.Reader.{Parsed, got, fault, require}
 use Rattle.image.specs.Image.{Verdict, eachAddress, eachPlace, address, place, variable, reading, header, rights, row, rowOf, rows}
 use Rattle.image.specs.Image.{process, processes, processesOf, allProcesses, readingItem, addressItem, item}
 use Rattle.image.specs.Image.{tupleField, tuple, stored, tuples, tuplesOf, allTuples}
@@ -21,7 +21,8 @@ use Rattle.image.specs.Image.{communication, evaluation, creation, forki
 use Rattle.image.specs.Image.{endsAt, ending, layout, judgedNet, refused, openedOf}
 use Rattle.image.specs.LengthClaims.{FirstBytesDecide, LongestAccepted}
 use Rattle.net.proofs.Laws.{both-l, both-false-l}
-use Rattle.image.proofs.Budget.{Within, Closes, Anything, any, nothing, _or_, choose-got, widen, pure-within}
+use Rattle.image.proofs.Budget.{Within, Closes, Anything, any, nothing, _or_, widen, pure-within}
+use Rattle.readers.proofs.ReaderLaws.{choose-got}
 use Rattle.image.proofs.Budget.{require-within, bind, gives, then, bind-closes, closes-pure, each-within}
 use Rattle.image.proofs.Budget.{alternative-within, choose-within, field-within, bits-within}
 

@@ -10,8 +10,10 @@ use lib.ListN.{length}
 use lib.Dec.{leb, ltb}
 use borrow.Author.Tests.{leb-true, ltb-true}
 use Rattle.net.specs.Choice.{choose, both}
-use Rattle.image.specs.BitReader.{Fault, Parsed, got, fault, Reader, pure, andThen, _>>=_, _>>_, turns, each}
-use Rattle.image.specs.BitReader.{alternative, numbered, require, numberAt, judged, field, bits}
+use Rattle.image.specs.Types.{Fault}
+use Rattle.readers.specs.Reader.{Parsed, got, fault, Reader, pure, andThen, _>>=_, _>>_, turns, each}
+use Rattle.image.specs.BitReader.{numberAt, judged, field, bits}
+use Rattle.readers.specs.Reader.{alternative, numbered, require}
 use Rattle.net.proofs.Laws.{both-l, both-r}
 
 pub record Listed (n : ℕ) : Type 0 where

@@ -13,12 +13,15 @@ use mathlib.Core.Bool.{Bool, not}
 use lib.Dec.{ltb}
 use Rattle.net.specs.Choice.{implies}
 use Rattle.sound.specs.Soundness.{unboundBefore}
-use Rattle.image.specs.BitReader.{field, bits, require}
-use Rattle.image.specs.Progress.{Step, PartsRead, Went, Spoken}
+use Rattle.image.specs.BitReader.{field, bits}
+use Rattle.readers.specs.Reader.{require}
+use Rattle.image.specs.Progress.{PartsRead, Spoken}
+use Rattle.image.specs.Types.{Step}
+use Rattle.readers.specs.Progress.{Went}
 use Rattle.image.specs.Image.{rightsOf, rights, row, rowOf, place, process, processes}
 use Rattle.image.specs.Image.{processesOf, item, tupleField, tuple, stored, tuples, tuplesOf, pattern, templateField}
 use Rattle.image.specs.Image.{instruction, instructionOf, kind, fresh, variable, target, template, communication}
-use Rattle.image.proofs.ReaderLaws.{on, next, stop, stop-as}
+use Rattle.readers.proofs.ReaderLaws.{on, next, stop, stop-as}
 
 module _ (s : List ℕ) (p q : Step) where
   pub rights-turn : (v i : ℕ) (r : Row) (x : Rights) → Went s p (field 4 0 16 28) q v → x ≡ rightsOf v

@@ -11,14 +11,20 @@ use borrow.Author.Tests.{eq-eqb, ne-eqb}
 use Rattle.net.specs.Choice.{choose, both}
 use Rattle.net.specs.Records.{emptyNet, withCounts}
 use Rattle.image.specs.Types.{Net}
-use Rattle.image.specs.BitReader.{Fault, field, numbered, require}
-use Rattle.image.specs.Image.{Opened, header, rows, allProcesses, allTuples, code, padding, endsAt, ending, layout, admits}
+use Rattle.image.specs.BitReader.{field}
+use Rattle.image.specs.Types.{Fault}
+use Rattle.readers.specs.Reader.{numbered, require}
+use Rattle.image.specs.Image.{Opened, header, rows, allProcesses, allTuples, code, padding, endsAt, ending}
+use Rattle.image.specs.Image.{layout}
+use Rattle.keeping.specs.Admission.{admits}
 use Rattle.image.specs.Image.{accepted, refused, judgedNet, openedOf}
-use Rattle.image.specs.Progress.{Step, NetRead, seen, outcome, runFrom, Went, Headed, Built, Number}
+use Rattle.image.specs.Progress.{NetRead, seen, Headed, Built, Number}
+use Rattle.image.specs.Types.{Step}
+use Rattle.readers.specs.Progress.{outcome, runFrom, Went}
 use Rattle.image.proofs.FirstBytes.{firstBytesDecide}
 use Rattle.image.specs.LengthClaims.{FirstBytesDecide}
 use Rattle.net.proofs.Laws.{both-false-l}
-use Rattle.image.proofs.ReaderLaws.{on, next, stop, stop-as}
+use Rattle.readers.proofs.ReaderLaws.{on, next, stop, stop-as}
 
 -- ---- the header
 pub headed : (s : List ℕ) (q₁ q₂ q₃ : Step) (v n k : ℕ) (e : Net)
@@ -73,6 +79,9 @@ laid s r₁ r₂ r₃ r₄ r₅ q a b c d e f =
     (on s _ (r₅ .next) q _ _ (r₅ .net) _ (e .read) (next s _ q q _ _ tt _ f (stop s q (r₅ .net)))))))
 
 -- ---- what an image gives
+pub refused-as : (r : Opened) (f : Fault) (n : ℕ) → r ≡ refused f → f ≡ numbered n → r ≡ refused (numbered n)
+refused-as r f n e d = e ∙ ap refused d
+
 all-seen : (s : List ℕ) → openedOf (seen s) ≡ openedOf s
 unfolding seen FirstBytesDecide
 all-seen s = firstBytesDecide s 16384 (omega arith)

@@ -9,7 +9,6 @@ pub mod Gives
 pub mod ImageLaws
 pub mod LayoutLaws
 pub mod PastRecords
-pub mod ReaderLaws
 pub mod ReaderRecord
 pub mod SignedLaws
 pub mod WalkLaws

@@ -1,36 +1,13 @@
 -- The policy check of an image from outside (document 01, "Reaching and rights"; "Numbers for an image", number 30): by what
 -- a process reaches, and by no test.
-use Prim.Native.Nat.{ℕ, _<_, _≤_}
+use Prim.Native.Nat.{ℕ}
 use mathlib.Core.Path.{_≡_}
 use mathlib.Core.Logic.{_↔_}
-use mathlib.Core.Bool.{true}
 use mathlib.Core.List.{List}
-use lib.ListN.{length}
-use Rattle.net.specs.Records.{processAt, nodeAt, instructionAt}
-use Rattle.keeping.specs.Reaching.{Reaches}
-use Rattle.keeping.specs.Keeping.{permits}
-use Rattle.image.specs.Types.{Locality, Place, Net}
-use Rattle.image.specs.BitReader.{got}
-use Rattle.image.specs.Image.{layout, admits, accepted, openedOf, numberOf}
-
--- each busy process of an address in use keeps within the row of that address: every instruction that it reaches from
--- its place has its right there
-pub record StartsWithin (s : Net) : Type 0 where
-  pub permitted :
-      (a : Locality) (slot : ℕ) (q : Place)
-      → a .0 < s .addresses
-      → slot < 4
-      → processAt (nodeAt s a) slot .busy ≡ true
-      → Reaches (s .code) (processAt (nodeAt s a) slot .at) q
-      → permits (nodeAt s a .row) a (instructionAt (s .code) q .action) ≡ true
-
--- the computed check says just that, of every net with no more addresses and instructions than a net has room for
-unfoldable pub AdmitsIsWithin : Type 0
-AdmitsIsWithin =
-    (s : Net)
-    → s .addresses ≤ 16
-    → length (s .code) ≤ 512
-    → (admits s ≡ true) ↔ StartsWithin s
+use Rattle.keeping.specs.AdmissionClaims.{StartsWithin}
+use Rattle.image.specs.Types.{Net}
+use Rattle.readers.specs.Reader.{got}
+use Rattle.image.specs.Image.{layout, accepted, openedOf, numberOf}
 
 -- an image that meets the layout is accepted with the net that it writes down exactly when each starting process keeps
 -- within its row

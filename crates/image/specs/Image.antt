@@ -15,9 +15,11 @@ use Rattle.net.specs.Records.{processAt, nodeAt, startingAt, zeroTuple, zeroRow
 use Rattle.net.specs.Records.{withField, withRights, withRow, withProcess, withTuple, withPattern, withAction}
 use Rattle.net.specs.Records.{withNode, withInstruction, withCounts}
 use Rattle.sound.specs.Soundness.{unboundBefore}
-use Rattle.keeping.specs.Keeping.{keepsOf}
-use Rattle.image.specs.BitReader.{Fault, Parsed, got, fault, Reader, pure, _>>=_, _>>_, each, alternative}
-use Rattle.image.specs.BitReader.{numbered, require, numberAt, field, bits}
+use Rattle.keeping.specs.Admission.{admits}
+use Rattle.image.specs.Types.{Fault}
+use Rattle.readers.specs.Reader.{Parsed, got, fault, Reader, pure, _>>=_, _>>_, each, alternative}
+use Rattle.image.specs.BitReader.{numberAt, field, bits}
+use Rattle.readers.specs.Reader.{numbered, require}
 
 -- ---- a turn for each of n addresses, and for each of k code places
 unfoldable pub eachAddress : {A : Type 0} → ℕ → (Locality → A → Reader A) → A → Reader A
@@ -295,25 +297,13 @@ layout = do
   ending
   pure s₅
 
--- each starting process keeps within the row of its node: judged once 21 to 29 are absent
-unfoldable pub admitsProcess : List Instruction → Row → Locality → Process → Bool
-admitsProcess code r a p = implies (p .busy) (keepsOf code (p .at) a r)
-
-unfoldable pub admitsNode : List Instruction → Locality → Node → Bool
-admitsNode code a x = all 4 (λ i. admitsProcess code (x .row) a (processAt x i))
-
-unfoldable pub admitsAt : Net → Locality → Bool
-admitsAt s a = implies (ltb (a .0) (s .addresses)) (admitsNode (s .code) a (nodeAt s a))
-
-unfoldable pub admits : Net → Bool
-admits s = all 16 (λ i. admitsAt s (addressOf i))
-
 unfoldable pub refused : Fault → Opened
 refused f = record { answer = Verdict.Refused f; net = emptyNet }
 
 unfoldable pub accepted : Net → Opened
 accepted s = record { answer = Verdict.Accepted; net = s }
 
+-- whether the starting processes keep within the rows of their nodes is judged once 21 to 29 are absent
 unfoldable pub judgedNet : Parsed Net → Opened
 judgedNet (got s p) = choose (admits s) (accepted s) (refused (numbered 30))
 judgedNet (fault f) = refused f

@@ -6,7 +6,7 @@ use mathlib.Core.Bool.{true}
 use mathlib.Core.List.{List}
 use Rattle.net.specs.Records.{emptyNet}
 use Rattle.sound.specs.Soundness.{soundOf}
-use Rattle.image.specs.BitReader.{Fault}
+use Rattle.image.specs.Types.{Fault}
 use Rattle.image.specs.Image.{Verdict, openedOf, numberOf}
 
 -- document 01, "One pick": accepted nets are sound

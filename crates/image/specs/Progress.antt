@@ -1,37 +1,24 @@
 -- Describes the code, and is no part of what a reader has to believe: how the readers of `src/`
 -- keep to the definitions. They hand on a step, which is the place of the next bit or the first fault, and look at the
 -- first 16,384 bytes of an image alone (`LengthClaims.antt` says that this changes nothing).
-pub use Rattle.image.specs.declared.bits.Step.{Step}
 pub use Rattle.image.specs.declared.bits.Taken.{Taken}
 pub use Rattle.image.specs.declared.bits.NetRead.{NetRead}
 pub use Rattle.image.specs.declared.code.PartsRead.{PartsRead}
 use Prim.Native.Nat.{ℕ, _-_, _<_, _≤_, _^_}
 use mathlib.Core.Bool.{Bool}
 use Rattle.net.specs.Records.{withAction}
-use Rattle.image.specs.Types.{Net, Place, Target, Action}
+use Rattle.image.specs.Types.{Step, Net, Place, Target, Action}
 use Rattle.image.specs.Image.{communication}
 use mathlib.Core.Path.{_≡_}
 use mathlib.Core.List.{List}
 use lib.ListN.{take}
-use Rattle.image.specs.BitReader.{Parsed, got, fault, Reader, numberAt, bitAt, each, turns}
+use Rattle.image.specs.BitReader.{numberAt, bitAt}
+use Rattle.readers.specs.Reader.{Parsed, Reader}
+use Rattle.readers.specs.Progress.{outcome, Went}
 
 -- the bytes that the code looks at
 unfoldable pub seen : List ℕ → List ℕ
 seen image = take 16384 image
-
--- a value at a step, as an outcome: after a fault the value counts for nothing
-unfoldable pub outcome : {A : Type 0} → Step → A → Parsed A
-outcome (Step.At p) a = got a p
-outcome (Step.Failed f) a = fault f
-
--- a reader run from a step
-unfoldable pub runFrom : {A : Type 0} → List ℕ → Step → Reader A → Parsed A
-runFrom s (Step.At p) m = m s p
-runFrom s (Step.Failed f) m = fault f
-
--- from step p the reader m comes to step q with the value a
-pub record Went {A : Type 0} (s : List ℕ) (p : Step) (m : Reader A) (q : Step) (a : A) : Type 0 where
-  pub went : outcome q a ≡ runFrom s p m
 
 -- a bit, with its range
 pub record Bit (s : List ℕ) (p r : ℕ) : Type 0 where
@@ -72,8 +59,3 @@ pub record Spoken (s : List ℕ) (p : Step) (formals : Bool) (n k : ℕ) (r : Pa
   pub read :
       (make : Target → Place → Action) →
       Went s p (communication make formals n k) (r .next) (withAction (r .template) (make (r .target) (r .place)))
-
--- turns of a loop: of n turns from step p₀ and value a₀, i are done and have come to step p and value a
-pub record Loop {A : Type 0} (s : List ℕ) (p₀ : Step) (n : ℕ) (f : ℕ → A → Reader A) (a₀ : A) (p : Step) (i : ℕ) (a : A) : Type 0 where
-  pub within : i ≤ n
-  pub rest : runFrom s p₀ (each n f a₀) ≡ runFrom s p (turns (n - i) i f a)

@@ -1,19 +1,14 @@
-// The bit reader (document 01, "The image"): the record of the image bytes and the next bit's place, with few thin functions,
-// and the step that the readers of the parts hand on by value. Once a step is a fault, every later reader passes it on.
-use crate::reader::Fault;
+// The bit reader (document 01, "The image"): the record of the image bytes and the next bit's place, with few thin functions.
 use net::network::Net;
 use net::node::Node;
+use readers::fault::Fault;
+use readers::step::Step;
 ghost use Prim.Native.Nat.{_+_, _*_, _-_, _<_, _≤_, _^_};
 ghost use mathlib.Core.Path.{_≡_};
 ghost use lib.ListN.{length};
-ghost use Rattle.image.specs.BitReader.{judged, field, numbered, fault};
+ghost use Rattle.image.specs.BitReader.{judged, field};
+ghost use Rattle.readers.specs.Reader.{numbered, fault};
 ghost use Rattle.image.specs.Progress.{seen, Bit, Number, Took, TookFrom};
-
-// Where reading stands: at the place of the next bit, or past the first fault.
-pub enum Step {
-    At(usize),
-    Failed(Fault),
-}
 
 // A field's number, 0 after a fault, and the step after it.
 pub struct Taken {
@@ -137,7 +132,7 @@ pub fn read_number(image: &[u8], p: usize, w: usize) -> NumberRead
 fn failed(number: u8, w: usize, end: usize) -> Taken
     ensures { λ r. ⌜ Took (fault (numbered number)) w end r ⌝ }
 {
-    let fault = Fault { number };
+    let fault = Fault::numbered(number);
     let next = Step::Failed(fault);
     Taken { value: 0, next }
 }

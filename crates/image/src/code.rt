@@ -1,6 +1,5 @@
 // Instructions of an image (document 01, "The image", part 5).
 use crate::bits::NetRead;
-use crate::bits::Step;
 use crate::bits::take;
 use crate::fields::read_address;
 use crate::fields::read_place;
@@ -11,11 +10,13 @@ use net::instruction::Instruction;
 use net::instruction::Target;
 use net::locality::Place;
 use net::network::Net;
+use readers::step::Step;
 ghost use Prim.Native.Nat.{_≤_};
 ghost use Rattle.image.specs.Image.{writtenTarget, heldTarget, target, communication, evaluation, creation};
 ghost use Rattle.image.specs.Image.{forking, instruction, code};
-ghost use Rattle.image.specs.BitReader.{pure};
-ghost use Rattle.image.specs.Progress.{seen, Went, Built, Spoken};
+ghost use Rattle.readers.specs.Reader.{pure};
+ghost use Rattle.image.specs.Progress.{seen, Built, Spoken};
+ghost use Rattle.readers.specs.Progress.{Went};
 ghost use Rattle.net.specs.Records.{withAction, zeroInstruction};
 ghost use mathlib.Core.Path.{_≡_};
 ghost use mathlib.Core.Bool.{true, false};

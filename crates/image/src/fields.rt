@@ -1,12 +1,13 @@
 // Fields that stand in several places of an image (document 01, "The image").
-use crate::bits::Step;
 use crate::bits::take;
 use net::locality::Locality;
 use net::locality::Place;
+use readers::step::Step;
 ghost use Prim.Native.Nat.{_<_, _^_};
 ghost use mathlib.Core.Path.{_≡_};
 ghost use Rattle.image.specs.Image.{signed, address, place, variable, reading};
-ghost use Rattle.image.specs.Progress.{seen, Went};
+ghost use Rattle.image.specs.Progress.{seen};
+ghost use Rattle.readers.specs.Progress.{Went};
 
 pub struct LocalityRead {
     pub locality: Locality,

@@ -1,7 +1,6 @@
 // Tuples of an image (document 01, "The image", part 4).
 use crate::bits::NetRead;
 use crate::bits::NodeRead;
-use crate::bits::Step;
 use crate::bits::take;
 use crate::fields::read_address;
 use crate::fields::read_reading;
@@ -10,10 +9,12 @@ use net::node::Node;
 use net::tuple::Field;
 use net::tuple::Item;
 use net::tuple::Tuple;
+use readers::step::Step;
 ghost use Prim.Native.Nat.{_≤_};
-ghost use Rattle.image.specs.BitReader.{each};
+ghost use Rattle.readers.specs.Reader.{each};
 ghost use Rattle.image.specs.Image.{readingItem, addressItem, item, tupleField, tuple, stored, tuples, allTuples};
-ghost use Rattle.image.specs.Progress.{seen, Went, Built};
+ghost use Rattle.image.specs.Progress.{seen, Built};
+ghost use Rattle.readers.specs.Progress.{Went};
 ghost use Rattle.net.specs.Records.{zeroTuple};
 
 struct ItemRead {

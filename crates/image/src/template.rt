@@ -1,26 +1,25 @@
 // Templates of an image (document 01, "The image", part 5): the fields of an out, an in or a read.
-use crate::bits::Step;
 use crate::bits::Taken;
 use crate::bits::take;
 use crate::fields::VariableRead;
 use crate::fields::read_address;
 use crate::fields::read_reading;
 use crate::fields::read_variable;
-use crate::reader::Fault;
 use net::instruction::Instruction;
 use net::instruction::Pattern;
 use net::instruction::TemplateField;
+use readers::step::Step;
+use readers::step::require_that;
 use sound::soundness::unbound_before;
-ghost use Prim.Native.Nat.{ℕ, _+_, _<_};
 ghost use mathlib.Core.Bool.{not};
-ghost use mathlib.Core.List.{List};
 ghost use mathlib.Core.Path.{_≡_};
 ghost use lib.Dec.{ltb};
-ghost use Rattle.image.specs.BitReader.{pure, each, numbered, require};
+ghost use Rattle.readers.specs.Reader.{pure, each, numbered, require};
 ghost use Rattle.net.specs.Choice.{choose, implies};
 ghost use Rattle.image.specs.Image.{readingPattern, addressPattern, heldPattern, fresh, formalReading};
 ghost use Rattle.image.specs.Image.{formalAddress, kind, pattern, templateField, template};
-ghost use Rattle.image.specs.Progress.{seen, Went};
+ghost use Rattle.image.specs.Progress.{seen};
+ghost use Rattle.readers.specs.Progress.{Went};
 ghost use Rattle.net.specs.Records.{zeroInstruction};
 
 struct PatternRead {
@@ -32,28 +31,6 @@ struct PatternRead {
 pub struct TemplateRead {
     pub template: Instruction,
     pub next: Step,
-}
-
-// A place where the test holds, or else the fault n.
-fn checked(p: usize, ok: bool, n: u8) -> Step
-    ensures { λ r. ⌜ r ≡ choose ok (Step.At p) (Step.Failed (numbered n)) ⌝ }
-{
-    if ok {
-        Step::At(p)
-    } else {
-        let fault = Fault { number: n };
-        Step::Failed(fault)
-    }
-}
-
-// The step as it was where the test holds, or else the fault n.
-pub fn require_that(from: Step, ok: bool, n: u8) -> Step
-    ensures { λ r. ⌜ ((s : List ℕ) → Went s from (require ok n) r tt) ⌝ }
-{
-    match from {
-        Step::At(p) => checked(p, ok, n),
-        Step::Failed(_) => from,
-    }
 }
 
 // Whether a field of that kind may stand in the template: formals are kinds 4 and 5.

@@ -16,7 +16,8 @@ use Rattle.sound.specs.Soundness.{itemSound, tupleSound, tuplesSound, rowSound,
 use Rattle.sound.specs.Soundness.{nodeSound, targetSound, patternSound, templateSound, isActual, actualsOnly, actionSound}
 use Rattle.sound.specs.Soundness.{templateFor, instructionSound, nodesSound, codeSound, soundOf}
 use Rattle.keeping.specs.Keeping.{mayPut, atTarget, permits, permitsMarked, keepsOf}
-use Rattle.image.specs.Image.{admitsProcess, admitsNode, admitsAt, admits, accepted, openedOf}
+use Rattle.image.specs.Image.{accepted, openedOf}
+use Rattle.keeping.specs.Admission.{admitsProcess, admitsNode, admitsAt, admits}
 use Rattle.writer.specs.Types.{Verdict, Opened}
 use Rattle.writer.specs.ImageOf.{bitsOf, joined, addressBits, placeBits, readingBits, headerBits, rightsBits, rowBits}
 use Rattle.writer.specs.ImageOf.{processCount, processesBits, itemBits, tupleBits, tuplesBits, targetBits, patternBits}

@@ -12,7 +12,8 @@ use Rattle.net.specs.Choice.{choose, both, all}
 use Rattle.net.specs.Records.{variableAt, processAt, nodeAt, addressOf}
 use Rattle.sound.specs.Soundness.{isUnset, soundOf}
 use Rattle.net.proofs.Laws.{both-l, both-r, choose-true, choose-false}
-use Rattle.image.specs.Image.{accepted, admits}
+use Rattle.image.specs.Image.{accepted}
+use Rattle.keeping.specs.Admission.{admits}
 use Rattle.image.specs.LengthClaims.{LongestAccepted}
 use Rattle.image.proofs.FirstBytes.{longestAccepted}
 use Rattle.writer.specs.Types.{Node, Net}

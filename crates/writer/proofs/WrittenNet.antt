@@ -9,7 +9,7 @@ use native.Mathlib.Decide.{decLe}
 use lib.ListN.{length, getD, getD-replicate, length-replicate}
 use Rattle.writer.specs.Types.{Node, Net}
 use Rattle.net.specs.Records.{zeroNode, zeroInstruction, emptyNet, nodeAt, instructionAt, withCounts, addressOf}
-use Rattle.image.specs.BitReader.{Reader, _>>=_}
+use Rattle.readers.specs.Reader.{Reader, _>>=_}
 use Rattle.image.specs.Image.{header, rows, allProcesses, allTuples, code}
 use Rattle.writer.specs.ImageOf.{bitsOf, joined, rowBits, processesBits, tuplesBits, instructionBits}
 use Rattle.writer.specs.ImageOf.{headerBits, rowsBits, allProcessesBits, allTuplesBits, codeBits, netBits}

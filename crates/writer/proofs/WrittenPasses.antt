@@ -10,7 +10,7 @@ use lib.Seq.{set-getD, set-set}
 use Rattle.writer.specs.Types.{Locality, Place, Row, Process, Node, Instruction, Net}
 use Rattle.net.specs.Records.{freeProcess, zeroTuple, zeroRow, zeroNode, zeroInstruction, nodeAt, addressOf, placeOf}
 use Rattle.net.specs.Records.{withRow, withNode, withInstruction}
-use Rattle.image.specs.BitReader.{Reader}
+use Rattle.readers.specs.Reader.{Reader}
 use Rattle.image.specs.Image.{eachAddress, eachPlace, row, rowOf, rows, processes, processesOf, allProcesses, tuples, tuplesOf, allTuples}
 use Rattle.image.specs.Image.{instruction, instructionOf, code}
 use Rattle.writer.specs.ImageOf.{joined, rowBits, processesBits, tuplesBits, instructionBits}

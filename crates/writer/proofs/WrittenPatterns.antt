@@ -11,7 +11,7 @@ use borrow.Author.Tests.{ltb-true, lt-ltb}
 use Rattle.net.specs.Choice.{implies}
 use Rattle.writer.specs.Types.{Locality, Target, Pattern, Instruction}
 use Rattle.sound.specs.Soundness.{targetSound, patternSound, isActual, unboundBefore, bindsAnew}
-use Rattle.image.specs.BitReader.{pure, alternative}
+use Rattle.readers.specs.Reader.{pure, alternative}
 use Rattle.image.specs.Image.{writtenTarget, heldTarget, target, readingPattern, addressPattern, heldPattern}
 use Rattle.image.specs.Image.{fresh, formalReading, formalAddress, kind, pattern}
 use Rattle.writer.specs.ImageOf.{bitsOf, addressBits, readingBits, variableBits, targetBits, patternBits}

@@ -8,4 +8,5 @@ pub failed-spec : {M : Type 1} → statement M
 failed-spec =
     tie.close
     (tie.spec
+    (λ c κs. search needs)
     (λ c. search (needs, took-fault)))

@@ -1,6 +1,6 @@
 -- `image::code::own_target` meets its contract. Assumes nothing.
 use borrow.Author.Needs.{needs}
-use Rattle.image.proofs.ReaderLaws.{stop}
+use Rattle.readers.proofs.ReaderLaws.{stop}
 use Rattle.image.proofs.code.own_target.Statement.{statement}
 use Rattle.image.proofs.code.own_target.Tie as tie
 

@@ -1,5 +1,5 @@
 -- `image::code::read_fork` meets its contract. Assumes nothing.
-use Rattle.image.proofs.ReaderLaws.{on, stop-at}
+use Rattle.readers.proofs.ReaderLaws.{on, stop-at}
 use Rattle.image.specs.Image.{forking}
 use borrow.Author.Needs.{needs}
 use Rattle.image.proofs.code.read_fork.Statement.{statement}

@@ -1,5 +1,5 @@
 -- `image::code::read_held` meets its contract. Assumes nothing.
-use Rattle.image.proofs.ReaderLaws.{on, stop}
+use Rattle.readers.proofs.ReaderLaws.{on, stop}
 use Rattle.image.specs.Image.{heldTarget}
 use borrow.Author.Needs.{needs}
 use Rattle.image.proofs.code.read_held.Statement.{statement}

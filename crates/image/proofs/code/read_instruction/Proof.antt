@@ -1,5 +1,5 @@
 -- `image::code::read_instruction` meets its contract. Assumes nothing.
-use Rattle.image.proofs.ReaderLaws.{on, chosen, chosen-last, past6}
+use Rattle.readers.proofs.ReaderLaws.{on, chosen, chosen-last, past6}
 use Rattle.image.specs.Image.{instruction}
 use borrow.Author.Needs.{needs}
 use Rattle.image.proofs.code.read_instruction.Statement.{statement}

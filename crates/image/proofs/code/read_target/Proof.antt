@@ -1,5 +1,5 @@
 -- `image::code::read_target` meets its contract. Assumes nothing.
-use Rattle.image.proofs.ReaderLaws.{on, chosen, chosen-last, past2}
+use Rattle.readers.proofs.ReaderLaws.{on, chosen, chosen-last, past2}
 use Rattle.image.specs.Image.{target}
 use borrow.Author.Needs.{needs}
 use Rattle.image.proofs.code.read_target.Statement.{statement}

@@ -1,5 +1,5 @@
 -- `image::code::read_written` meets its contract. Assumes nothing.
-use Rattle.image.proofs.ReaderLaws.{on, stop}
+use Rattle.readers.proofs.ReaderLaws.{on, stop}
 use Rattle.image.specs.Image.{writtenTarget}
 use borrow.Author.Needs.{needs}
 use Rattle.image.proofs.code.read_written.Statement.{statement}

@@ -1,5 +1,5 @@
 -- `image::code::stop` meets its contract. Assumes nothing.
-use Rattle.image.proofs.ReaderLaws.{stop-as}
+use Rattle.readers.proofs.ReaderLaws.{stop-as}
 use borrow.Author.Needs.{needs}
 use Rattle.image.proofs.code.stop.Statement.{statement}
 use Rattle.image.proofs.code.stop.Tie as tie

@@ -1,5 +1,5 @@
 -- `image::fields::read_address` meets its contract. Assumes nothing.
-use Rattle.image.proofs.ReaderLaws.{on, stop}
+use Rattle.readers.proofs.ReaderLaws.{on, stop}
 use Rattle.image.specs.Image.{address}
 use borrow.Author.Needs.{needs}
 use Rattle.image.proofs.fields.read_address.Statement.{statement}

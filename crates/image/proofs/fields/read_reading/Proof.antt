@@ -1,5 +1,5 @@
 -- `image::fields::read_reading` meets its contract. Assumes nothing.
-use Rattle.image.proofs.ReaderLaws.{on, stop-as}
+use Rattle.readers.proofs.ReaderLaws.{on, stop-as}
 use Rattle.image.specs.Image.{reading}
 use Rattle.image.specs.BitReader.{bits}
 use borrow.Author.Needs.{needs}

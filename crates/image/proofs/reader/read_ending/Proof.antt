@@ -1,6 +1,6 @@
 -- `image::reader::read_ending` meets its contract. Assumes nothing.
 use Rattle.image.proofs.LayoutLaws.{ending-at}
-use Rattle.image.proofs.ReaderLaws.{passed-failed}
+use Rattle.readers.proofs.ReaderLaws.{passed-failed}
 use borrow.Author.Needs.{needs}
 use Rattle.image.proofs.reader.read_ending.Statement.{statement}
 use Rattle.image.proofs.reader.read_ending.Tie as tie

@@ -1,5 +1,5 @@
 -- `image::stores::read_tuple` meets its contract. Assumes nothing.
-use Rattle.image.proofs.ReaderLaws.{on}
+use Rattle.readers.proofs.ReaderLaws.{on}
 use Rattle.image.specs.Image.{tuple}
 use Rattle.image.specs.BitReader.{bits}
 use borrow.Author.Needs.{needs}

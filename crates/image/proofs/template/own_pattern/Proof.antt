@@ -1,6 +1,6 @@
 -- `image::template::own_pattern` meets its contract. Assumes nothing.
 use borrow.Author.Needs.{needs}
-use Rattle.image.proofs.ReaderLaws.{stop}
+use Rattle.readers.proofs.ReaderLaws.{stop}
 use Rattle.image.proofs.template.own_pattern.Statement.{statement}
 use Rattle.image.proofs.template.own_pattern.Tie as tie
 

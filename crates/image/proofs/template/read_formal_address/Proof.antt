@@ -1,5 +1,5 @@
 -- `image::template::read_formal_address` meets its contract. Assumes nothing.
-use Rattle.image.proofs.ReaderLaws.{on, stop}
+use Rattle.readers.proofs.ReaderLaws.{on, stop}
 use Rattle.image.specs.Image.{formalAddress}
 use borrow.Author.Needs.{needs}
 use Rattle.image.proofs.template.read_formal_address.Statement.{statement}

@@ -1,5 +1,5 @@
 -- `image::template::read_pattern` meets its contract. Assumes nothing.
-use Rattle.image.proofs.ReaderLaws.{on, chosen, chosen-last, past5}
+use Rattle.readers.proofs.ReaderLaws.{on, chosen, chosen-last, past5}
 use Rattle.image.specs.Image.{pattern}
 use borrow.Author.Needs.{needs}
 use Rattle.image.proofs.template.read_pattern.Statement.{statement}

@@ -1,7 +1,8 @@
 -- `image::template::read_patterns` meets its contract. Assumes nothing.
-use Rattle.image.proofs.ReaderLaws.{begin-as, turn, every}
+use Rattle.readers.proofs.ReaderLaws.{begin-as, turn, every}
 use Rattle.image.proofs.ImageLaws.{pattern-turn}
-use Rattle.image.specs.Progress.{seen, Loop}
+use Rattle.image.specs.Progress.{seen}
+use Rattle.readers.specs.Progress.{Loop}
 use Prim.Native.Nat.{_-_}
 use Rattle.image.specs.Image.{templateField}
 use Rattle.net.specs.Records.{zeroInstruction}

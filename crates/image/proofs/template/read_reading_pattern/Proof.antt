@@ -1,5 +1,5 @@
 -- `image::template::read_reading_pattern` meets its contract. Assumes nothing.
-use Rattle.image.proofs.ReaderLaws.{on, stop-as}
+use Rattle.readers.proofs.ReaderLaws.{on, stop-as}
 use Rattle.image.specs.Image.{readingPattern}
 use borrow.Author.Needs.{needs}
 use Rattle.image.proofs.template.read_reading_pattern.Statement.{statement}

@@ -1,5 +1,5 @@
 -- `image::template::read_template` meets its contract. Assumes nothing.
-use Rattle.image.proofs.ReaderLaws.{on}
+use Rattle.readers.proofs.ReaderLaws.{on}
 use Rattle.image.specs.Image.{template}
 use Rattle.image.specs.BitReader.{bits}
 use borrow.Author.Needs.{needs}

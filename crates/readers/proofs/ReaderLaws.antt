@@ -1,4 +1,5 @@
--- Laws of readers run from a step (`specs/Progress.antt`): what the parts came to, the whole comes to.
+-- Laws of readers (`specs/Reader.antt`) run from a step (`specs/Progress.antt`): what the parts came to, the whole comes
+-- to.
 -- Assumes nothing.
 use Prim.Native.Nat.{ℕ, suc, _+_, _-_, _<_, _≤_}
 use mathlib.Core.Path.{_≡_, refl, sym, ap, _∙_}
@@ -9,13 +10,13 @@ use native.Mathlib.Nat.{sub-zero}
 use native.Mathlib.Numerals.{add-one}
 use native.Mathlib.Omega.{arith}
 use Rattle.net.specs.Choice.{choose}
-use Rattle.image.specs.BitReader.{Fault, Parsed, Reader, pure, andThen, _>>=_, _>>_, turns, each}
-use Rattle.image.specs.BitReader.{alternative, require, numbered}
-use Rattle.image.specs.Progress.{Step, outcome, runFrom, Went, Loop}
+use Rattle.readers.specs.Reader.{Fault, Parsed, got, fault, Reader, pure, andThen, _>>=_, _>>_, turns, each}
+use Rattle.readers.specs.Reader.{alternative, require, numbered}
+use Rattle.readers.specs.Progress.{Step, outcome, runFrom, Went, Loop}
 use Rattle.net.proofs.Laws.{choose-true, choose-false}
 
 module _ {A : Type 0} (s : List ℕ) where
-  -- a value with no bit read
+  -- a value with nothing read
   pub stop : (p : Step) (a : A) → Went s p (pure a) p a
   unfolding outcome runFrom pure
   stop (Step.At p) a = record { went = refl }
@@ -101,7 +102,11 @@ past5 k a b c d e = omega arith
 pub past6 : (k : ℕ) → (k ≡ 0 → ⊥) → (k ≡ 1 → ⊥) → (k ≡ 2 → ⊥) → (k ≡ 3 → ⊥) → (k ≡ 4 → ⊥) → (k ≡ 5 → ⊥) → 6 ≤ k
 past6 k a b c d e f = omega arith
 
--- ---- a test that a field has to pass
+-- ---- a test that has to be passed
+pub not-passed : (ok : Bool) (p n : ℕ) (f : Fault) → ok ≡ false → f ≡ numbered n
+    → Step.Failed f ≡ choose ok (Step.At p) (Step.Failed (numbered n))
+not-passed ok p n f e d = ap Step.Failed d ∙ sym (choose-false _ _ _ e)
+
 pub passed : (s : List ℕ) (p : ℕ) (q : Step) (ok : Bool) (n : ℕ) → q ≡ choose ok (Step.At p) (Step.Failed (numbered n)) → Went s (Step.At p) (require ok n) q tt
 unfolding outcome runFrom require choose
 passed s p q true n e = record { went = cc }
@@ -113,3 +118,16 @@ passed-at s p q k ok n e f = rw e (passed s k q ok n f)
 pub passed-failed : {A : Type 0} (s : List ℕ) (p : Step) (f : Fault) (m : Reader A) (a : A) → p ≡ Step.Failed f → Went s p m p a
 unfolding outcome runFrom
 passed-failed s p f m a e = record { went = rw e refl }
+
+-- ---- outcomes
+
+-- no fault is a value
+pub no-fault : {A C : Type 0} {n : Fault} {a : A} {q : ℕ} → fault n ≡ got a q → C
+no-fault e = let z : _≡_ {A = ℕ} 0 1 = cc in absurd (omega arith)
+
+-- a test that came out well
+pub choose-got : {A : Type 0} (t : Bool) {x : Parsed A} (n : Fault) {a : A} {q : ℕ} → choose t x (fault n) ≡ got a q
+    → (t ≡ true) × (x ≡ got a q)
+unfolding choose
+choose-got true n e = (refl, e)
+choose-got false n e = no-fault e

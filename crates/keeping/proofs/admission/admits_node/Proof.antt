@@ -1,13 +1,13 @@
--- `image::reader::admits_node` meets its contract. Assumes nothing.
+-- `keeping::admission::admits_node` meets its contract. Assumes nothing.
 use Rattle.net.proofs.AllLaws.{all-none, all-more, all-end}
 use Rattle.net.specs.Choice.{all}
 use Rattle.net.specs.Records.{processAt}
-use Rattle.image.specs.Image.{admitsProcess, admitsNode}
+use Rattle.keeping.specs.Admission.{admitsProcess, admitsNode}
 use mathlib.Core.Path.{_≡_}
 use Prim.Native.Nat.{_≤_, _-_}
 use borrow.Author.Needs.{needs}
-use Rattle.image.proofs.reader.admits_node.Statement.{statement}
-use Rattle.image.proofs.reader.admits_node.Tie as tie
+use Rattle.keeping.proofs.admission.admits_node.Statement.{statement}
+use Rattle.keeping.proofs.admission.admits_node.Tie as tie
 
 abbrev Inv-loop : tie.InvT-loop
 Inv-loop code a x row ok₀ i₀ ok i = (i ≤ 4) × (ok ≡ all i (λ j. admitsProcess code row a (processAt x j)))

@@ -1,9 +1,9 @@
--- `image::reader::admits_process` meets its contract. Assumes nothing.
+-- `keeping::admission::admits_process` meets its contract. Assumes nothing.
 use Rattle.net.proofs.AllLaws.{conditions}
-use Rattle.image.specs.Image.{admitsProcess}
+use Rattle.keeping.specs.Admission.{admitsProcess}
 use borrow.Author.Needs.{needs}
-use Rattle.image.proofs.reader.admits_process.Statement.{statement}
-use Rattle.image.proofs.reader.admits_process.Tie as tie
+use Rattle.keeping.proofs.admission.admits_process.Statement.{statement}
+use Rattle.keeping.proofs.admission.admits_process.Tie as tie
 
 pub admits-process-spec : {M : Type 1} → statement M
 unfolding admitsProcess

@@ -1,8 +1,8 @@
--- `image::template::require_that` meets its contract. Assumes nothing.
-use Rattle.image.proofs.ReaderLaws.{passed-at, passed-failed}
+-- `readers::step::require_that` meets its contract. Assumes nothing.
+use Rattle.readers.proofs.ReaderLaws.{passed-at, passed-failed}
 use borrow.Author.Needs.{needs}
-use Rattle.image.proofs.template.require_that.Statement.{statement}
-use Rattle.image.proofs.template.require_that.Tie as tie
+use Rattle.readers.proofs.step.require_that.Statement.{statement}
+use Rattle.readers.proofs.step.require_that.Tie as tie
 
 pub require-that-spec : {M : Type 1} → statement M
 require-that-spec =

@@ -1,10 +1,10 @@
--- `image::reader::admits_at` meets its contract. Assumes nothing.
+-- `keeping::admission::admits_at` meets its contract. Assumes nothing.
 use Rattle.net.proofs.AllLaws.{conditions}
 use Rattle.net.specs.Records.{nodeAt}
-use Rattle.image.specs.Image.{admitsAt}
+use Rattle.keeping.specs.Admission.{admitsAt}
 use borrow.Author.Needs.{needs}
-use Rattle.image.proofs.reader.admits_at.Statement.{statement}
-use Rattle.image.proofs.reader.admits_at.Tie as tie
+use Rattle.keeping.proofs.admission.admits_at.Statement.{statement}
+use Rattle.keeping.proofs.admission.admits_at.Tie as tie
 
 pub admits-at-spec : {M : Type 1} → statement M
 unfolding nodeAt admitsAt

@@ -1,13 +1,13 @@
--- `image::reader::admitted` meets its contract. Assumes nothing.
+-- `keeping::admission::admitted` meets its contract. Assumes nothing.
 use Rattle.net.proofs.AllLaws.{all-none, all-more, all-end}
 use Rattle.net.specs.Choice.{all}
 use Rattle.net.specs.Records.{addressOf}
-use Rattle.image.specs.Image.{admitsAt, admits}
+use Rattle.keeping.specs.Admission.{admitsAt, admits}
 use mathlib.Core.Path.{_≡_}
 use Prim.Native.Nat.{_≤_, _-_}
 use borrow.Author.Needs.{needs}
-use Rattle.image.proofs.reader.admitted.Statement.{statement}
-use Rattle.image.proofs.reader.admitted.Tie as tie
+use Rattle.keeping.proofs.admission.admitted.Statement.{statement}
+use Rattle.keeping.proofs.admission.admitted.Tie as tie
 
 abbrev Inv-loop : tie.InvT-loop
 Inv-loop net ok₀ i₀ ok i = (i ≤ 16) × (ok ≡ all i (λ j. admitsAt net (addressOf j)))
