@@ -1,24 +1,23 @@
 // The image reader (document 01, "The image", "Numbers for an image").
-use crate::bits::NetRead;
-use crate::bits::read_number;
-use crate::bits::take;
-use crate::bits::visible;
+use crate::built::NetRead;
 use crate::code::read_code;
 use crate::rows::read_rows;
 use crate::starts::read_all_processes;
 use crate::stores::read_all_tuples;
+use bitreader::bits::take;
+use bitreader::ending::read_ending;
 use keeping::admission::admitted;
 use net::network::Net;
 use readers::fault::Fault;
 use readers::step::Step;
-use readers::step::require_that;
 ghost use mathlib.Core.Path.{_≡_};
 ghost use Rattle.readers.specs.Reader.{numbered};
 ghost use Rattle.net.specs.Choice.{choose};
-ghost use Rattle.image.specs.Image.{header, padding, endsAt, ending, layout};
+ghost use Rattle.image.specs.Image.{header, layout};
 ghost use Rattle.keeping.specs.Admission.{admits};
 ghost use Rattle.image.specs.Image.{refused, accepted, openedOf};
-ghost use Rattle.image.specs.Progress.{seen, Headed};
+ghost use Rattle.image.specs.Progress.{Headed};
+ghost use Rattle.bitreader.specs.Progress.{seen};
 ghost use Rattle.image.specs.Types.{Step};
 ghost use Rattle.readers.specs.Progress.{Went};
 
@@ -49,36 +48,6 @@ fn read_header(s: &[u8]) -> NetRead
     net.addresses = addresses.value;
     net.length = length.value;
     NetRead { net, next }
-}
-
-// Whether the image ends with the byte of the bit before place p, in zero bits.
-fn ends_at(s: &[u8], p: usize) -> bool
-    ensures { λ r. ⌜ r ≡ endsAt (seen (now (s .entry))) p ⌝ }
-{
-    if 131072 < p {
-        return false;
-    }
-    let bytes = (p + 7) / 8;
-    if visible(s) == bytes {
-        let rest = (8 - p % 8) % 8;
-        let padding = read_number(s, p, rest);
-        padding.value == 0
-    } else {
-        false
-    }
-}
-
-// Zero bits to the end of the byte, and no further byte.
-fn read_ending(s: &[u8], from: Step) -> Step
-    ensures { λ r. ⌜ Went (seen (now (s .entry))) from ending r tt ⌝ }
-{
-    match from {
-        Step::At(p) => {
-            let ok = ends_at(s, p);
-            require_that(from, ok, 29)
-        }
-        Step::Failed(_) => from,
-    }
 }
 
 // The layout, part after part.

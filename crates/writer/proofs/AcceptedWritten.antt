@@ -13,16 +13,17 @@ use Rattle.sound.specs.Soundness.{soundOf}
 use Rattle.writer.specs.Types.{Net}
 use Rattle.readers.specs.Reader.{Parsed, got, fault, Reader, pure, andThen, require, numbered, _>>=_, _>>_}
 use Rattle.writer.specs.Types.{Fault}
-use Rattle.image.specs.Image.{header, rows, allProcesses, allTuples, code, endsAt, ending, layout}
+use Rattle.image.specs.Image.{header, rows, allProcesses, allTuples, code, layout}
+use Rattle.bitreader.specs.Ending.{endsAt, ending}
 use Rattle.writer.specs.Types.{Verdict, Opened}
 use Rattle.image.specs.Image.{refused, accepted, judgedNet, openedOf}
 use Rattle.keeping.specs.Admission.{admits}
-use Rattle.image.specs.ImageClaims.{AcceptedIsSound}
+use Rattle.accepted.specs.ImageClaims.{AcceptedIsSound}
 use Rattle.writer.specs.ImageOf.{netBits, imageOf}
 use Rattle.writer.specs.Fresh.{netFits, nodeStarts, freshOf}
 use Rattle.writer.specs.WrittenClaims.{Bytes, AcceptedIsWritten, WrittenIsBytes, OneImage, OneNet}
 use Rattle.net.proofs.Laws.{both-i, both-l, both-r, choose-true}
-use Rattle.image.proofs.AcceptedSound.{accepted-is-sound}
+use Rattle.accepted.proofs.AcceptedSound.{accepted-is-sound}
 use Rattle.readers.proofs.ReaderLaws.{no-fault}
 use Rattle.writer.proofs.BitsAt.{BitsAt}
 use Rattle.writer.proofs.WrittenNet.{body}

@@ -14,8 +14,8 @@ use Rattle.sound.specs.Soundness.{isUnset, soundOf}
 use Rattle.net.proofs.Laws.{both-l, both-r, choose-true, choose-false}
 use Rattle.image.specs.Image.{accepted}
 use Rattle.keeping.specs.Admission.{admits}
-use Rattle.image.specs.LengthClaims.{LongestAccepted}
-use Rattle.image.proofs.FirstBytes.{longestAccepted}
+use Rattle.accepted.specs.LengthClaims.{LongestAccepted}
+use Rattle.accepted.proofs.LengthClaims.{longestAccepted}
 use Rattle.writer.specs.Types.{Node, Net}
 use Rattle.writer.specs.Buffer.{over}
 use Rattle.writer.specs.Calls.{Packed, placedOf, placedIn, packedOf, imageIn}

@@ -11,7 +11,7 @@ use lib.Dec.{leb, ltb}
 use borrow.Author.Tests.{leb-true, ltb-true, le-leb, lt-ltb}
 use Rattle.net.specs.Choice.{choose, both}
 use Rattle.readers.specs.Reader.{Parsed, got, fault, Reader, pure, andThen, _>>=_, _>>_, turns, each}
-use Rattle.image.specs.BitReader.{numberAt, judged, field, bits}
+use Rattle.bitreader.specs.BitReader.{numberAt, judged, field, bits}
 use Rattle.readers.specs.Reader.{require}
 use Rattle.writer.specs.ImageOf.{bitsOf, joined}
 use Rattle.net.proofs.Laws.{both-i, both-l, both-r, choose-true}

@@ -9,7 +9,7 @@ use Rattle.writer.specs.Types.{Place, Target, Action, Instruction}
 use Rattle.net.specs.Records.{placeOf, zeroInstruction, withAction, patternAt}
 use Rattle.sound.specs.Soundness.{targetSound}
 use Rattle.readers.specs.Reader.{pure, alternative}
-use Rattle.image.specs.Image.{communication, evaluation, creation, forking, instruction}
+use Rattle.instructions.specs.Instruction.{communication, evaluation, creation, forking, instruction}
 use Rattle.writer.specs.ImageOf.{bitsOf, placeBits, variableBits, targetBits, templateBits, actionBits, instructionBits}
 use Rattle.writer.proofs.ReadsWrites.{Reads, Ranged, reads-map, reads-pure, reads-field}
 use Rattle.writer.proofs.ReadsParts.{reads-in}

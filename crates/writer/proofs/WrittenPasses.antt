@@ -12,7 +12,8 @@ use Rattle.net.specs.Records.{freeProcess, zeroTuple, zeroRow, zeroNode, zeroIn
 use Rattle.net.specs.Records.{withRow, withNode, withInstruction}
 use Rattle.readers.specs.Reader.{Reader}
 use Rattle.image.specs.Image.{eachAddress, eachPlace, row, rowOf, rows, processes, processesOf, allProcesses, tuples, tuplesOf, allTuples}
-use Rattle.image.specs.Image.{instruction, instructionOf, code}
+use Rattle.image.specs.Image.{instructionOf, code}
+use Rattle.instructions.specs.Instruction.{instruction}
 use Rattle.writer.specs.ImageOf.{joined, rowBits, processesBits, tuplesBits, instructionBits}
 use Rattle.writer.proofs.ReadsWrites.{Reads}
 use Rattle.writer.proofs.ReadsCells.{Arrayed, Through, Turned, Filling, reads-turn, reads-cells}

@@ -12,8 +12,9 @@ use Rattle.net.specs.Choice.{implies}
 use Rattle.writer.specs.Types.{Locality, Target, Pattern, Instruction}
 use Rattle.sound.specs.Soundness.{targetSound, patternSound, isActual, unboundBefore, bindsAnew}
 use Rattle.readers.specs.Reader.{pure, alternative}
-use Rattle.image.specs.Image.{writtenTarget, heldTarget, target, readingPattern, addressPattern, heldPattern}
-use Rattle.image.specs.Image.{fresh, formalReading, formalAddress, kind, pattern}
+use Rattle.instructions.specs.Instruction.{writtenTarget, heldTarget, target, readingPattern, addressPattern}
+use Rattle.instructions.specs.Instruction.{heldPattern}
+use Rattle.instructions.specs.Instruction.{fresh, formalReading, formalAddress, kind, pattern}
 use Rattle.writer.specs.ImageOf.{bitsOf, addressBits, readingBits, variableBits, targetBits, patternBits}
 use Rattle.writer.specs.Fresh.{readingFits, patternFits}
 use Rattle.net.proofs.Laws.{implies-i}

@@ -2,7 +2,7 @@
 use Rattle.image.proofs.ImageLaws.{rights-turn}
 use Rattle.readers.proofs.ReaderLaws.{begin, turn, every}
 use Rattle.image.specs.Image.{eachAddress, rights}
-use Rattle.image.specs.Progress.{seen}
+use Rattle.bitreader.specs.Progress.{seen}
 use Rattle.readers.specs.Progress.{Loop}
 use Prim.Native.Nat.{_-_}
 use Rattle.net.specs.Records.{addressOf}

@@ -2,7 +2,7 @@
 use Rattle.readers.proofs.ReaderLaws.{begin, turn, every}
 use Rattle.image.proofs.ImageLaws.{row-turn}
 use Rattle.image.specs.Image.{eachAddress, rowOf, rows}
-use Rattle.image.specs.Progress.{seen}
+use Rattle.bitreader.specs.Progress.{seen}
 use Rattle.readers.specs.Progress.{Loop}
 use Prim.Native.Nat.{_-_}
 use mathlib.Core.Path.{_≡_}

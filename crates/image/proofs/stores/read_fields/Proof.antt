@@ -1,7 +1,7 @@
 -- `image::stores::read_fields` meets its contract. Assumes nothing.
 use Rattle.readers.proofs.ReaderLaws.{begin-as, turn, every}
 use Rattle.image.proofs.ImageLaws.{field-turn}
-use Rattle.image.specs.Progress.{seen}
+use Rattle.bitreader.specs.Progress.{seen}
 use Rattle.readers.specs.Progress.{Loop}
 use Prim.Native.Nat.{_-_}
 use Rattle.image.specs.Image.{tupleField}
