@@ -6,7 +6,7 @@ use lib.ListN.{length}
 use Rattle.accepted.specs.Types.{Net, Verdict}
 use Rattle.readers.specs.Reader.{Parsed, got, fault}
 use Rattle.image.specs.Image.{layout, judgedNet, refused, openedOf}
-use Rattle.accepted.specs.LengthClaims.{FirstBytesDecide, LongestAccepted}
+use Rattle.accepted.specs.LengthClaims.{longestImage, FirstBytesDecide, LongestAccepted}
 use Rattle.image.proofs.FirstBytes.{layout-closes}
 
 pub firstBytesDecide : FirstBytesDecide
@@ -17,6 +17,6 @@ pub longestAccepted : LongestAccepted
 unfolding LongestAccepted openedOf judgedNet refused
 longestAccepted s = go (layout s 0) refl
   where
-    go : (o : Parsed Net) → layout s 0 ≡ o → judgedNet o .answer ≡ Verdict.Accepted → length s ≤ 14749
+    go : (o : Parsed Net) → layout s 0 ≡ o → judgedNet o .answer ≡ Verdict.Accepted → length s ≤ longestImage
     go (got x q) d e = let h = layout-closes .fills s 0 x q d in omega arith
     go (fault f) d e = let z : _≡_ {A = ℕ} 0 1 = cc in omega arith

@@ -15,36 +15,36 @@ use borrow.Author.Tests.{lt-ltb, le-ltb, le-leb, lt-leb}
 use Rattle.bitreader.specs.BitReader.{bitAt, numberAt, judged, field}
 use Rattle.bitreader.specs.Types.{Fault}
 use Rattle.readers.specs.Reader.{Parsed, fault, Reader, numbered}
-use Rattle.bitreader.specs.Progress.{Taken, seen, Bit, Number, Took, TookFrom}
+use Rattle.bitreader.specs.Progress.{Taken, window, seen, Bit, Number, Took, TookFrom}
 use Rattle.bitreader.specs.Types.{Step}
 use Rattle.readers.specs.Progress.{outcome, runFrom}
 use Rattle.net.proofs.Laws.{choose-true, choose-false, both-i, both-false-l, both-false-r}
 
 -- ---- the bytes looked at
-pub seen-short : (s : List ℕ) → length s < 16384 → (length s ≡ length (seen s)) × (length s ≤ 16384)
+pub seen-short : (s : List ℕ) → length s < window → (length s ≡ length (seen s)) × (length s ≤ window)
 unfolding seen
 seen-short s h = (simp length-take (omega arith), omega arith)
 
-pub seen-long : (s : List ℕ) → 16384 ≤ length s → (16384 ≡ length (seen s)) × (16384 ≤ 16384)
+pub seen-long : (s : List ℕ) → window ≤ length s → (window ≡ length (seen s)) × (window ≤ window)
 unfolding seen
 seen-long s h = (simp length-take (omega arith), omega arith)
 
-byte-seen : (s : List ℕ) (p : ℕ) → p < 131072 → getD (seen s) (p / 8) 0 ≡ getD s (p / 8) 0
+byte-seen : (s : List ℕ) (p : ℕ) → p < 8 * window → getD (seen s) (p / 8) 0 ≡ getD s (p / 8) 0
 unfolding seen
-byte-seen s p h = getD-take 16384 s (p / 8) 0 (omega arith)
+byte-seen s p h = getD-take window s (p / 8) 0 (omega arith)
 
 -- ---- a bit
-pub bit-in : (s : List ℕ) (p : ℕ) → p < 131072 → Bit (seen s) p (getD s (p / 8) 0 / 2 ^ (7 - p % 8) % 2)
+pub bit-in : (s : List ℕ) (p : ℕ) → p < 8 * window → Bit (seen s) p (getD s (p / 8) 0 / 2 ^ (7 - p % 8) % 2)
 unfolding bitAt
 bit-in s p h = record { is = ap (λ (b : ℕ). b / 2 ^ (7 - p % 8) % 2) (sym (byte-seen s p h)); small = omega arith }
 
-past : (s : List ℕ) (p : ℕ) → p < 131072 → length s ≤ p / 8 → 0 ≡ bitAt (seen s) p
+past : (s : List ℕ) (p : ℕ) → p < 8 * window → length s ≤ p / 8 → 0 ≡ bitAt (seen s) p
 unfolding bitAt
 past s p h l =
     ap (λ (b : ℕ). b % 2) (sym (zero-div (2 ^ (7 - p % 8)))) ∙
     ap (λ (b : ℕ). b / 2 ^ (7 - p % 8) % 2) (sym (byte-seen s p h ∙ List·getD-eq-default s 0 l))
 
-pub bit-out : (s : List ℕ) (p : ℕ) → p < 131072 → length s ≤ p / 8 → Bit (seen s) p 0
+pub bit-out : (s : List ℕ) (p : ℕ) → p < 8 * window → length s ≤ p / 8 → Bit (seen s) p 0
 bit-out s p h l = record { is = past s p h l; small = omega arith }
 
 -- ---- a number, bit by bit

@@ -14,16 +14,16 @@ use Rattle.bitreader.specs.Types.{Step}
 use Rattle.readers.specs.Reader.{got, require}
 use Rattle.readers.specs.Progress.{runFrom, Went}
 use Rattle.bitreader.specs.Ending.{padding, endsAt, ending}
-use Rattle.bitreader.specs.Progress.{seen, Number}
+use Rattle.bitreader.specs.Progress.{window, seen, Number}
 use Rattle.net.proofs.Laws.{both-l, both-false-l}
 use Rattle.readers.proofs.ReaderLaws.{choose-got}
 use Rattle.bitreader.proofs.Budget.{Closes}
 
-seen-most : (s : List ℕ) → length (seen s) ≤ 16384
+seen-most : (s : List ℕ) → length (seen s) ≤ window
 unfolding seen
 seen-most s = simp length-take (omega arith)
 
-pub ends-far : (s : List ℕ) (p : ℕ) → 131072 < p → false ≡ endsAt (seen s) p
+pub ends-far : (s : List ℕ) (p : ℕ) → 8 * window < p → false ≡ endsAt (seen s) p
 unfolding endsAt
 ends-far s p h = both-false-l _ _ (ne-eqb (length (seen s)) ((p + 7) / 8) (omega (arith, seen-most s)))
 

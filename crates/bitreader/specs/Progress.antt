@@ -1,6 +1,6 @@
 -- Describes the code, and is no part of what a reader has to believe: how the readers of `src/` keep to the definitions.
--- They look at the first 16,384 bytes of an image alone (`LengthClaims.antt` of the crate `accepted` says that this
--- changes nothing).
+-- They look at the first bytes of an image alone (`LengthClaims.antt` of the crate `accepted` says that this changes
+-- nothing).
 pub use Rattle.bitreader.specs.declared.bits.Taken.{Taken}
 use Prim.Native.Nat.{ℕ, _-_, _<_, _≤_, _^_}
 use mathlib.Core.Path.{_≡_}
@@ -11,9 +11,13 @@ use Rattle.bitreader.specs.BitReader.{numberAt, bitAt}
 use Rattle.readers.specs.Reader.{Parsed, Reader}
 use Rattle.readers.specs.Progress.{outcome, Went}
 
+-- how many bytes of an image the code looks at, at most
+abbrev pub window : ℕ
+window = 32768
+
 -- the bytes that the code looks at
 unfoldable pub seen : List ℕ → List ℕ
-seen image = take 16384 image
+seen image = take window image
 
 -- a bit, with its range
 pub record Bit (s : List ℕ) (p r : ℕ) : Type 0 where

@@ -6,7 +6,7 @@ ghost use mathlib.Core.Path.{_≡_};
 ghost use lib.ListN.{length};
 ghost use Rattle.bitreader.specs.BitReader.{judged, field};
 ghost use Rattle.readers.specs.Reader.{numbered, fault};
-ghost use Rattle.bitreader.specs.Progress.{seen, Bit, Number, Took, TookFrom};
+ghost use Rattle.bitreader.specs.Progress.{window, seen, Bit, Number, Took, TookFrom};
 
 // A field's number, 0 after a fault, and the step after it.
 pub struct Taken {
@@ -14,16 +14,22 @@ pub struct Taken {
     pub next: Step,
 }
 
+// How many bytes of an image are looked at, at most.
+const WINDOW: usize = 32768;
+
+// The same in bits.
+pub(crate) const WINDOW_BITS: usize = 8 * WINDOW;
+
 // How many bytes of the image are looked at.
 pub(crate) fn visible(s: &[u8]) -> usize
-    ensures { λ r. ⌜ (r ≡ length (seen (now (s .entry)))) × (r ≤ 16384) ⌝ }
+    ensures { λ r. ⌜ (r ≡ length (seen (now (s .entry)))) × (r ≤ window) ⌝ }
 {
-    if s.len() < 16384 { s.len() } else { 16384 }
+    if s.len() < WINDOW { s.len() } else { WINDOW }
 }
 
 // The bit at place p: 0 past the end.
 fn bit(s: &[u8], p: usize) -> usize
-    requires { ⌜ p < 131072 ⌝ }
+    requires { ⌜ p < 8 * window ⌝ }
     ensures { λ r. ⌜ Bit (seen (now (s .entry))) p r ⌝ }
 {
     let i = p / 8;
@@ -39,7 +45,7 @@ fn bit(s: &[u8], p: usize) -> usize
 
 // The number that the w bits from place p write.
 fn number(s: &[u8], p: usize, w: usize) -> usize
-    requires { ⌜ (w ≤ 32) × (p + w ≤ 131072) ⌝ }
+    requires { ⌜ (w ≤ 32) × (p + w ≤ 8 * window) ⌝ }
     ensures { λ r. ⌜ Number (seen (now (s .entry))) p w r ⌝ }
 {
     let mut v = 0;
@@ -85,7 +91,7 @@ impl<'a> BitReader<'a> {
 
     // The number that the next w bits write.
     fn field(self, w: usize) -> usize
-        requires { ⌜ (w ≤ 32) × (self .at + w ≤ 131072) ⌝ }
+        requires { ⌜ (w ≤ 32) × (self .at + w ≤ 8 * window) ⌝ }
         ensures { λ r. ⌜ Number (seen (now (self .entry .image))) (self .entry .at) w r ⌝ }
     {
         number(self.image, self.at, w)
@@ -105,7 +111,7 @@ impl<'a> BitReader<'a> {
 
 // The number that the w bits from place p write, and the place after them.
 pub(crate) fn read_number(image: &[u8], p: usize, w: usize) -> NumberRead
-    requires { ⌜ (w ≤ 32) × (p + w ≤ 131072) ⌝ }
+    requires { ⌜ (w ≤ 32) × (p + w ≤ 8 * window) ⌝ }
     ensures { λ r. ⌜ Number (seen (now (image .entry))) p w (r .value) × (r .next ≡ p + w) ⌝ }
 {
     let reader = BitReader::new(image).advanced(p);

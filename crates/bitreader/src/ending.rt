@@ -1,4 +1,5 @@
 // The end of an image (document 01, "The image", part 6).
+use crate::bits::WINDOW_BITS;
 use crate::bits::read_number;
 use crate::bits::visible;
 use readers::step::Step;
@@ -12,7 +13,7 @@ ghost use Rattle.readers.specs.Progress.{Went};
 fn ends_at(s: &[u8], p: usize) -> bool
     ensures { λ r. ⌜ r ≡ endsAt (seen (now (s .entry))) p ⌝ }
 {
-    if 131072 < p {
+    if WINDOW_BITS < p {
         return false;
     }
     let bytes = (p + 7) / 8;

@@ -12,7 +12,7 @@ use Rattle.readers.specs.Reader.{numbered}
 use Rattle.readers.specs.Progress.{outcome, runFrom, Went}
 use Rattle.bitreader.specs.BitReader.{field}
 use Rattle.bitreader.specs.Ending.{ending}
-use Rattle.bitreader.specs.Progress.{seen}
+use Rattle.bitreader.specs.Progress.{window, seen}
 use Rattle.image.specs.Image.{Opened, header, rows, allProcesses, allTuples, code, layout}
 use Rattle.image.specs.Image.{accepted, refused, judgedNet, openedOf}
 use Rattle.image.specs.Progress.{NetRead, Headed, Built}
@@ -54,7 +54,7 @@ refused-as r f n e d = e ∙ ap refused d
 
 all-seen : (s : List ℕ) → openedOf (seen s) ≡ openedOf s
 unfolding seen openedOf
-all-seen s = ap judgedNet (layout-closes .same s 0 16384 (omega arith))
+all-seen s = ap judgedNet (layout-closes .same s 0 window (omega arith))
 
 opened : (s : List ℕ) (q : Step) (net : Net) → Went (seen s) (Step.At 0) layout q net → judgedNet (outcome q net) ≡ openedOf s
 unfolding openedOf runFrom

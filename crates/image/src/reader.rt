@@ -21,6 +21,10 @@ ghost use Rattle.bitreader.specs.Progress.{seen};
 ghost use Rattle.image.specs.Types.{Step};
 ghost use Rattle.readers.specs.Progress.{Went};
 
+// How many bytes the longest accepted image has: one more of an image decides what it gives (proved: `FirstBytesDecide` of
+// the crate `accepted`).
+pub const LONGEST_IMAGE: usize = 14749;
+
 // What reading an image answers.
 pub enum Verdict {
     Accepted,

@@ -16,6 +16,7 @@ use Rattle.sound.specs.Soundness.{itemSound, tupleSound, tuplesSound, rowSound,
 use Rattle.sound.specs.Soundness.{nodeSound, targetSound, patternSound, templateSound, isActual, actualsOnly, actionSound}
 use Rattle.sound.specs.Soundness.{templateFor, instructionSound, nodesSound, codeSound, soundOf}
 use Rattle.keeping.specs.Keeping.{mayPut, atTarget, permits, permitsMarked, keepsOf}
+use Rattle.accepted.specs.LengthClaims.{longestImage}
 use Rattle.image.specs.Image.{accepted, openedOf}
 use Rattle.keeping.specs.Admission.{admitsProcess, admitsNode, admitsAt, admits}
 use Rattle.writer.specs.Types.{Verdict, Opened}
@@ -225,7 +226,7 @@ full-accepted : openedOf (imageOf fullNet) .answer ≡ Verdict.Accepted
 unfolding accepted
 full-accepted = ap (λ (r : Opened). r .answer) (fresh-accepted fullNet net-fresh)
 
-full-length : length (imageOf fullNet) ≡ 14749
+full-length : length (imageOf fullNet) ≡ longestImage
 unfolding imageOf
 full-length = bytes-length (netBits fullNet) ∙ omega (arith, net-length)
 

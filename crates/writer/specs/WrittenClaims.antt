@@ -7,6 +7,7 @@ use mathlib.Core.List.{List}
 use lib.ListN.{length, getD}
 use Rattle.writer.specs.Types.{Net}
 use Rattle.image.specs.Image.{openedOf, accepted}
+use Rattle.accepted.specs.LengthClaims.{longestImage}
 use Rattle.writer.specs.Types.{Verdict}
 use Rattle.writer.specs.ImageOf.{imageOf}
 use Rattle.writer.specs.Fresh.{freshOf}
@@ -37,4 +38,4 @@ OneNet = (x y : Net) → freshOf x ≡ true → freshOf y ≡ true → imageOf x
 
 -- "The longest accepted image has 14,749 bytes": one of that length is accepted (`LengthClaims.antt`: none is longer)
 unfoldable pub LongestIsReached : Type 0
-LongestIsReached = (s : List ℕ) × Bytes s × (openedOf s .answer ≡ Verdict.Accepted) × (length s ≡ 14749)
+LongestIsReached = (s : List ℕ) × Bytes s × (openedOf s .answer ≡ Verdict.Accepted) × (length s ≡ longestImage)
