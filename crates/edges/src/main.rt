@@ -6,6 +6,7 @@ use files::print;
 use files::print_first;
 use files::read_file;
 use files::say;
+use image::reader::LONGEST_IMAGE;
 use image::reader::read_image;
 use net::network::Net;
 use run::register::Registered;
@@ -133,7 +134,7 @@ fn print_barred(image: &[u8]) -> bool {
 
 fn main() {
     let mut edges = [0u8; 65536];
-    let mut image = [0u8; 14750];
+    let mut image = [0u8; LONGEST_IMAGE + 1];
     let list = read_file(b"edges.bin", &mut edges);
     let barred = read_file(b"creation.bin", &mut image);
     if list.failed || barred.failed {

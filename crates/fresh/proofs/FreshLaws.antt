@@ -6,7 +6,7 @@ use lib.Dec.{ltb}
 use Rattle.net.specs.Choice.{choose, both, all}
 use Rattle.net.specs.Records.{variableAt, processAt, nodeAt, addressOf, processCount}
 use Rattle.sound.specs.Soundness.{isUnset, soundOf}
-use Rattle.image.specs.Image.{admits}
+use Rattle.keeping.specs.Admission.{admits}
 use Rattle.fresh.specs.Types.{Node, Net}
 use Rattle.fresh.specs.Fresh.{netFits, slotStarts, nodeStarts, freshOf}
 

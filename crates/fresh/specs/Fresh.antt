@@ -9,7 +9,7 @@ use Rattle.net.specs.Choice.{choose, both, all}
 use Rattle.net.specs.Records.{fieldAt, variableAt, processAt, tupleAt, patternAt, nodeAt, instructionAt, addressOf, placeOf, processCount}
 use Rattle.sound.specs.Soundness.{isUnset, soundOf}
 use Rattle.fresh.specs.Types.{Item, Tuple, Process, Node, Pattern, Instruction, Net}
-use Rattle.image.specs.Image.{admits}
+use Rattle.keeping.specs.Admission.{admits}
 
 -- ---- what the types of a running program fix and the definitions' lists and whole numbers do not: readings of 32
 -- bits, and the length of each array ("The net")

@@ -1,6 +1,6 @@
 // Whether some accepted image gives a net: it is sound, its processes stand as an image starts them, and
 // each keeps within its row (document 01, "The image", "Numbers for an image").
-use image::reader::admitted;
+use keeping::admission::admitted;
 use net::network::Net;
 use net::node::Node;
 use net::process::Process;

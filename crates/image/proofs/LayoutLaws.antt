@@ -1,24 +1,23 @@
--- The whole of an image (`specs/Image.antt`): its header, its ending, its parts in order, and what it gives.
+-- The whole of an image (`specs/Image.antt`): its header, its parts in order, and what it gives.
 -- Assumes nothing.
-use Prim.Native.Nat.{ℕ, _+_, _-_, _/_, _%_, _<_, _≤_}
+use Prim.Native.Nat.{ℕ, _-_, _≤_}
 use mathlib.Core.Path.{_≡_, sym, ap, _∙_}
-use mathlib.Core.Bool.{Bool, false}
 use mathlib.Core.List.{List}
 use native.Mathlib.Omega.{arith}
-use lib.ListN.{length, length-take}
-use lib.Dec.{eqb}
-use borrow.Author.Tests.{eq-eqb, ne-eqb}
-use Rattle.net.specs.Choice.{choose, both}
+use Rattle.net.specs.Choice.{choose}
 use Rattle.net.specs.Records.{emptyNet, withCounts}
-use Rattle.image.specs.Types.{Net}
-use Rattle.image.specs.BitReader.{Fault, field, numbered, require}
-use Rattle.image.specs.Image.{Opened, header, rows, allProcesses, allTuples, code, padding, endsAt, ending, layout, admits}
+use Rattle.keeping.specs.Admission.{admits}
+use Rattle.image.specs.Types.{Fault, Step, Net}
+use Rattle.readers.specs.Reader.{numbered}
+use Rattle.readers.specs.Progress.{outcome, runFrom, Went}
+use Rattle.bitreader.specs.BitReader.{field}
+use Rattle.bitreader.specs.Ending.{ending}
+use Rattle.bitreader.specs.Progress.{window, seen}
+use Rattle.image.specs.Image.{Opened, header, rows, allProcesses, allTuples, code, layout}
 use Rattle.image.specs.Image.{accepted, refused, judgedNet, openedOf}
-use Rattle.image.specs.Progress.{Step, NetRead, seen, outcome, runFrom, Went, Headed, Built, Number}
-use Rattle.image.proofs.FirstBytes.{firstBytesDecide}
-use Rattle.image.specs.LengthClaims.{FirstBytesDecide}
-use Rattle.net.proofs.Laws.{both-false-l}
-use Rattle.image.proofs.ReaderLaws.{on, next, stop, stop-as}
+use Rattle.image.specs.Progress.{NetRead, Headed, Built}
+use Rattle.readers.proofs.ReaderLaws.{on, next, stop, stop-as}
+use Rattle.image.proofs.FirstBytes.{layout-closes}
 
 -- ---- the header
 pub headed : (s : List ℕ) (q₁ q₂ q₃ : Step) (v n k : ℕ) (e : Net)
@@ -33,29 +32,6 @@ headed s q₁ q₂ q₃ v n k e a b c h l d = record {
   addresses = omega arith;
   length = omega arith;
 }
-
--- ---- the ending
-seen-most : (s : List ℕ) → length (seen s) ≤ 16384
-unfolding seen
-seen-most s = simp length-take (omega arith)
-
-pub ends-far : (s : List ℕ) (p : ℕ) → 131072 < p → false ≡ endsAt (seen s) p
-unfolding endsAt
-ends-far s p h = both-false-l _ _ (ne-eqb (length (seen s)) ((p + 7) / 8) (omega (arith, seen-most s)))
-
-module _ (s : List ℕ) (p m : ℕ) (e : m ≡ length s) where
-  pub ends-not : (m ≡ (p + 7) / 8 → ⊥) → false ≡ endsAt s p
-  unfolding endsAt
-  ends-not h = both-false-l _ _ (ne-eqb _ _ (λ d. h (e ∙ d)))
-
-  pub ends-here : (v : ℕ) → m ≡ (p + 7) / 8 → Number s p ((8 - p % 8) % 8) v → eqb v 0 ≡ endsAt s p
-  unfolding endsAt padding both
-  ends-here v h n = rw (eq-eqb (length s) ((p + 7) / 8) (sym e ∙ h)) (ap (λ (x : ℕ). eqb x 0) (n .is))
-
-pub ending-at : (s : List ℕ) (from q : Step) (p : ℕ) (ok : Bool) → from ≡ Step.At p → ok ≡ endsAt s p
-    → ((t : List ℕ) → Went t (Step.At p) (require ok 29) q tt) → Went s from ending q tt
-unfolding runFrom ending
-ending-at s from q p ok e f w = rw e (record { went = (rw f at (w s)) .went })
 
 -- ---- the parts in order
 pub laid : (s : List ℕ) (r₁ r₂ r₃ r₄ r₅ : NetRead) (q : Step)
@@ -73,9 +49,12 @@ laid s r₁ r₂ r₃ r₄ r₅ q a b c d e f =
     (on s _ (r₅ .next) q _ _ (r₅ .net) _ (e .read) (next s _ q q _ _ tt _ f (stop s q (r₅ .net)))))))
 
 -- ---- what an image gives
+pub refused-as : (r : Opened) (f : Fault) (n : ℕ) → r ≡ refused f → f ≡ numbered n → r ≡ refused (numbered n)
+refused-as r f n e d = e ∙ ap refused d
+
 all-seen : (s : List ℕ) → openedOf (seen s) ≡ openedOf s
-unfolding seen FirstBytesDecide
-all-seen s = firstBytesDecide s 16384 (omega arith)
+unfolding seen openedOf
+all-seen s = ap judgedNet (layout-closes .same s 0 window (omega arith))
 
 opened : (s : List ℕ) (q : Step) (net : Net) → Went (seen s) (Step.At 0) layout q net → judgedNet (outcome q net) ≡ openedOf s
 unfolding openedOf runFrom

@@ -1,15 +1,4 @@
-pub mod AcceptedCode
-pub mod AcceptedNode
-pub mod AcceptedSound
-pub mod AdmissionClaims
-pub mod BitLaws
-pub mod Budget
 pub mod FirstBytes
-pub mod Gives
 pub mod ImageLaws
 pub mod LayoutLaws
 pub mod PastRecords
-pub mod ReaderLaws
-pub mod ReaderRecord
-pub mod SignedLaws
-pub mod WalkLaws

@@ -1,4 +1,4 @@
--- The types of the crate `net` that the definitions of this crate speak of.
+-- The types of the crates below that the definitions of this crate speak of.
 pub use Rattle.net.specs.declared.locality.Locality.{Locality}
 pub use Rattle.net.specs.declared.locality.Place.{Place}
 pub use Rattle.net.specs.declared.tuple.Item.{Item}
@@ -15,3 +15,5 @@ pub use Rattle.net.specs.declared.instruction.TemplateField.{TemplateField}
 pub use Rattle.net.specs.declared.instruction.Action.{Action}
 pub use Rattle.net.specs.declared.instruction.Instruction.{Instruction}
 pub use Rattle.net.specs.declared.network.Net.{Net}
+pub use Rattle.readers.specs.declared.fault.Fault.{Fault}
+pub use Rattle.readers.specs.declared.step.Step.{Step}

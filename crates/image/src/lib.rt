@@ -1,9 +1,7 @@
 // The image reader: from the bytes of an image to the net that they write down, or to a refusal's number.
-mod bits;
+mod built;
 mod code;
-mod fields;
 pub mod reader;
 mod rows;
 mod starts;
 mod stores;
-mod template;

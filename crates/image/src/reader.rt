@@ -1,33 +1,29 @@
 // The image reader (document 01, "The image", "Numbers for an image").
-use crate::bits::NetRead;
-use crate::bits::Step;
-use crate::bits::read_number;
-use crate::bits::take;
-use crate::bits::visible;
+use crate::built::NetRead;
 use crate::code::read_code;
 use crate::rows::read_rows;
 use crate::starts::read_all_processes;
 use crate::stores::read_all_tuples;
-use crate::template::require_that;
-use keeping::rights::keeps;
-use net::instruction::Instruction;
-use net::locality::Locality;
+use bitreader::bits::take;
+use bitreader::ending::read_ending;
+use keeping::admission::admitted;
 use net::network::Net;
-use net::node::Node;
-use net::policy::Row;
-use net::process::Process;
-ghost use Prim.Native.Nat.{_<_};
+use readers::fault::Fault;
+use readers::step::Step;
 ghost use mathlib.Core.Path.{_≡_};
-ghost use Rattle.image.specs.BitReader.{numbered};
+ghost use Rattle.readers.specs.Reader.{numbered};
 ghost use Rattle.net.specs.Choice.{choose};
-ghost use Rattle.image.specs.Image.{header, padding, endsAt, ending, layout, admitsProcess, admitsNode, admitsAt, admits};
+ghost use Rattle.image.specs.Image.{header, layout};
+ghost use Rattle.keeping.specs.Admission.{admits};
 ghost use Rattle.image.specs.Image.{refused, accepted, openedOf};
-ghost use Rattle.image.specs.Progress.{seen, Step, Went, Headed};
+ghost use Rattle.image.specs.Progress.{Headed};
+ghost use Rattle.bitreader.specs.Progress.{seen};
+ghost use Rattle.image.specs.Types.{Step};
+ghost use Rattle.readers.specs.Progress.{Went};
 
-// What a refusal carries: the number of the first fault.
-pub struct Fault {
-    pub number: u8,
-}
+// How many bytes the longest accepted image has: one more of an image decides what it gives (proved: `FirstBytesDecide` of
+// the crate `accepted`).
+pub const LONGEST_IMAGE: usize = 14749;
 
 // What reading an image answers.
 pub enum Verdict {
@@ -58,36 +54,6 @@ fn read_header(s: &[u8]) -> NetRead
     NetRead { net, next }
 }
 
-// Whether the image ends with the byte of the bit before place p, in zero bits.
-fn ends_at(s: &[u8], p: usize) -> bool
-    ensures { λ r. ⌜ r ≡ endsAt (seen (now (s .entry))) p ⌝ }
-{
-    if 131072 < p {
-        return false;
-    }
-    let bytes = (p + 7) / 8;
-    if visible(s) == bytes {
-        let rest = (8 - p % 8) % 8;
-        let padding = read_number(s, p, rest);
-        padding.value == 0
-    } else {
-        false
-    }
-}
-
-// Zero bits to the end of the byte, and no further byte.
-fn read_ending(s: &[u8], from: Step) -> Step
-    ensures { λ r. ⌜ Went (seen (now (s .entry))) from ending r tt ⌝ }
-{
-    match from {
-        Step::At(p) => {
-            let ok = ends_at(s, p);
-            require_that(from, ok, 29)
-        }
-        Step::Failed(_) => from,
-    }
-}
-
 // The layout, part after part.
 fn read_layout(s: &[u8]) -> NetRead
     ensures { λ r. ⌜ Went (seen (now (s .entry))) (Step.At 0) layout (r .next) (r .net) ⌝ }
@@ -111,63 +77,6 @@ fn read_layout(s: &[u8]) -> NetRead
     NetRead { net, next }
 }
 
-// Whether a process of address a keeps within its row.
-fn admits_process(code: [Instruction; 512], row: Row, a: Locality, p: Process) -> bool
-    ensures { λ r. ⌜ r ≡ admitsProcess code row a p ⌝ }
-{
-    let at = p.at;
-    if p.busy {
-        keeps(code, at, a, row)
-    } else {
-        true
-    }
-}
-
-// Whether each process of a node keeps within its row.
-fn admits_node(code: [Instruction; 512], a: Locality, x: Node) -> bool
-    ensures { λ r. ⌜ r ≡ admitsNode code a x ⌝ }
-{
-    let row = x.row;
-    let mut ok = true;
-    let mut i = 0;
-    while i < 4 {
-        let p = x.processes[i];
-        let good = admits_process(code, row, a, p);
-        ok = ok & good;
-        i += 1;
-    }
-    ok
-}
-
-// The same at an address, where it is in use.
-fn admits_at(net: Net, a: Locality) -> bool
-    requires { ⌜ a .0 < 16 ⌝ }
-    ensures { λ r. ⌜ r ≡ admitsAt net a ⌝ }
-{
-    let at = a.0 as usize;
-    let code = net.code;
-    let node = net.nodes[at];
-    if at < net.addresses {
-        admits_node(code, a, node)
-    } else {
-        true
-    }
-}
-
-// Whether each starting process keeps within the row of its node.
-pub fn admitted(net: Net) -> bool
-    ensures { λ r. ⌜ r ≡ admits net ⌝ }
-{
-    let mut ok = true;
-    let mut i: usize = 0;
-    while i < 16 {
-        let good = admits_at(net, Locality(i as u8));
-        ok = ok & good;
-        i += 1;
-    }
-    ok
-}
-
 // A refusal, which leaves the empty net.
 fn refuse(fault: Fault) -> Opened
     ensures { λ r. ⌜ r ≡ refused fault ⌝ }
@@ -185,7 +94,7 @@ fn judge(net: Net) -> Opened
         let answer = Verdict::Accepted;
         Opened { answer, net }
     } else {
-        let fault = Fault { number: 30 };
+        let fault = Fault::numbered(30);
         refuse(fault)
     }
 }

@@ -1,14 +1,16 @@
 // Rows of an image (document 01, "The image", part 2).
-use crate::bits::NetRead;
-use crate::bits::Step;
-use crate::bits::take;
+use crate::built::NetRead;
+use bitreader::bits::take;
 use net::network::Net;
 use net::policy::Rights;
 use net::policy::Row;
+use readers::step::Step;
 ghost use Prim.Native.Nat.{_<_, _≤_};
 ghost use mathlib.Core.Path.{_≡_};
 ghost use Rattle.image.specs.Image.{isSetBit, rightsOf, creating, eachAddress, rights, row, rows};
-ghost use Rattle.image.specs.Progress.{seen, Went, Built};
+ghost use Rattle.image.specs.Progress.{Built};
+ghost use Rattle.bitreader.specs.Progress.{seen};
+ghost use Rattle.readers.specs.Progress.{Went};
 
 struct RowRead {
     row: Row,

@@ -1,16 +1,18 @@
 // Starting processes of an image (document 01, "The image", part 3).
-use crate::bits::NetRead;
-use crate::bits::NodeRead;
-use crate::bits::Step;
-use crate::bits::take;
-use crate::fields::read_place;
+use crate::built::NetRead;
+use crate::built::NodeRead;
+use bitreader::bits::take;
+use bitreader::fields::read_place;
 use net::network::Net;
 use net::node::Node;
 use net::process::Process;
+use readers::step::Step;
 ghost use Prim.Native.Nat.{_≤_};
-ghost use Rattle.image.specs.BitReader.{each};
+ghost use Rattle.readers.specs.Reader.{each};
 ghost use Rattle.image.specs.Image.{process, processes, allProcesses};
-ghost use Rattle.image.specs.Progress.{seen, Went, Built};
+ghost use Rattle.image.specs.Progress.{Built};
+ghost use Rattle.bitreader.specs.Progress.{seen};
+ghost use Rattle.readers.specs.Progress.{Went};
 
 // The starting places of a node, which fill slots 0 upward.
 fn read_slots(s: &[u8], from: Step, k: usize, count: usize, start: Node) -> NodeRead

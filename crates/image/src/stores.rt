@@ -1,19 +1,21 @@
 // Tuples of an image (document 01, "The image", part 4).
-use crate::bits::NetRead;
-use crate::bits::NodeRead;
-use crate::bits::Step;
-use crate::bits::take;
-use crate::fields::read_address;
-use crate::fields::read_reading;
+use crate::built::NetRead;
+use crate::built::NodeRead;
+use bitreader::bits::take;
+use bitreader::fields::read_address;
+use bitreader::fields::read_reading;
 use net::network::Net;
 use net::node::Node;
 use net::tuple::Field;
 use net::tuple::Item;
 use net::tuple::Tuple;
+use readers::step::Step;
 ghost use Prim.Native.Nat.{_≤_};
-ghost use Rattle.image.specs.BitReader.{each};
+ghost use Rattle.readers.specs.Reader.{each};
 ghost use Rattle.image.specs.Image.{readingItem, addressItem, item, tupleField, tuple, stored, tuples, allTuples};
-ghost use Rattle.image.specs.Progress.{seen, Went, Built};
+ghost use Rattle.image.specs.Progress.{Built};
+ghost use Rattle.bitreader.specs.Progress.{seen};
+ghost use Rattle.readers.specs.Progress.{Went};
 ghost use Rattle.net.specs.Records.{zeroTuple};
 
 struct ItemRead {

@@ -1,3 +1,4 @@
+pub mod AdmissionClaims
 pub mod KeepingLaws
 pub mod KeepingPromise
 pub mod Reached

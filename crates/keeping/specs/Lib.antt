@@ -1,3 +1,5 @@
+pub mod Admission
+pub mod AdmissionClaims
 pub mod Judged
 pub mod Keeping
 pub mod KeepingPromise

@@ -15,7 +15,7 @@ use Rattle.net.specs.declared.tuple.Item.{Item}
 use Rattle.net.specs.declared.tuple.Tuple.{Tuple}
 use Rattle.net.specs.declared.node.Node.{Node}
 use Rattle.net.specs.declared.network.Net.{Net}
-use Rattle.image.specs.declared.reader.Fault.{Fault}
+use Rattle.readers.specs.declared.fault.Fault.{Fault}
 use Rattle.step.specs.declared.answer.Answer.{Answer}
 use Rattle.step.specs.Answer.{numberOf}
 use Rattle.step.specs.Pick.{hostOf, slotOf}

@@ -1,9 +1,10 @@
 // The program of document 01, "The register": reads net.bin and picks.bin and prints the register.
-// A missing file counts as empty; where one cannot be read, nothing is printed. Of net.bin the first 14,750 bytes
-// decide everything (proved: `FirstBytesDecide`), and of picks.bin the first 65,536 picks count.
+// A missing file counts as empty; where one cannot be read, nothing is printed. Of net.bin one byte more
+// than the longest image has decides everything (proved: `FirstBytesDecide`), and of picks.bin the first 65,536 picks count.
 use files::print_first;
 use files::read_file;
 use files::say;
+use image::reader::LONGEST_IMAGE;
 use run::register::Registered;
 use run::register::register;
 ghost use mathlib.Core.Path.{_≡_};
@@ -28,7 +29,7 @@ fn print_register(image: &[u8], picks: &[u8], out: &mut [u8]) {
 }
 
 fn main() {
-    let mut image = [0u8; 14750];
+    let mut image = [0u8; LONGEST_IMAGE + 1];
     let mut picks = [0u8; 65536];
     let net = read_file(b"net.bin", &mut image);
     let list = read_file(b"picks.bin", &mut picks);

@@ -3,6 +3,7 @@
 use files::print_first;
 use files::read_file;
 use files::say;
+use image::reader::LONGEST_IMAGE;
 use image::reader::read_image;
 use writer::pack::Packed;
 use writer::pack::write_image;
@@ -11,7 +12,7 @@ use writer::pack::write_image;
 fn repack(image: &[u8]) {
     let opened = read_image(image);
     let net = opened.net;
-    let mut out = [0u8; 14749];
+    let mut out = [0u8; LONGEST_IMAGE];
     let packed = write_image(net, &mut out);
     match packed {
         Packed::Written(n) => {
@@ -23,7 +24,7 @@ fn repack(image: &[u8]) {
 }
 
 fn main() {
-    let mut image = [0u8; 14750];
+    let mut image = [0u8; LONGEST_IMAGE + 1];
     let net = read_file(b"net.bin", &mut image);
     if net.failed {
         return;

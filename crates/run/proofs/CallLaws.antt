@@ -14,8 +14,8 @@ use Rattle.net.specs.Records.{emptyNet}
 use Rattle.sound.specs.Soundness.{soundOf}
 use Rattle.net.proofs.Laws.{choose-true, choose-false}
 use Rattle.image.specs.Image.{openedOf}
-use Rattle.image.specs.ImageClaims.{AcceptedIsSound}
-use Rattle.image.proofs.AcceptedSound.{accepted-is-sound}
+use Rattle.accepted.specs.ImageClaims.{AcceptedIsSound}
+use Rattle.accepted.proofs.AcceptedSound.{accepted-is-sound}
 use Rattle.step.specs.Answer.{numberOf}
 use Rattle.step.specs.Shape.{Shaped}
 use Rattle.run.specs.Types.{Net, Fault, Opened, Verdict}

@@ -6,7 +6,7 @@ pub use Rattle.net.specs.declared.process.Process.{Process}
 pub use Rattle.net.specs.declared.node.Node.{Node}
 pub use Rattle.net.specs.declared.instruction.Instruction.{Instruction}
 pub use Rattle.net.specs.declared.network.Net.{Net}
-pub use Rattle.image.specs.declared.reader.Fault.{Fault}
+pub use Rattle.readers.specs.declared.fault.Fault.{Fault}
 pub use Rattle.image.specs.declared.reader.Opened.{Opened}
 pub use Rattle.image.specs.declared.reader.Verdict.{Verdict}
 pub use Rattle.step.specs.declared.answer.Answer.{Answer}

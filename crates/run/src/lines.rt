@@ -1,11 +1,11 @@
 // The lines of a register (document 01, "The register").
 use crate::words::put_field;
 use crate::words::put_number;
-use image::reader::Fault;
 use net::locality::Locality;
 use net::network::Net;
 use net::node::Node;
 use net::tuple::Tuple;
+use readers::fault::Fault;
 use step::turn::host_of;
 use step::turn::slot_of;
 use text::writing::put;

@@ -1,8 +1,8 @@
 // A run: each pick goes to the net that the last one left, whatever its answer.
-use image::reader::Fault;
 use image::reader::Verdict;
 use image::reader::read_image;
 use net::network::Net;
+use readers::fault::Fault;
 use step::answer::number_of;
 use step::plan::host_after;
 use step::turn::changes_net;

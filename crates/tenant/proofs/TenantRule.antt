@@ -12,9 +12,9 @@ use lib.ListN.{getD-replicate, List·getD-eq-default}
 use Rattle.net.specs.Records.{nodeAt, rightsAt, noRights, zeroNode, zeroRow, emptyNet}
 use Rattle.sound.specs.Soundness.{soundOf}
 use Rattle.image.specs.Image.{openedOf}
-use Rattle.image.specs.ImageClaims.{AcceptedIsSound}
+use Rattle.accepted.specs.ImageClaims.{AcceptedIsSound}
 use Rattle.net.proofs.Laws.{both-l}
-use Rattle.image.proofs.AcceptedSound.{accepted-is-sound}
+use Rattle.accepted.proofs.AcceptedSound.{accepted-is-sound}
 use Rattle.image.proofs.PastRecords.{pastRights, pastNode}
 use Rattle.written.proofs.WrittenWhole.{NetOk}
 use Rattle.written.proofs.AcceptedWritten.{opened-ok}

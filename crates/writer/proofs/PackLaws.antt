@@ -10,10 +10,12 @@ use lib.Seq.{sets-eq, getD-append-add, getD-drop}
 use Rattle.sound.specs.Soundness.{soundOf}
 use Rattle.net.proofs.Laws.{both-l, both-r, choose-true, choose-false}
 use Rattle.image.specs.Image.{accepted}
-use Rattle.image.specs.LengthClaims.{LongestAccepted}
-use Rattle.image.proofs.FirstBytes.{longestAccepted}
+use Rattle.accepted.specs.LengthClaims.{LongestAccepted}
+use Rattle.accepted.proofs.LengthClaims.{longestAccepted}
 use Rattle.writer.specs.Types.{Net}
 use Rattle.text.specs.Buffer.{over}
+use Rattle.keeping.specs.Admission.{admits}
+use Rattle.writer.specs.Types.{Node}
 use Rattle.writer.specs.Calls.{Packed, placedOf, placedIn, packedOf, imageIn}
 use Rattle.fresh.specs.Fresh.{netFits, freshOf}
 use Rattle.written.specs.ImageOf.{digit, numberIn, bytesOf, netBits, imageOf}

@@ -11,18 +11,20 @@ use Rattle.net.specs.Choice.{choose, all}
 use Rattle.net.specs.Records.{emptyNet, nodeAt, addressOf}
 use Rattle.sound.specs.Soundness.{soundOf}
 use Rattle.written.specs.Types.{Net}
-use Rattle.image.specs.BitReader.{Parsed, got, fault, Reader, pure, andThen, require, numbered, _>>=_, _>>_}
+use Rattle.readers.specs.Reader.{Parsed, got, fault, Reader, pure, andThen, require, numbered, _>>=_, _>>_}
 use Rattle.written.specs.Types.{Fault}
-use Rattle.image.specs.Image.{header, rows, allProcesses, allTuples, code, endsAt, ending, layout}
+use Rattle.image.specs.Image.{header, rows, allProcesses, allTuples, code, layout}
+use Rattle.bitreader.specs.Ending.{endsAt, ending}
 use Rattle.written.specs.Types.{Verdict, Opened}
-use Rattle.image.specs.Image.{admits, refused, accepted, judgedNet, openedOf}
-use Rattle.image.specs.ImageClaims.{AcceptedIsSound}
+use Rattle.keeping.specs.Admission.{admits}
+use Rattle.image.specs.Image.{refused, accepted, judgedNet, openedOf}
+use Rattle.accepted.specs.ImageClaims.{AcceptedIsSound}
 use Rattle.written.specs.ImageOf.{netBits, imageOf}
 use Rattle.fresh.specs.Fresh.{netFits, nodeStarts, freshOf}
 use Rattle.written.specs.WrittenClaims.{Bytes, AcceptedIsWritten, WrittenIsBytes, OneImage, OneNet}
 use Rattle.net.proofs.Laws.{both-i, both-l, both-r, choose-true}
-use Rattle.image.proofs.AcceptedSound.{accepted-is-sound}
-use Rattle.image.proofs.Budget.{no-fault}
+use Rattle.accepted.proofs.AcceptedSound.{accepted-is-sound}
+use Rattle.readers.proofs.ReaderLaws.{no-fault}
 use Rattle.written.proofs.BitsAt.{BitsAt}
 use Rattle.written.proofs.WrittenNet.{body}
 use Rattle.written.proofs.WrittenWhole.{NetOk, reads-body}

@@ -10,7 +10,7 @@ use native.Mathlib.Decide.{decLe}
 use lib.ListN.{length, getD, length-append, List·getD-append}
 use lib.Seq.{getD-append-add}
 use lib.Dec.{eqb}
-use Rattle.image.specs.BitReader.{bitAt, numberAt}
+use Rattle.bitreader.specs.BitReader.{bitAt, numberAt}
 use Rattle.written.specs.ImageOf.{bitsOf, digit}
 
 pub record BitsAt (s : List ℕ) (p : ℕ) (bits : List Bool) : Type 0 where

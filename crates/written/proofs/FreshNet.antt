@@ -11,8 +11,8 @@ use lib.Dec.{eqb, ltb}
 use borrow.Author.Tests.{eqb-true, eq-eqb, lt-ltb, le-ltb}
 use Rattle.net.specs.Choice.{choose, both, all, fold}
 use Rattle.net.specs.Records.{startingAt, zeroField, zeroTuple, unsetVariable, freeProcess, zeroRow, zeroNode, addressOf, processCount}
-use Rattle.net.specs.Records.{zeroTemplateField, zeroInstruction, fieldAt, variableAt, processAt, tupleAt, patternAt, nodeAt, processCount}
-use Rattle.net.specs.Records.{instructionAt, withAction, processCount}
+use Rattle.net.specs.Records.{zeroTemplateField, zeroInstruction, fieldAt, variableAt, processAt, tupleAt, patternAt, nodeAt}
+use Rattle.net.specs.Records.{instructionAt, withAction}
 use Rattle.written.specs.Types.{Place, Tuple, Process, Node, Target, Action, Instruction, Net}
 use Rattle.net.specs.Choice.{inRange}
 use Rattle.sound.specs.Soundness.{isUnset, nodeSound, isZeroNode, nodesSound, instructionSound, isZeroInstruction}

@@ -9,7 +9,7 @@ use lib.Dec.{eqb, leb, ltb}
 use borrow.Author.Tests.{eqb-true, leb-true, ltb-true, lt-ltb, le-ltb, le-leb}
 use Rattle.net.specs.Choice.{choose, all, fold}
 use Rattle.net.specs.Records.{startingAt, unsetVariable, processCount}
-use Rattle.net.specs.Records.{fieldAt, variableAt, rightsAt, processAt, tupleAt, processCount}
+use Rattle.net.specs.Records.{fieldAt, variableAt, rightsAt, processAt, tupleAt}
 use Rattle.written.specs.Types.{Tuple, Row, Process, Node}
 use Rattle.net.specs.Choice.{inRange}
 use Rattle.sound.specs.Soundness.{itemSound, isZeroItem, tupleSound, isZeroTuple, tuplesSound, rowSound}

@@ -9,14 +9,15 @@ use lib.ListN.{length, replicate, length-append, length-replicate, getD-replicat
 use borrow.Author.Tests.{eq-eqb, lt-ltb}
 use Rattle.net.specs.Choice.{choose, both, implies, all, fold}
 use Rattle.net.specs.Records.{startingAt, zeroField, unsetVariable, allRights, zeroTemplateField, addressOf, placeOf, processCount}
-use Rattle.net.specs.Records.{fieldAt, variableAt, rightsAt, processAt, tupleAt, patternAt, nodeAt, instructionAt, processCount}
+use Rattle.net.specs.Records.{fieldAt, variableAt, rightsAt, processAt, tupleAt, patternAt, nodeAt, instructionAt}
 use Rattle.written.specs.Types.{Locality, Place, Tuple, Node, Target, Action, Instruction, Net}
 use Rattle.net.specs.Choice.{inRange}
 use Rattle.sound.specs.Soundness.{itemSound, tupleSound, tuplesSound, rowSound, isUnset, valueSound, processSound}
 use Rattle.sound.specs.Soundness.{nodeSound, targetSound, patternSound, templateSound, isActual, actualsOnly, actionSound}
 use Rattle.sound.specs.Soundness.{templateFor, instructionSound, nodesSound, codeSound, soundOf}
 use Rattle.keeping.specs.Keeping.{mayPut, atTarget, permits, permitsMarked, keepsOf}
-use Rattle.image.specs.Image.{admitsProcess, admitsNode, admitsAt, admits, accepted, openedOf}
+use Rattle.keeping.specs.Admission.{admitsProcess, admitsNode, admitsAt, admits}
+use Rattle.image.specs.Image.{accepted, openedOf}
 use Rattle.written.specs.Types.{Verdict, Opened}
 use Rattle.written.specs.ImageOf.{bitsOf, addressBits, placeBits, readingBits, headerBits, rightsBits, rowBits}
 use Rattle.text.specs.Joined.{joined}
@@ -26,6 +27,7 @@ use Rattle.written.specs.ImageOf.{codeBits, netBits, imageOf}
 use Rattle.fresh.specs.Fresh.{readingFits, itemFits, patternFits, tupleFits, processFits, nodeFits, instructionFits}
 use Rattle.fresh.specs.Fresh.{netFits, slotStarts, nodeStarts, freshOf}
 use Rattle.written.specs.WrittenClaims.{Bytes, LongestIsReached}
+use Rattle.accepted.specs.LengthClaims.{longestImage}
 use Rattle.net.proofs.Laws.{both-i, implies-i, choose-true, all-i}
 use Rattle.net.proofs.Past.{in-range}
 use Rattle.image.proofs.PastRecords.{pastNode, pastInstruction}
@@ -225,7 +227,7 @@ full-accepted : openedOf (imageOf fullNet) .answer ≡ Verdict.Accepted
 unfolding accepted
 full-accepted = ap (λ (r : Opened). r .answer) (fresh-accepted fullNet net-fresh)
 
-full-length : length (imageOf fullNet) ≡ 14749
+full-length : length (imageOf fullNet) ≡ longestImage
 unfolding imageOf
 full-length = bytes-length (netBits fullNet) ∙ omega (arith, net-length)
 

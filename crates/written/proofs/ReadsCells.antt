@@ -8,7 +8,7 @@ use mathlib.Core.List.{List}
 use native.Mathlib.Omega.{arith}
 use lib.ListN.{length, getD, set, replicate, length-replicate, getD-replicate}
 use lib.Seq.{getD-set-same, getD-set-other, ext-getD}
-use Rattle.image.specs.BitReader.{Reader, pure, _>>=_, each}
+use Rattle.readers.specs.Reader.{Reader, pure, _>>=_, each}
 use Rattle.text.specs.Joined.{joined}
 use Rattle.net.proofs.Every.{Every, every-set, Filled}
 use Rattle.written.proofs.ReadsWrites.{Reads, reads-map, reads-each}

@@ -4,7 +4,7 @@ use Prim.Native.Nat.{ℕ, _+_}
 use mathlib.Core.Path.{_≡_, refl, sym, ap, subst, _∙_}
 use mathlib.Core.Bool.{Bool, true}
 use mathlib.Core.List.{List, _++_, append-nil}
-use Rattle.image.specs.BitReader.{Reader, pure, require, _>>=_, _>>_}
+use Rattle.readers.specs.Reader.{Reader, pure, require, _>>=_, _>>_}
 use Rattle.written.proofs.ReadsWrites.{Reads, reads-then, reads-require}
 
 -- a good value of that kind

@@ -10,12 +10,13 @@ use lib.ListN.{length, length-append}
 use lib.Dec.{leb, ltb}
 use borrow.Author.Tests.{leb-true, ltb-true, le-leb, lt-ltb}
 use Rattle.net.specs.Choice.{choose, both}
-use Rattle.image.specs.BitReader.{Parsed, got, fault, Reader, pure, andThen, _>>=_, _>>_, turns, each}
-use Rattle.image.specs.BitReader.{require, numberAt, judged, field, bits}
+use Rattle.readers.specs.Reader.{Parsed, got, fault, Reader, pure, andThen, _>>=_, _>>_, turns, each}
+use Rattle.readers.specs.Reader.{require}
+use Rattle.bitreader.specs.BitReader.{numberAt, judged, field, bits}
 use Rattle.written.specs.ImageOf.{bitsOf}
 use Rattle.text.specs.Joined.{joined}
 use Rattle.net.proofs.Laws.{both-i, both-l, both-r, choose-true}
-use Rattle.image.proofs.Budget.{no-fault, choose-got}
+use Rattle.readers.proofs.ReaderLaws.{no-fault, choose-got}
 use Rattle.written.proofs.BitsAt.{BitsAt, stands-append, stands-first, stands-rest, stands-none}
 use Rattle.written.proofs.BitsAt.{bits-length, number-stands, stands-number}
 

@@ -12,8 +12,8 @@ use lib.Seq.{ext-getD, getD-at}
 use lib.Pow.{shr-shr}
 use lib.Dec.{eqb}
 use borrow.Author.Tests.{eqb-true, eq-eqb}
-use Rattle.image.specs.BitReader.{bitAt, numberAt}
-use Rattle.image.specs.Image.{padding, endsAt}
+use Rattle.bitreader.specs.BitReader.{bitAt, numberAt}
+use Rattle.bitreader.specs.Ending.{padding, endsAt}
 use Rattle.written.specs.ImageOf.{digit, numberIn, bytesOf}
 use Rattle.text.specs.Joined.{joined}
 use Rattle.written.specs.WrittenClaims.{Bytes}

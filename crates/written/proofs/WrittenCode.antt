@@ -8,8 +8,9 @@ use native.Mathlib.Omega.{arith}
 use Rattle.written.specs.Types.{Place, Target, Action, Instruction}
 use Rattle.net.specs.Records.{placeOf, zeroInstruction, withAction, patternAt}
 use Rattle.sound.specs.Soundness.{targetSound}
-use Rattle.image.specs.BitReader.{pure, alternative}
-use Rattle.image.specs.Image.{communication, evaluation, creation, forking, instruction}
+use Rattle.readers.specs.Reader.{pure, alternative}
+use Rattle.instructions.specs.Instruction.{communication, evaluation, forking}
+use Rattle.instructions.specs.Instruction.{creation, instruction}
 use Rattle.written.specs.ImageOf.{bitsOf, placeBits, variableBits, targetBits, templateBits, actionBits, instructionBits}
 use Rattle.written.proofs.ReadsWrites.{Reads, Ranged, reads-map, reads-pure, reads-field}
 use Rattle.written.proofs.ReadsParts.{reads-in}

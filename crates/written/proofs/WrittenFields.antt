@@ -11,7 +11,9 @@ use lib.IntN.{ℤ}
 use borrow.Author.Tests.{ltb-true, lt-ltb, le-ltb}
 use Rattle.net.specs.Records.{addressOf, placeOf}
 use Rattle.written.specs.Types.{Rights}
-use Rattle.image.specs.Image.{address, place, variable, signed, reading, isSetBit, rightsOf}
+use Rattle.bitreader.specs.Fields.{address, signed, reading}
+use Rattle.bitreader.specs.Fields.{place, variable}
+use Rattle.image.specs.Image.{isSetBit, rightsOf}
 use Rattle.written.specs.ImageOf.{bitsOf, addressBits, placeBits, variableBits, readingBits, rightsBits, digit}
 use Rattle.fresh.specs.Fresh.{readingFits}
 use Rattle.net.proofs.Laws.{choose-true, choose-false}

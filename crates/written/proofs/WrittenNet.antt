@@ -9,7 +9,7 @@ use native.Mathlib.Decide.{decLe}
 use lib.ListN.{length, getD, getD-replicate, length-replicate}
 use Rattle.written.specs.Types.{Node, Net}
 use Rattle.net.specs.Records.{zeroNode, zeroInstruction, emptyNet, nodeAt, instructionAt, withCounts, addressOf}
-use Rattle.image.specs.BitReader.{Reader, _>>=_}
+use Rattle.readers.specs.Reader.{Reader, _>>=_}
 use Rattle.image.specs.Image.{header, rows, allProcesses, allTuples, code}
 use Rattle.written.specs.ImageOf.{bitsOf, rowBits, processesBits, tuplesBits, instructionBits}
 use Rattle.text.specs.Joined.{joined}

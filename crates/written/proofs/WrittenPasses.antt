@@ -10,9 +10,10 @@ use lib.Seq.{set-getD, set-set}
 use Rattle.written.specs.Types.{Locality, Place, Row, Process, Node, Instruction, Net}
 use Rattle.net.specs.Records.{freeProcess, zeroTuple, zeroRow, zeroNode, zeroInstruction, nodeAt, addressOf, placeOf}
 use Rattle.net.specs.Records.{withRow, withNode, withInstruction}
-use Rattle.image.specs.BitReader.{Reader}
+use Rattle.readers.specs.Reader.{Reader}
 use Rattle.image.specs.Image.{eachAddress, eachPlace, row, rowOf, rows, processes, processesOf, allProcesses, tuples, tuplesOf, allTuples}
-use Rattle.image.specs.Image.{instruction, instructionOf, code}
+use Rattle.instructions.specs.Instruction.{instruction}
+use Rattle.image.specs.Image.{instructionOf, code}
 use Rattle.written.specs.ImageOf.{rowBits, processesBits, tuplesBits, instructionBits}
 use Rattle.text.specs.Joined.{joined}
 use Rattle.written.proofs.ReadsWrites.{Reads}

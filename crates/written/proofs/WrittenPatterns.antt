@@ -11,9 +11,9 @@ use borrow.Author.Tests.{ltb-true, lt-ltb}
 use Rattle.net.specs.Choice.{implies}
 use Rattle.written.specs.Types.{Locality, Target, Pattern, Instruction}
 use Rattle.sound.specs.Soundness.{targetSound, patternSound, isActual, unboundBefore, bindsAnew}
-use Rattle.image.specs.BitReader.{pure, alternative}
-use Rattle.image.specs.Image.{writtenTarget, heldTarget, target, readingPattern, addressPattern, heldPattern}
-use Rattle.image.specs.Image.{fresh, formalReading, formalAddress, kind, pattern}
+use Rattle.readers.specs.Reader.{pure, alternative}
+use Rattle.instructions.specs.Instruction.{writtenTarget, heldTarget, target, readingPattern, addressPattern, heldPattern}
+use Rattle.instructions.specs.Instruction.{fresh, formalReading, formalAddress, kind, pattern}
 use Rattle.written.specs.ImageOf.{bitsOf, addressBits, readingBits, variableBits, targetBits, patternBits}
 use Rattle.fresh.specs.Fresh.{readingFits, patternFits}
 use Rattle.net.proofs.Laws.{implies-i}

@@ -10,7 +10,7 @@ use lib.Seq.{set-getD, set-set}
 use Rattle.net.specs.Choice.{choose, fold}
 use Rattle.written.specs.Types.{Place, Tuple, Row, Process, Node}
 use Rattle.net.specs.Records.{startingAt, freeProcess, zeroTuple, processAt, processCount}
-use Rattle.net.specs.Records.{withProcess, processCount}
+use Rattle.net.specs.Records.{withProcess}
 use Rattle.image.specs.Image.{row, process, processes, stored, tuples}
 use Rattle.written.specs.ImageOf.{bitsOf, placeBits, processesBits}
 use Rattle.text.specs.Joined.{joined}

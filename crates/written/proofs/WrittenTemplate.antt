@@ -13,7 +13,7 @@ use borrow.Author.Tests.{ltb-true, lt-ltb}
 use Rattle.written.specs.Types.{Pattern, TemplateField, Action, Instruction}
 use Rattle.net.specs.Records.{zeroTemplateField, zeroInstruction, patternAt, withPattern}
 use Rattle.sound.specs.Soundness.{bindsNot, unboundBefore, bindsAnew}
-use Rattle.image.specs.Image.{templateField, template}
+use Rattle.instructions.specs.Instruction.{templateField, template}
 use Rattle.written.specs.ImageOf.{bitsOf, patternBits, templateBits}
 use Rattle.text.specs.Joined.{joined}
 use Rattle.net.proofs.Laws.{choose-true, implies-i, implies-e, all-i, all-e, split}

@@ -14,6 +14,6 @@ pub use Rattle.net.specs.declared.instruction.TemplateField.{TemplateField}
 pub use Rattle.net.specs.declared.instruction.Action.{Action}
 pub use Rattle.net.specs.declared.instruction.Instruction.{Instruction}
 pub use Rattle.net.specs.declared.network.Net.{Net}
-pub use Rattle.image.specs.declared.reader.Fault.{Fault}
+pub use Rattle.readers.specs.declared.fault.Fault.{Fault}
 pub use Rattle.image.specs.declared.reader.Verdict.{Verdict}
 pub use Rattle.image.specs.declared.reader.Opened.{Opened}

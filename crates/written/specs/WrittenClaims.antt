@@ -10,6 +10,7 @@ use Rattle.image.specs.Image.{openedOf, accepted}
 use Rattle.written.specs.Types.{Verdict}
 use Rattle.written.specs.ImageOf.{imageOf}
 use Rattle.fresh.specs.Fresh.{freshOf}
+use Rattle.accepted.specs.LengthClaims.{longestImage}
 
 -- a list of bytes, as a slice of a running program is
 pub record Bytes (s : List ℕ) : Type 0 where
@@ -37,4 +38,4 @@ OneNet = (x y : Net) → freshOf x ≡ true → freshOf y ≡ true → imageOf x
 
 -- "The longest accepted image has 14,749 bytes": one of that length is accepted (`LengthClaims.antt`: none is longer)
 unfoldable pub LongestIsReached : Type 0
-LongestIsReached = (s : List ℕ) × Bytes s × (openedOf s .answer ≡ Verdict.Accepted) × (length s ≡ 14749)
+LongestIsReached = (s : List ℕ) × Bytes s × (openedOf s .answer ≡ Verdict.Accepted) × (length s ≡ longestImage)

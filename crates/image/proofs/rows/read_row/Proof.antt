@@ -1,7 +1,7 @@
 -- `image::rows::read_row` meets its contract. Assumes nothing.
-use Rattle.image.proofs.ReaderLaws.{on}
+use Rattle.readers.proofs.ReaderLaws.{on}
 use Rattle.image.specs.Image.{row}
-use Rattle.image.specs.BitReader.{bits}
+use Rattle.bitreader.specs.BitReader.{bits}
 use borrow.Author.Needs.{needs}
 use Rattle.image.proofs.rows.read_row.Statement.{statement}
 use Rattle.image.proofs.rows.read_row.Tie as tie

@@ -1,8 +1,9 @@
 -- `image::rows::read_rows` meets its contract. Assumes nothing.
-use Rattle.image.proofs.ReaderLaws.{begin, turn, every}
+use Rattle.readers.proofs.ReaderLaws.{begin, turn, every}
 use Rattle.image.proofs.ImageLaws.{row-turn}
 use Rattle.image.specs.Image.{eachAddress, rowOf, rows}
-use Rattle.image.specs.Progress.{seen, Loop}
+use Rattle.bitreader.specs.Progress.{seen}
+use Rattle.readers.specs.Progress.{Loop}
 use Prim.Native.Nat.{_-_}
 use mathlib.Core.Path.{_≡_}
 use Rattle.net.specs.Records.{addressOf, nodeAt, withNode, withRow}

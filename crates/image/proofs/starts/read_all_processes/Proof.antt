@@ -1,7 +1,8 @@
 -- `image::starts::read_all_processes` meets its contract. Assumes nothing.
-use Rattle.image.proofs.ReaderLaws.{begin, turn, every}
+use Rattle.readers.proofs.ReaderLaws.{begin, turn, every}
 use Rattle.image.proofs.ImageLaws.{processes-turn}
-use Rattle.image.specs.Progress.{seen, Loop}
+use Rattle.bitreader.specs.Progress.{seen}
+use Rattle.readers.specs.Progress.{Loop}
 use Prim.Native.Nat.{_-_}
 use mathlib.Core.Path.{_≡_}
 use Rattle.net.specs.Records.{addressOf, nodeAt, withNode}

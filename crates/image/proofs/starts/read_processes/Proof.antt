@@ -1,5 +1,5 @@
 -- `image::starts::read_processes` meets its contract. Assumes nothing.
-use Rattle.image.proofs.ReaderLaws.{on}
+use Rattle.readers.proofs.ReaderLaws.{on}
 use Rattle.image.specs.Image.{processes}
 use borrow.Author.Needs.{needs}
 use Rattle.image.proofs.starts.read_processes.Statement.{statement}

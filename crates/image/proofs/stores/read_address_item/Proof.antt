@@ -1,5 +1,5 @@
 -- `image::stores::read_address_item` meets its contract. Assumes nothing.
-use Rattle.image.proofs.ReaderLaws.{on, stop}
+use Rattle.readers.proofs.ReaderLaws.{on, stop}
 use Rattle.image.specs.Image.{addressItem}
 use borrow.Author.Needs.{needs}
 use Rattle.image.proofs.stores.read_address_item.Statement.{statement}

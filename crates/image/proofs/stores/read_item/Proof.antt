@@ -1,7 +1,7 @@
 -- `image::stores::read_item` meets its contract. Assumes nothing.
-use Rattle.image.proofs.ReaderLaws.{on, either, otherwise}
+use Rattle.readers.proofs.ReaderLaws.{on, either, otherwise}
 use Rattle.image.specs.Image.{item}
-use Rattle.image.specs.BitReader.{bits}
+use Rattle.bitreader.specs.BitReader.{bits}
 use borrow.Author.Tests.{eq-eqb, ne-eqb}
 use borrow.Author.Needs.{needs}
 use Rattle.image.proofs.stores.read_item.Statement.{statement}

@@ -1,5 +1,5 @@
 -- `image::stores::read_reading_item` meets its contract. Assumes nothing.
-use Rattle.image.proofs.ReaderLaws.{on, stop-as}
+use Rattle.readers.proofs.ReaderLaws.{on, stop-as}
 use Rattle.image.specs.Image.{readingItem}
 use borrow.Author.Needs.{needs}
 use Rattle.image.proofs.stores.read_reading_item.Statement.{statement}

@@ -1,7 +1,8 @@
 -- `image::stores::read_store` meets its contract. Assumes nothing.
-use Rattle.image.proofs.ReaderLaws.{begin, turn, every}
+use Rattle.readers.proofs.ReaderLaws.{begin, turn, every}
 use Rattle.image.proofs.ImageLaws.{tuple-turn}
-use Rattle.image.specs.Progress.{seen, Loop}
+use Rattle.bitreader.specs.Progress.{seen}
+use Rattle.readers.specs.Progress.{Loop}
 use Prim.Native.Nat.{_-_}
 use Rattle.image.specs.Image.{stored}
 use borrow.Author.Needs.{needs}

@@ -1,7 +1,7 @@
 -- `image::stores::read_tuple` meets its contract. Assumes nothing.
-use Rattle.image.proofs.ReaderLaws.{on}
+use Rattle.readers.proofs.ReaderLaws.{on}
 use Rattle.image.specs.Image.{tuple}
-use Rattle.image.specs.BitReader.{bits}
+use Rattle.bitreader.specs.BitReader.{bits}
 use borrow.Author.Needs.{needs}
 use Rattle.image.proofs.stores.read_tuple.Statement.{statement}
 use Rattle.image.proofs.stores.read_tuple.Tie as tie

@@ -1,5 +1,5 @@
 -- `image::stores::read_tuples` meets its contract. Assumes nothing.
-use Rattle.image.proofs.ReaderLaws.{on}
+use Rattle.readers.proofs.ReaderLaws.{on}
 use Rattle.image.specs.Image.{tuples}
 use borrow.Author.Needs.{needs}
 use Rattle.image.proofs.stores.read_tuples.Statement.{statement}

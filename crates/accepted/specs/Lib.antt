@@ -1,0 +1,4 @@
+pub mod AdmissionClaims
+pub mod ImageClaims
+pub mod LengthClaims
+pub mod Types

@@ -1,0 +1,7 @@
+pub mod BitLaws
+pub mod Budget
+pub mod EndingLaws
+pub mod FieldsWithin
+pub mod ReaderRecord
+pub mod SignedLaws
+pub mod WalkLaws

@@ -1,0 +1,5 @@
+pub mod BitReader
+pub mod Ending
+pub mod Fields
+pub mod Progress
+pub mod Types

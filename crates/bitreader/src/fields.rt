@@ -1,0 +1,86 @@
+// Fields that stand in several places of an image (document 01, "The image").
+use crate::bits::take;
+use net::locality::Locality;
+use net::locality::Place;
+use readers::step::Step;
+ghost use Prim.Native.Nat.{_<_, _^_};
+ghost use mathlib.Core.Path.{_≡_};
+ghost use Rattle.bitreader.specs.Fields.{signed, address, place, variable, reading};
+ghost use Rattle.bitreader.specs.Progress.{seen};
+ghost use Rattle.readers.specs.Progress.{Went};
+
+pub struct LocalityRead {
+    pub locality: Locality,
+    pub next: Step,
+}
+
+pub struct PlaceRead {
+    pub place: Place,
+    pub next: Step,
+}
+
+pub struct VariableRead {
+    pub variable: u8,
+    pub next: Step,
+}
+
+pub struct ReadingRead {
+    pub reading: i32,
+    pub next: Step,
+}
+
+// An address of 4 bits, below the address count n.
+pub fn read_address(s: &[u8], from: Step, n: usize) -> LocalityRead
+    ensures { λ r. ⌜ Went (seen (now (s .entry))) from (address n) (r .next) (r .locality) ⌝ }
+{
+    let got = take(s, from, 4, 0, n, 23);
+    let v = got.value as u8;
+    let locality = Locality(v);
+    let next = got.next;
+    LocalityRead { locality, next }
+}
+
+// A code place of 9 bits, below the code length k.
+pub fn read_place(s: &[u8], from: Step, k: usize) -> PlaceRead
+    ensures { λ r. ⌜ Went (seen (now (s .entry))) from (place k) (r .next) (r .place) ⌝ }
+{
+    let got = take(s, from, 9, 0, k, 24);
+    let v = got.value as u16;
+    let place = Place(v);
+    let next = got.next;
+    PlaceRead { place, next }
+}
+
+// A variable of 3 bits.
+pub fn read_variable(s: &[u8], from: Step) -> VariableRead
+    ensures { λ r. ⌜ Went (seen (now (s .entry))) from variable (r .next) (r .variable) ⌝ }
+{
+    let got = take(s, from, 3, 0, 8, 28);
+    let v = got.value as u8;
+    let next = got.next;
+    VariableRead { variable: v, next }
+}
+
+// 32 bits of two's complement as a signed number.
+fn signed_of(v: usize) -> i32
+    requires { ⌜ v < 2 ^ 32 ⌝ }
+    ensures { λ r. ⌜ r ≡ signed v ⌝ }
+{
+    if v < 2147483648 {
+        v as i32
+    } else {
+        let rest = 4294967295 - v;
+        let low = rest as i32;
+        -1 - low
+    }
+}
+
+// A reading of 32 bits.
+pub fn read_reading(s: &[u8], from: Step) -> ReadingRead
+    ensures { λ r. ⌜ Went (seen (now (s .entry))) from reading (r .next) (r .reading) ⌝ }
+{
+    let got = take(s, from, 32, 0, 4294967296, 28);
+    let reading = signed_of(got.value);
+    let next = got.next;
+    ReadingRead { reading, next }
+}

@@ -1,0 +1,2 @@
+pub mod InstructionLaws
+pub mod InstructionWithin

@@ -1,0 +1,3 @@
+pub mod Instruction
+pub mod Progress
+pub mod Types

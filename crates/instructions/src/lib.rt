@@ -1,0 +1,3 @@
+// Instructions of an image, one by one.
+pub mod instruction;
+mod template;

@@ -1,0 +1,25 @@
+-- Admission (document 01, "Reaching and rights", "Numbers for an image", number 30): whether the processes of a net keep
+-- within the rows of their nodes.
+use mathlib.Core.Bool.{Bool}
+use mathlib.Core.List.{List}
+use lib.Dec.{ltb}
+use Rattle.net.specs.Choice.{implies, all}
+use Rattle.net.specs.Records.{processAt, nodeAt, addressOf}
+use Rattle.keeping.specs.Types.{Locality, Row, Instruction, Process, Node, Net}
+use Rattle.keeping.specs.Keeping.{keepsOf}
+
+-- a process of address a keeps within its row r
+unfoldable pub admitsProcess : List Instruction → Row → Locality → Process → Bool
+admitsProcess code r a p = implies (p .busy) (keepsOf code (p .at) a r)
+
+-- so does each process of a node
+unfoldable pub admitsNode : List Instruction → Locality → Node → Bool
+admitsNode code a x = all 4 (λ i. admitsProcess code (x .row) a (processAt x i))
+
+-- the same at an address, where it is in use
+unfoldable pub admitsAt : Net → Locality → Bool
+admitsAt s a = implies (ltb (a .0) (s .addresses)) (admitsNode (s .code) a (nodeAt s a))
+
+-- each starting process keeps within the row of its node
+unfoldable pub admits : Net → Bool
+admits s = all 16 (λ i. admitsAt s (addressOf i))

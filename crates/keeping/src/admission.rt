@@ -1,0 +1,68 @@
+// Admission (document 01, "Reaching and rights"): whether the processes of a net keep within the rows of their nodes.
+use crate::rights::keeps;
+use net::instruction::Instruction;
+use net::locality::Locality;
+use net::network::Net;
+use net::node::Node;
+use net::policy::Row;
+use net::process::Process;
+ghost use Prim.Native.Nat.{_<_};
+ghost use mathlib.Core.Path.{_≡_};
+ghost use Rattle.keeping.specs.Admission.{admitsProcess, admitsNode, admitsAt, admits};
+
+// Whether a process of address a keeps within its row.
+fn admits_process(code: [Instruction; 512], row: Row, a: Locality, p: Process) -> bool
+    ensures { λ r. ⌜ r ≡ admitsProcess code row a p ⌝ }
+{
+    let at = p.at;
+    if p.busy {
+        keeps(code, at, a, row)
+    } else {
+        true
+    }
+}
+
+// Whether each process of a node keeps within its row.
+fn admits_node(code: [Instruction; 512], a: Locality, x: Node) -> bool
+    ensures { λ r. ⌜ r ≡ admitsNode code a x ⌝ }
+{
+    let row = x.row;
+    let mut ok = true;
+    let mut i = 0;
+    while i < 4 {
+        let p = x.processes[i];
+        let good = admits_process(code, row, a, p);
+        ok = ok & good;
+        i += 1;
+    }
+    ok
+}
+
+// The same at an address, where it is in use.
+fn admits_at(net: Net, a: Locality) -> bool
+    requires { ⌜ a .0 < 16 ⌝ }
+    ensures { λ r. ⌜ r ≡ admitsAt net a ⌝ }
+{
+    let at = a.0 as usize;
+    let code = net.code;
+    let node = net.nodes[at];
+    if at < net.addresses {
+        admits_node(code, a, node)
+    } else {
+        true
+    }
+}
+
+// Whether each starting process keeps within the row of its node.
+pub fn admitted(net: Net) -> bool
+    ensures { λ r. ⌜ r ≡ admits net ⌝ }
+{
+    let mut ok = true;
+    let mut i: usize = 0;
+    while i < 16 {
+        let good = admits_at(net, Locality(i as u8));
+        ok = ok & good;
+        i += 1;
+    }
+    ok
+}

@@ -1,0 +1,133 @@
+-- Laws of readers (`specs/Reader.antt`) run from a step (`specs/Progress.antt`): what the parts came to, the whole comes
+-- to.
+-- Assumes nothing.
+use Prim.Native.Nat.{ℕ, suc, _+_, _-_, _<_, _≤_}
+use mathlib.Core.Path.{_≡_, refl, sym, ap, _∙_}
+use mathlib.Core.Bool.{Bool, true, false}
+use mathlib.Core.List.{List}
+use lib.ListN.{getD, length, List·getD-eq-default}
+use native.Mathlib.Nat.{sub-zero}
+use native.Mathlib.Numerals.{add-one}
+use native.Mathlib.Omega.{arith}
+use Rattle.net.specs.Choice.{choose}
+use Rattle.readers.specs.Reader.{Fault, Parsed, got, fault, Reader, pure, andThen, _>>=_, _>>_, turns, each}
+use Rattle.readers.specs.Reader.{alternative, require, numbered}
+use Rattle.readers.specs.Progress.{Step, outcome, runFrom, Went, Loop}
+use Rattle.net.proofs.Laws.{choose-true, choose-false}
+
+module _ {A : Type 0} (s : List ℕ) where
+  -- a value with nothing read
+  pub stop : (p : Step) (a : A) → Went s p (pure a) p a
+  unfolding outcome runFrom pure
+  stop (Step.At p) a = record { went = refl }
+  stop (Step.Failed f) a = record { went = refl }
+
+  pub stop-as : (p : Step) (a b : A) → a ≡ b → Went s p (pure b) p a
+  stop-as p a b e = rw e (stop p b)
+
+  pub stop-at : (p q : Step) (a b : A) → q ≡ p → a ≡ b → Went s p (pure b) q a
+  stop-at p q a b d e = rw (d, e) (stop p b)
+
+module _ {A B : Type 0} (s : List ℕ) where
+  bound : (p q : Step) (m : Reader A) (f : A → Reader B) (a : A) → outcome q a ≡ runFrom s p m → runFrom s p (m >>= f) ≡ runFrom s q (f a)
+  unfolding outcome runFrom _>>=_ andThen
+  bound (Step.At p) (Step.At q) m f a e = ap (λ (o : Parsed A). andThen o s f) (sym e)
+  bound (Step.At p) (Step.Failed g) m f a e = ap (λ (o : Parsed A). andThen o s f) (sym e)
+  bound (Step.Failed h) (Step.At q) m f a e = cc
+  bound (Step.Failed h) (Step.Failed g) m f a e = cc
+
+  pub after : (p q : Step) (m : Reader A) (f : A → Reader B) (a : A) → Went s p m q a → runFrom s p (m >>= f) ≡ runFrom s q (f a)
+  after p q m f a w = bound p q m f a (w .went)
+
+  -- one reader, and another with its value
+  pub on : (p q r : Step) (m : Reader A) (f : A → Reader B) (a : A) (b : B) → Went s p m q a → Went s q (f a) r b → Went s p (m >>= f) r b
+  on p q r m f a b w v = record { went = v .went ∙ sym (after p q m f a w) }
+
+  pub next : (p q r : Step) (m : Reader A) (f : Reader B) (a : A) (b : B) → Went s p m q a → Went s q f r b → Went s p (m >> f) r b
+  unfolding _>>_
+  next p q r m f a b w v = on p q r m (λ x. f) a b w v
+
+-- ---- loops
+module _ {A : Type 0} (s : List ℕ) (n : ℕ) (f : ℕ → A → Reader A) (p₀ : Step) (a₀ : A) where
+  pub begin : Loop s p₀ n f a₀ p₀ 0 a₀
+  unfolding each
+  begin = record { within = omega arith; rest = rw sub-zero }
+
+  pub begin-as : (a : A) → a ≡ a₀ → Loop s p₀ n f a₀ p₀ 0 a
+  begin-as a e = rw e begin
+
+  one-more : (k i : ℕ) (p q : Step) (a b : A) → n - i ≡ suc k → Went s p (f i a) q b → runFrom s p (turns (n - i) i f a) ≡ runFrom s q (turns k (suc i) f b)
+  unfolding turns
+  one-more k i p q a b e w = rw e (after s p q (f i a) (turns k (suc i) f) b w)
+
+  pub turn : (i : ℕ) (p q : Step) (a b : A) → i < n → Loop s p₀ n f a₀ p i a → Went s p (f i a) q b → Loop s p₀ n f a₀ q (i + 1) b
+  turn i p q a b h l w = record {
+    within = omega arith;
+    rest =
+        l .rest ∙ one-more (n - (i + 1)) i p q a b (omega arith) w ∙
+        ap (λ (j : ℕ). runFrom s q (turns (n - (i + 1)) j f b)) (sym (add-one i));
+  }
+
+  none-left : (k i : ℕ) (p : Step) (a : A) → k ≡ 0 → runFrom s p (turns k i f a) ≡ outcome p a
+  unfolding turns
+  none-left k i p a e = rw e (sym (stop s p a .went))
+
+  pub every : (i : ℕ) (p : Step) (a : A) → n ≤ i → Loop s p₀ n f a₀ p i a → Went s p₀ (each n f a₀) p a
+  every i p a h l = record { went = sym (l .rest ∙ none-left (n - i) i p a (omega arith)) }
+
+-- ---- alternatives, by a number that is known
+module _ {A : Type 0} (s : List ℕ) where
+  pub either : (p q : Step) (b : Bool) (m m′ : Reader A) (a : A) → b ≡ true → Went s p m q a → Went s p (choose b m m′) q a
+  either p q b m m′ a e w = rw (choose-true b m m′ e) w
+
+  pub otherwise : (p q : Step) (b : Bool) (m m′ : Reader A) (a : A) → b ≡ false → Went s p m′ q a → Went s p (choose b m m′) q a
+  otherwise p q b m m′ a e w = rw (choose-false b m m′ e) w
+
+module _ {A : Type 0} (s : List ℕ) (p q : Step) (rs : List (Reader A)) (last m : Reader A) (a : A) where
+  pub chosen : (k j : ℕ) → k ≡ j → m ≡ getD rs j last → Went s p m q a → Went s p (alternative rs last k) q a
+  unfolding alternative
+  chosen k j e f w = rw (e, ← f) w
+
+module _ {A : Type 0} (s : List ℕ) (p q : Step) (rs : List (Reader A)) (last : Reader A) (a : A) where
+  pub chosen-last : (k : ℕ) → length rs ≤ k → Went s p last q a → Went s p (alternative rs last k) q a
+  unfolding alternative
+  chosen-last k h w = rw (List·getD-eq-default rs last h) w
+
+pub past2 : (k : ℕ) → (k ≡ 0 → ⊥) → (k ≡ 1 → ⊥) → 2 ≤ k
+past2 k a b = omega arith
+
+pub past5 : (k : ℕ) → (k ≡ 0 → ⊥) → (k ≡ 1 → ⊥) → (k ≡ 2 → ⊥) → (k ≡ 3 → ⊥) → (k ≡ 4 → ⊥) → 5 ≤ k
+past5 k a b c d e = omega arith
+
+pub past6 : (k : ℕ) → (k ≡ 0 → ⊥) → (k ≡ 1 → ⊥) → (k ≡ 2 → ⊥) → (k ≡ 3 → ⊥) → (k ≡ 4 → ⊥) → (k ≡ 5 → ⊥) → 6 ≤ k
+past6 k a b c d e f = omega arith
+
+-- ---- a test that has to be passed
+pub not-passed : (ok : Bool) (p n : ℕ) (f : Fault) → ok ≡ false → f ≡ numbered n
+    → Step.Failed f ≡ choose ok (Step.At p) (Step.Failed (numbered n))
+not-passed ok p n f e d = ap Step.Failed d ∙ sym (choose-false _ _ _ e)
+
+pub passed : (s : List ℕ) (p : ℕ) (q : Step) (ok : Bool) (n : ℕ) → q ≡ choose ok (Step.At p) (Step.Failed (numbered n)) → Went s (Step.At p) (require ok n) q tt
+unfolding outcome runFrom require choose
+passed s p q true n e = record { went = cc }
+passed s p q false n e = record { went = cc }
+
+pub passed-at : (s : List ℕ) (p q : Step) (k : ℕ) (ok : Bool) (n : ℕ) → p ≡ Step.At k → q ≡ choose ok (Step.At k) (Step.Failed (numbered n)) → Went s p (require ok n) q tt
+passed-at s p q k ok n e f = rw e (passed s k q ok n f)
+
+pub passed-failed : {A : Type 0} (s : List ℕ) (p : Step) (f : Fault) (m : Reader A) (a : A) → p ≡ Step.Failed f → Went s p m p a
+unfolding outcome runFrom
+passed-failed s p f m a e = record { went = rw e refl }
+
+-- ---- outcomes
+
+-- no fault is a value
+pub no-fault : {A C : Type 0} {n : Fault} {a : A} {q : ℕ} → fault n ≡ got a q → C
+no-fault e = let z : _≡_ {A = ℕ} 0 1 = cc in absurd (omega arith)
+
+-- a test that came out well
+pub choose-got : {A : Type 0} (t : Bool) {x : Parsed A} (n : Fault) {a : A} {q : ℕ} → choose t x (fault n) ≡ got a q
+    → (t ≡ true) × (x ≡ got a q)
+unfolding choose
+choose-got true n e = (refl, e)
+choose-got false n e = no-fault e

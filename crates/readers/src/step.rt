@@ -1,0 +1,36 @@
+// The step that readers hand on by value: once it is a fault, every later reader passes it on.
+use crate::fault::Fault;
+ghost use Prim.Native.Nat.{ℕ};
+ghost use mathlib.Core.List.{List};
+ghost use mathlib.Core.Path.{_≡_};
+ghost use Rattle.net.specs.Choice.{choose};
+ghost use Rattle.readers.specs.Reader.{numbered, require};
+ghost use Rattle.readers.specs.Progress.{Went};
+
+// Where reading stands: at the place of what is read next, or past the first fault.
+pub enum Step {
+    At(usize),
+    Failed(Fault),
+}
+
+// A place where the test holds, or else the fault n.
+fn checked(p: usize, ok: bool, n: u8) -> Step
+    ensures { λ r. ⌜ r ≡ choose ok (Step.At p) (Step.Failed (numbered n)) ⌝ }
+{
+    if ok {
+        Step::At(p)
+    } else {
+        let fault = Fault::numbered(n);
+        Step::Failed(fault)
+    }
+}
+
+// The step as it was where the test holds, or else the fault n.
+pub fn require_that(from: Step, ok: bool, n: u8) -> Step
+    ensures { λ r. ⌜ ((s : List ℕ) → Went s from (require ok n) r tt) ⌝ }
+{
+    match from {
+        Step::At(p) => checked(p, ok, n),
+        Step::Failed(_) => from,
+    }
+}
