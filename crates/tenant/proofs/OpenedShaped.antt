@@ -21,7 +21,7 @@ use Rattle.writer.proofs.WrittenWhole.{NetOk}
 use Rattle.writer.proofs.AcceptedWritten.{opened-ok}
 use Rattle.step.specs.Shape.{ShapedTuple, ShapedProcess, ShapedNode, ShapedInstruction, Shaped}
 use Rattle.step.proofs.SoundFacts.{pastNode, pastInstruction}
-use Rattle.run.specs.Types.{Tuple, Process, Node, Instruction, Net}
+use Rattle.tenant.specs.Types.{Tuple, Process, Node, Instruction, Net}
 
 -- ---- records that fit their types have their lengths
 shaped-tuple : (t : Tuple) → tupleFits t ≡ true → ShapedTuple t
