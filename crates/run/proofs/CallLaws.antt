@@ -9,6 +9,10 @@ use lib.ListN.{length, getD, take, length-map, List·getD-append}
 use lib.Seq.{sets-eq, take-all, take-length, length-take-le}
 use lib.Dec.{leb}
 use borrow.Author.Tests.{le-leb, lt-leb}
+use mir.Val.{Val}
+use denote.Laws.{Is}
+use denote.Struct.Declared.{row}
+use Rattle.net.proofs.network.Net as net
 use Rattle.net.specs.Choice.{choose}
 use Rattle.net.specs.Records.{emptyNet}
 use Rattle.sound.specs.Soundness.{soundOf}
@@ -17,7 +21,7 @@ use Rattle.image.specs.Image.{openedOf}
 use Rattle.accepted.specs.ImageClaims.{AcceptedIsSound}
 use Rattle.accepted.proofs.AcceptedSound.{accepted-is-sound}
 use Rattle.step.specs.Answer.{numberOf}
-use Rattle.step.specs.Shape.{Shaped}
+use Rattle.step.proofs.Lengths.{net-shaped}
 use Rattle.run.specs.Types.{Net, Fault, Opened, Verdict}
 use Rattle.run.specs.Run.{Outcome, refused, ran, answered, ranFrom, runIn, runOf}
 use Rattle.text.specs.Buffer.{over}
@@ -27,20 +31,19 @@ use Rattle.run.specs.Making.{Startable, Made}
 use Rattle.run.specs.Run.{numbers}
 use Rattle.run.specs.Register.{pickLine, pickLines, netLine, netLines, refusedLine, registerIn, registerOf}
 use Rattle.text.specs.Writing.{Wrote}
-use Rattle.run.proofs.OpenedShaped.{opened-shaped}
 use Rattle.text.proofs.WritingLaws.{wrote-then, wrote-length, joined-same}
+
+-- ---- a net that a running program holds
+pub held-startable : (s : Net) (vs : List Val) → Is (row net.the-type) s vs → soundOf s ≡ true → Startable s
+held-startable s vs held sound = record { shaped = net-shaped s vs held; sound = sound }
 
 -- ---- an image that was read
 module _ (image : List ℕ) (o : Opened) (read : o ≡ openedOf image) where
-  pub startable : o .answer ≡ Verdict.Accepted → Startable (o .net)
+  pub opened-sound : o .answer ≡ Verdict.Accepted → soundOf (o .net) ≡ true
   unfolding AcceptedIsSound
-  startable a =
-      let accepted : openedOf image .answer ≡ Verdict.Accepted = sym (ap (λ (x : Opened). x .answer) read) ∙ a in
-      let net-is : o .net ≡ openedOf image .net = ap (λ (x : Opened). x .net) read in
-      record {
-        shaped = subst Shaped (sym net-is) (opened-shaped image);
-        sound = ap soundOf net-is ∙ accepted-is-sound image accepted;
-      }
+  opened-sound a =
+      ap (λ (x : Opened). soundOf (x .net)) read
+      ∙ accepted-is-sound image (sym (ap (λ (x : Opened). x .answer) read) ∙ a)
 
   module _ (picks : List ℕ) where
     ran-is : o .answer ≡ Verdict.Accepted → ran (ranFrom (o .net) picks) ≡ runOf image picks

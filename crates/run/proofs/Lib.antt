@@ -1,4 +1,3 @@
 pub mod CallLaws
-pub mod OpenedShaped
 pub mod RunLaws
 pub mod WritingLaws

@@ -8,11 +8,12 @@ use image::reader::Verdict;
 use image::reader::read_image;
 use net::network::Net;
 ghost use Prim.Native.Nat.{_≤_};
+ghost use mathlib.Core.Bool.{true};
 ghost use mathlib.Core.Path.{_≡_};
 ghost use lib.ListN.{length, take};
 ghost use Rattle.text.specs.Buffer.{over};
 ghost use Rattle.run.specs.Calls.{registeredOf, registeredNumber, roomNumber};
-ghost use Rattle.run.specs.Making.{Startable};
+ghost use Rattle.sound.specs.Soundness.{soundOf};
 ghost use Rattle.run.specs.Register.{registerIn, registerOf};
 ghost use Rattle.run.specs.Run.{ran, ranFrom};
 ghost use Rattle.text.specs.Writing.{Wrote};
@@ -23,9 +24,9 @@ pub enum Registered {
     NoRoom,
 }
 
-// The register of a net and at most 65,536 picks.
+// The register of a sound net and at most 65,536 picks.
 fn put_run(net: Net, picks: &[u8], out: &mut [u8]) -> usize
-    requires { ⌜ Startable net × (length (now picks) ≤ 65536) ⌝ }
+    requires { ⌜ (soundOf net ≡ true) × (length (now picks) ≤ 65536) ⌝ }
     ensures { λ r. ⌜ Wrote (now (out .entry)) 0 (registerIn net (now (picks .entry)) (ran (ranFrom net (now (picks .entry))))) (now (out .exit)) r ⌝ }
 {
     let mut answers = [0u8; 65536];
@@ -46,9 +47,9 @@ fn first_picks(picks: &[u8]) -> usize
     }
 }
 
-// The register of a net and the picks that count.
+// The register of a sound net and the picks that count.
 fn put_first(net: Net, picks: &[u8], out: &mut [u8]) -> usize
-    requires { ⌜ Startable net ⌝ }
+    requires { ⌜ soundOf net ≡ true ⌝ }
     ensures { λ r. ⌜ Wrote (now (out .entry)) 0 (registerIn net (take 65536 (now (picks .entry))) (ran (ranFrom net (take 65536 (now (picks .entry)))))) (now (out .exit)) r ⌝ }
 {
     let n = first_picks(picks);

@@ -15,9 +15,11 @@ use step::turn::sent_within;
 use step::turn::slot_of;
 use step::turn::turn_of;
 ghost use Prim.Native.Nat.{_≤_};
+ghost use mathlib.Core.Bool.{true};
 ghost use mathlib.Core.Path.{_≡_};
 ghost use lib.ListN.{length};
 ghost use Rattle.net.specs.Records.{emptyNet};
+ghost use Rattle.sound.specs.Soundness.{soundOf};
 ghost use Rattle.run.specs.Calls.{finished, finishedOf, answersIn};
 ghost use Rattle.run.specs.Run.{ran, ranFrom, runOf};
 ghost use Rattle.run.specs.Making.{Startable, Made};
@@ -85,9 +87,9 @@ fn not_made(finish: Finish) -> Finished
     Finished { finish, net }
 }
 
-// The run of a net, where there is room for its answers.
+// The run of a sound net, where there is room for its answers.
 fn run_net(net: Net, picks: &[u8], answers: &mut [u8]) -> Finished
-    requires { ⌜ Startable net ⌝ }
+    requires { ⌜ soundOf net ≡ true ⌝ }
     ensures { λ r. ⌜ r ≡ finishedOf (ran (ranFrom net (now (picks .entry)))) (length (now (answers .entry))) ⌝ }
     ensures { λ _. ⌜ now (answers .exit) ≡ answersIn (ran (ranFrom net (now (picks .entry)))) (now (answers .entry)) ⌝ }
 {

@@ -22,7 +22,7 @@ use Rattle.step.proofs.SoundFacts.{in-range-low}
 use Rattle.tenant.specs.Types.{Locality, Rights, Node, Net, Verdict}
 use Rattle.run.specs.Run.{Ran, ran, ranFrom, runIn, runOf}
 use Rattle.tenant.specs.TenantRule.{grants, creates, Fenced, Agree, TenantRule}
-use Rattle.run.proofs.OpenedShaped.{opened-shaped}
+use Rattle.tenant.proofs.OpenedShaped.{opened-shaped}
 use Rattle.tenant.proofs.Fence.{Fence}
 use Rattle.tenant.proofs.Equal.{under, code-same, nodes-same}
 use Rattle.tenant.proofs.TenantOfNets.{tenant-of-nets}

@@ -1,5 +1,5 @@
 -- `run::register::put_register` meets its contract. Assumes nothing.
-use Rattle.run.proofs.CallLaws.{startable, register-accepted, register-refused}
+use Rattle.run.proofs.CallLaws.{opened-sound, register-accepted, register-refused}
 use borrow.Author.Needs.{needs}
 use Rattle.run.proofs.register.put_register.Statement.{statement}
 use Rattle.run.proofs.register.put_register.Tie as tie
@@ -10,7 +10,7 @@ put-register-spec =
     (tie.spec
     (λ c κs. search needs)
     (λ c. search needs)
-    (λ c κs. search (needs, startable))
+    (λ c κs. search (needs, opened-sound))
     (λ c. search needs)
     (λ c κs. search needs)
     (λ c. search needs)

@@ -1,5 +1,5 @@
 -- `run::register::put_run` meets its contract. Assumes nothing.
-use Rattle.run.proofs.CallLaws.{register-run}
+use Rattle.run.proofs.CallLaws.{held-startable, register-run}
 use borrow.Author.Needs.{needs}
 use Rattle.run.proofs.register.put_run.Statement.{statement}
 use Rattle.run.proofs.register.put_run.Tie as tie
@@ -9,7 +9,7 @@ put-run-spec =
     tie.close
     (tie.spec
     (λ c. search needs)
-    (λ c κs. search needs)
+    (λ c κs. (search (needs, held-startable), search needs))
     (λ c κs. search needs)
     (λ c. search needs)
     (λ c κs. search needs)

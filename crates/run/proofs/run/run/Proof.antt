@@ -1,5 +1,5 @@
 -- `run::run::run` meets its contract. Assumes nothing.
-use Rattle.run.proofs.CallLaws.{startable, accepted-finish, refused-finish, accepted-left, refused-left}
+use Rattle.run.proofs.CallLaws.{opened-sound, accepted-finish, refused-finish, accepted-left, refused-left}
 use borrow.Author.Needs.{needs}
 use Rattle.run.proofs.run.run.Statement.{statement}
 use Rattle.run.proofs.run.run.Tie as tie
@@ -10,7 +10,7 @@ run-spec =
     (tie.spec
     (λ c κs. search needs)
     (λ c. search needs)
-    (λ c κs. search (needs, startable))
+    (λ c κs. search (needs, opened-sound))
     (λ c. search needs)
     (λ c κs. search needs)
     (λ c. search needs)

@@ -1,5 +1,5 @@
 -- The net of an image has the lengths of a running program's net: drawn from what the layout of an image gives (`NetOk` of
--- `writer`).
+-- `written`).
 -- Assumes nothing.
 use Prim.Native.Nat.{ℕ}
 use mathlib.Core.Path.{_≡_, subst}
@@ -21,7 +21,7 @@ use Rattle.written.proofs.WrittenWhole.{NetOk}
 use Rattle.written.proofs.AcceptedWritten.{opened-ok}
 use Rattle.step.specs.Shape.{ShapedTuple, ShapedProcess, ShapedNode, ShapedInstruction, Shaped}
 use Rattle.step.proofs.SoundFacts.{pastNode, pastInstruction}
-use Rattle.run.specs.Types.{Tuple, Process, Node, Instruction, Net}
+use Rattle.tenant.specs.Types.{Tuple, Process, Node, Instruction, Net}
 
 -- ---- records that fit their types have their lengths
 shaped-tuple : (t : Tuple) → tupleFits t ≡ true → ShapedTuple t
