@@ -1,4 +1,4 @@
--- A logic of readers (`specs/BitReader.antt`): how many bits a reader takes at most, what its values satisfy, and that
+-- A logic of readers of bits (`specs/BitReader.antt`): how many bits a reader takes at most, what its values satisfy, and that
 -- it looks at nothing past those bits. Assumes nothing.
 use Prim.Native.Nat.{ℕ, zero, suc, _+_, _-_, _*_, _/_, _%_, _<_, _≤_, _^_}
 use mathlib.Core.Path.{_≡_, refl, sym, ap, _∙_}

@@ -1,4 +1,4 @@
--- Readings: 32 bits of two's complement (`signed` of `specs/Image.antt`) and the machine's signed numbers.
+-- Readings: 32 bits of two's complement (`signed` of `specs/Fields.antt`) and the machine's signed numbers.
 -- Assumes nothing.
 use Prim.Native.Nat.{ℕ, zero, suc, _-_, _^_, _<_, _≤_}
 use mathlib.Core.Path.{_≡_, refl, sym, ap, _∙_}
