@@ -12,7 +12,6 @@ use lib.Seq.{getD-take, take-all, length-take-le}
 use lib.Dec.{leb, ltb}
 use borrow.Author.Tests.{leb-true, ltb-true, le-leb}
 use Rattle.net.specs.Choice.{choose, both}
-use Rattle.bitreader.specs.Types.{Fault}
 use Rattle.readers.specs.Reader.{Parsed, got, fault, Reader, pure, andThen, _>>=_, _>>_, turns, each}
 use Rattle.bitreader.specs.BitReader.{bitAt, numberAt, judged, field, bits}
 use Rattle.readers.specs.Reader.{alternative, require}
