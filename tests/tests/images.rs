@@ -98,11 +98,11 @@ fn the_longest_image_has_14_749_bytes() {
     assert_eq!(number(&image[..14_748]), 28);
     image.push(0);
     assert_eq!(number(&image), 29);
-    image.resize(16_383, 0);
+    image.resize(32_767, 0);
     assert_eq!(number(&image), 29);
 }
 
-/// The reader looks at the first 16,384 bytes, which decide: images that end
+/// The reader looks at the first 32,768 bytes, which decide: images that end
 /// before that, there and beyond give what the model, which looks at all of
 /// them, says.
 #[test]
@@ -111,7 +111,7 @@ fn images_around_what_the_reader_looks_at() {
     let longest = write_image(&longest());
     let heads: [&[u8]; 3] = [&longest, &PAPER_IMAGE, &ONE_STOP];
     let mut images = Vec::new();
-    for length in [16_383, 16_384, 16_385, 16_386, 32_768, 40_000, 65_535] {
+    for length in [16_384, 32_767, 32_768, 32_769, 32_770, 40_000, 65_535] {
         for head in heads {
             let mut image = head.to_vec();
             image.resize(length, 0);
@@ -131,7 +131,7 @@ fn images_around_what_the_reader_looks_at() {
         let rest = (3..length).map(|_| random.byte());
         head.into_iter().chain(rest).collect::<Vec<u8>>()
     };
-    let lengths = [16_383, 16_384, 16_385, 40_000].into_iter().cycle();
+    let lengths = [32_767, 32_768, 32_769, 40_000].into_iter().cycle();
     numbers(&lengths.take(200).map(noise).collect::<Vec<_>>());
 }
 

@@ -1,4 +1,4 @@
--- A logic of readers (`specs/BitReader.antt`): how many bits a reader takes at most, what its values satisfy, and that
+-- A logic of readers of bits (`specs/BitReader.antt`): how many bits a reader takes at most, what its values satisfy, and that
 -- it looks at nothing past those bits. Assumes nothing.
 use Prim.Native.Nat.{ℕ, zero, suc, _+_, _-_, _*_, _/_, _%_, _<_, _≤_, _^_}
 use mathlib.Core.Path.{_≡_, refl, sym, ap, _∙_}
@@ -12,7 +12,6 @@ use lib.Seq.{getD-take, take-all, length-take-le}
 use lib.Dec.{leb, ltb}
 use borrow.Author.Tests.{leb-true, ltb-true, le-leb}
 use Rattle.net.specs.Choice.{choose, both}
-use Rattle.bitreader.specs.Types.{Fault}
 use Rattle.readers.specs.Reader.{Parsed, got, fault, Reader, pure, andThen, _>>=_, _>>_, turns, each}
 use Rattle.bitreader.specs.BitReader.{bitAt, numberAt, judged, field, bits}
 use Rattle.readers.specs.Reader.{alternative, require}

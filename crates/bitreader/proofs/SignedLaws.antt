@@ -1,4 +1,4 @@
--- Readings: 32 bits of two's complement (`signed` of `specs/Image.antt`), by the laws of `text`. Assumes nothing.
+-- Readings: 32 bits of two's complement (`signed` of `specs/Fields.antt`), by the laws of `text`. Assumes nothing.
 use Prim.Native.Nat.{ℕ, _-_, _^_, _<_, _≤_}
 use mathlib.Core.Path.{_≡_, sym, _∙_}
 use lib.IntN.{negsuc, _-ℤ_}

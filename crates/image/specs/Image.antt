@@ -132,7 +132,7 @@ instructionOf p s = do
 unfoldable pub code : Net → Reader Net
 code s = eachPlace (s .length) instructionOf s
 
--- ---- the whole: 6 is the ending
+-- ---- the whole, part after part; 6 is `ending`
 unfoldable pub layout : Reader Net
 layout = do
   s₁ ← header

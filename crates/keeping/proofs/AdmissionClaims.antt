@@ -4,7 +4,7 @@ use borrow.Author.Tests.{ltb-true, lt-ltb}
 use Rattle.net.specs.Records.{addressOf}
 use Rattle.keeping.specs.ReachingClaims.{KeepsIsEvery}
 use Rattle.keeping.specs.Admission.{admitsProcess, admitsNode, admitsAt, admits}
-use Rattle.keeping.specs.AdmissionClaims.{StartsWithin, AdmitsIsWithin}
+use Rattle.keeping.specs.AdmissionClaims.{AdmitsIsWithin}
 use Rattle.net.proofs.Laws.{implies-i, implies-e, all-i, all-e}
 use Rattle.keeping.proofs.Reached.{keepsIsEvery}
 

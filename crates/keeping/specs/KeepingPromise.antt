@@ -1,6 +1,6 @@
 -- What keeping promises to the crates above it (document 01, "Reaching and rights"). The proofs of `step` and `run` cite
--- these clauses, and open no definition of `Keeping.antt` or `Reaching.antt`; `image` cites `KeepsIsEvery`
--- (`ReachingClaims.antt`). `tenant` opens the rights of a row, `writer` what its longest image keeps to, and `edges` all,
+-- these clauses, and open no definition of `Keeping.antt` or `Reaching.antt`; `accepted` cites `AdmitsIsWithin`
+-- (`AdmissionClaims.antt`). `tenant` opens the rights of a row, `writer` what its longest image keeps to, and `edges` all,
 -- to compute the starred edges.
 use Prim.Native.Nat.{ℕ, _<_, _≤_}
 use mathlib.Core.Path.{_≡_}

@@ -1,4 +1,4 @@
--- Loops that read the records of an array, one a turn (`each` of `specs/BitReader.antt`): what such a loop gives is what
+-- Loops that read the records of an array, one a turn (`each` of `specs/Reader.antt`): what such a loop gives is what
 -- writes down the records, one after another. One law over the array, the record and what else the value holds.
 -- Assumes nothing.
 use Prim.Native.Nat.{ℕ, suc, _<_, _≤_}

@@ -1,4 +1,4 @@
--- A logic of readers and writers: a reader (`specs/BitReader.antt`) gives a value exactly where the value is in range
+-- A logic of readers and writers: a reader (`specs/Reader.antt`) gives a value exactly where the value is in range
 -- and its bits (`specs/ImageOf.antt`) stand, and goes on behind them. One law for each way to make a reader.
 -- Assumes nothing.
 use Prim.Native.Nat.{ℕ, zero, suc, _+_, _*_, _^_, _<_, _≤_}

@@ -1,4 +1,4 @@
--- Instructions (`specs/Image.antt`, `specs/ImageOf.antt`, 5): what is read is what is written.
+-- Instructions (`specs/Instruction.antt`, `specs/ImageOf.antt`, 5): what is read is what is written.
 -- Assumes nothing.
 use Prim.Native.Nat.{ℕ, zero, suc, _+_, _<_, _≤_}
 use mathlib.Core.Path.{_≡_, refl, sym, ap, subst, _∙_}

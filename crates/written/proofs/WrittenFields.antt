@@ -1,4 +1,4 @@
--- The fields of an image that stand in several places (`specs/Image.antt`, `specs/ImageOf.antt`): what is read there is
+-- The fields of an image that stand in several places (`specs/Fields.antt`, `specs/ImageOf.antt`): what is read there is
 -- what is written there. In what follows n is the address count and k the code length.
 -- Assumes nothing.
 use Prim.Native.Nat.{ℕ, _+_, _-_, _*_, _/_, _%_, _^_, _<_, _≤_}

@@ -1,4 +1,4 @@
--- Templates (`specs/Image.antt`, `specs/ImageOf.antt`, 5): what is read is what is written.
+-- Templates (`specs/Instruction.antt`, `specs/ImageOf.antt`, 5): what is read is what is written.
 -- Assumes nothing.
 use Prim.Native.Nat.{ℕ, suc, _+_, _-_, _<_, _≤_}
 use mathlib.Core.Path.{_≡_, refl, sym, ap, subst, _∙_}

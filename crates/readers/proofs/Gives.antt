@@ -1,0 +1,95 @@
+-- The logic of readers (`specs/Reader.antt`): what holds of every value that a reader gives, and of the number of every
+-- fault. One law for each way to make a reader. Assumes nothing.
+use Prim.Native.Nat.{ℕ, zero, suc, _+_, _<_}
+use mathlib.Core.Path.{_≡_, refl, subst}
+use mathlib.Core.Bool.{Bool, true, false}
+use mathlib.Core.List.{List, [], _∷_}
+use native.Mathlib.Omega.{arith}
+use Rattle.net.specs.Choice.{choose}
+use Rattle.readers.specs.Reader.{Fault, Parsed, got, fault, Reader, pure, andThen, _>>=_, _>>_, turns, each}
+use Rattle.readers.specs.Reader.{alternative, numbered, require}
+
+-- an outcome is good: P holds of the value, or N of the fault's number
+pub data Fine {A : Type 0} (N : ℕ → Type 0) (P : A → Type 0) : Parsed A → Type 0 where
+  value : {a : A} {q : ℕ} → P a → Fine N P (got a q)
+  stopped : {f : Fault} → N (f .number) → Fine N P (fault f)
+
+-- every outcome of the reader is good
+pub record Gives {A : Type 0} (N : ℕ → Type 0) (m : Reader A) (P : A → Type 0) : Type 0 where
+  pub run : (s : List ℕ) (p : ℕ) → Fine N P (m s p)
+
+module _ {N : ℕ → Type 0} {A : Type 0} where
+  pub gives-pure : (P : A → Type 0) (a : A) → P a → Gives N (pure a) P
+  unfolding pure
+  gives-pure P a h = record { run = λ s p. value h }
+
+  fine-weaken : {P Q : A → Type 0} {o : Parsed A} → ((a : A) → P a → Q a) → Fine N P o → Fine N Q o
+  fine-weaken f (value {a} h) = value (f a h)
+  fine-weaken f (stopped l) = stopped l
+
+  pub gives-weaken : {P Q : A → Type 0} {m : Reader A} → Gives N m P → ((a : A) → P a → Q a) → Gives N m Q
+  gives-weaken g f = record { run = λ s p. fine-weaken f (g .run s p) }
+
+module _ {N : ℕ → Type 0} {A B : Type 0} where
+  fine-then :
+      {P : A → Type 0} {Q : B → Type 0} {o : Parsed A} (f : A → Reader B) (s : List ℕ) → Fine N P o
+      → ((a : A) → P a → Gives N (f a) Q) → Fine N Q (andThen o s f)
+  unfolding andThen
+  fine-then f s (value {a} {q} h) g = g a h .run s q
+  fine-then f s (stopped l) g = stopped l
+
+  pub gives-then :
+      {P : A → Type 0} {Q : B → Type 0} {m : Reader A} {f : A → Reader B} → Gives N m P
+      → ((a : A) → P a → Gives N (f a) Q) → Gives N (m >>= f) Q
+  unfolding _>>=_
+  gives-then {f} g h = record { run = λ s p. fine-then f s (g .run s p) h }
+
+  pub gives-and :
+      {P : A → Type 0} {Q : B → Type 0} {m : Reader A} {f : Reader B} → Gives N m P
+      → ((a : A) → P a → Gives N f Q) → Gives N (m >> f) Q
+  unfolding _>>_
+  gives-and g h = gives-then g h
+
+-- ---- turns: the invariant speaks of the number of turns done
+module _ {N : ℕ → Type 0} {A : Type 0} (Inv : ℕ → A → Type 0) (n : ℕ) (f : ℕ → A → Reader A)
+    (again : (i : ℕ) → i < n → (a : A) → Inv i a → Gives N (f i a) (Inv (suc i))) where
+  gives-turns : (k i : ℕ) (a : A) → k + i ≡ n → Inv i a → Gives N (turns k i f a) (Inv n)
+  unfolding turns
+  gives-turns zero i a e h =
+      let z : i ≡ n = omega arith in gives-pure (Inv n) a (subst (λ (m : ℕ). Inv m a) z h)
+  gives-turns (suc k) i a e h =
+      gives-then (again i (omega arith) a h) (λ b g. gives-turns k (suc i) b (omega arith) g)
+
+  pub gives-each : (a : A) → Inv 0 a → Gives N (each n f a) (Inv n)
+  unfolding each
+  gives-each a h = gives-turns n 0 a (omega arith) h
+
+-- ---- alternatives, one by one
+module _ {N : ℕ → Type 0} {A : Type 0} (P : A → Type 0) where
+  pub gives-last : (last : Reader A) (k : ℕ) → Gives N last P → Gives N (alternative [] last k) P
+  unfolding alternative
+  gives-last last k g = g
+
+  pub gives-first :
+      (r : Reader A) (rs : List (Reader A)) (last : Reader A) (k : ℕ) → Gives N r P
+      → ((j : ℕ) → k ≡ suc j → Gives N (alternative rs last j) P) → Gives N (alternative (r ∷ rs) last k) P
+  unfolding alternative
+  gives-first r rs last zero g h = g
+  gives-first r rs last (suc j) g h = h j refl
+
+  pub gives-choice : (b : Bool) (m r : Reader A) → Gives N m P → Gives N r P → Gives N (choose b m r) P
+  unfolding choose
+  gives-choice true m r g h = g
+  gives-choice false m r g h = h
+
+-- ---- a test
+pub fine-unless :
+    {N : ℕ → Type 0} {A : Type 0} (P : A → Type 0) (b : Bool) (o : Parsed A) (n : ℕ) → N n → (b ≡ true → Fine N P o)
+    → Fine N P (choose b o (fault (numbered n)))
+unfolding choose numbered
+fine-unless P true o n l h = h refl
+fine-unless P false o n l h = stopped l
+
+pub gives-require : {N : ℕ → Type 0} (ok : Bool) (n : ℕ) → N n → Gives N (require ok n) (λ _. ok ≡ true)
+unfolding require
+gives-require ok n l = record { run = λ s p. fine-unless (λ _. ok ≡ true) ok (got tt p) n l (λ e. value e) }
