@@ -2,16 +2,10 @@
 -- register says of an image and its picks. The bytes are those of edges.bin, which the program works through as well
 -- (compared in tests/tests/edges.rs).
 use Prim.Native.Nat.{ℕ}
-use Prim.Native.Char.{code}
-use Prim.Native.String.{String, [] as empty, _∷_ as _then_}
-use mathlib.Core.List.{List, [], _∷_}
+use mathlib.Core.List.{[], _∷_}
 use mathlib.Core.Path.{_≡_}
-use Rattle.run.specs.Register.{registerOf}
-
--- the bytes of a text
-unfoldable pub bytes : String → List ℕ
-bytes empty = []
-bytes (c then s) = code c ∷ bytes s
+use Rattle.text.specs.Bytes.{bytes}
+use Rattle.registers.specs.Register.{registerOf}
 
 pub record StarredEdges : Type 0 where
   -- No bytes: 28.

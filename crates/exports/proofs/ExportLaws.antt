@@ -2,8 +2,9 @@
 use Prim.Native.Nat.{ℕ}
 use mathlib.Core.Path.{_≡_, sym, ap, _∙_}
 use Rattle.run.specs.declared.run.Finished.{Finished}
-use Rattle.run.specs.declared.register.Registered.{Registered}
-use Rattle.run.specs.Calls.{finishNumber, registeredLength}
+use Rattle.run.specs.Calls.{finishNumber}
+use Rattle.registers.specs.declared.register.Registered.{Registered}
+use Rattle.registers.specs.Calls.{registeredLength}
 
 pub number-as : (d e : Finished) (r : ℕ) → d ≡ e → r ≡ finishNumber (d .finish) → r ≡ finishNumber (e .finish)
 number-as d e r p q = q ∙ ap (λ (z : Finished). finishNumber (z .finish)) p

@@ -1,14 +1,15 @@
-// The two public calls of `run` for programs in other languages: numbers and byte slices alone. include/cavindorum.h
+// The public calls of `run` and `registers` for programs in other languages: numbers and byte slices alone. include/cavindorum.h
 // declares them for C.
-use run::register::Registered;
-use run::register::register;
+use registers::register::Registered;
+use registers::register::register;
 use run::run::Finish;
 use run::run::run;
 ghost use mathlib.Core.Path.{_≡_};
 ghost use lib.ListN.{length};
 ghost use Rattle.text.specs.Buffer.{over};
-ghost use Rattle.run.specs.Calls.{finishedOf, finishNumber, answersIn, registeredOf, registeredLength};
-ghost use Rattle.run.specs.Register.{registerOf};
+ghost use Rattle.run.specs.Calls.{finishedOf, finishNumber, answersIn};
+ghost use Rattle.registers.specs.Calls.{registeredOf, registeredLength};
+ghost use Rattle.registers.specs.Register.{registerOf};
 ghost use Rattle.run.specs.Run.{runOf};
 
 // The paper's number of how a run ended.

@@ -5,17 +5,9 @@ use files::print_first;
 use files::read_file;
 use files::say;
 use image::reader::LONGEST_IMAGE;
-use run::register::Registered;
-use run::register::register;
-ghost use mathlib.Core.Path.{_≡_};
-ghost use lib.ListN.{length};
-
-// Room for every register (proved: `LongestRegister`).
-fn room() -> [u8; 1300000]
-    ensures { λ r. ⌜ 1300000 ≡ length r ⌝ }
-{
-    [0; 1300000]
-}
+use registers::register::Registered;
+use registers::register::register;
+use registers::room::room;
 
 // Prints the register, made in the lent buffer.
 fn print_register(image: &[u8], picks: &[u8], out: &mut [u8]) {

@@ -1,7 +1,6 @@
 -- What the public calls give, and what they leave in the lent buffer, at every input.
 pub use Rattle.run.specs.declared.run.Finish.{Finish}
 pub use Rattle.run.specs.declared.run.Finished.{Finished}
-pub use Rattle.run.specs.declared.register.Registered.{Registered}
 use Prim.Native.Nat.{ℕ}
 use mathlib.Core.List.{List}
 use lib.ListN.{length}
@@ -9,9 +8,8 @@ use lib.Dec.{leb}
 use Rattle.net.specs.Choice.{choose}
 use Rattle.net.specs.Records.{emptyNet}
 use Rattle.run.specs.Types.{Net}
-use Rattle.run.specs.Run.{Outcome, refused, ran}
+use Rattle.run.specs.Run.{Outcome, refused, ran, numbers}
 use Rattle.text.specs.Buffer.{over}
-use Rattle.run.specs.Run.{numbers}
 
 -- the paper's number of how a run ended: 21 to 30 for a refused image, 35 for a buffer that is too short
 unfoldable pub finishNumber : Finish → ℕ
@@ -33,20 +31,3 @@ unfoldable pub answersIn : Outcome → List ℕ → List ℕ
 answersIn (refused f) buffer = buffer
 answersIn (ran r) buffer =
     choose (leb (length (r .answers)) (length buffer)) (over buffer 0 (numbers r)) buffer
-
--- a register's length, or 35 where the buffer is too short for it: then the buffer holds as much of it as fits
-unfoldable pub registeredOf : List ℕ → ℕ → Registered
-registeredOf text room = choose (leb (length text) room) (Registered.Written (length text)) Registered.NoRoom
-
--- the paper's number of that answer, and what it is by the two lengths alone
-unfoldable pub registeredNumber : Registered → ℕ
-registeredNumber (Registered.Written n) = 0
-registeredNumber Registered.NoRoom = 35
-
-unfoldable pub roomNumber : ℕ → ℕ → ℕ
-roomNumber n room = choose (leb n room) 0 35
-
--- its length, 0 where it was not written whole: every register has a line
-unfoldable pub registeredLength : Registered → ℕ
-registeredLength (Registered.Written n) = n
-registeredLength Registered.NoRoom = 0

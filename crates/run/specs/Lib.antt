@@ -1,5 +1,4 @@
 pub mod Calls
 pub mod Making
-pub mod Register
 pub mod Run
 pub mod Types

@@ -1,5 +1,2 @@
-// Runs: an image read, then picks made one after another, and the register of it all.
-mod lines;
-pub mod register;
+// Runs: an image read, then picks made one after another.
 pub mod run;
-mod words;

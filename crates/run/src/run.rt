@@ -39,7 +39,7 @@ pub struct Finished {
 
 // Makes each pick, and leaves its answer in the buffer. The net stays in one place: a pick copies the two
 // nodes and the instruction that it concerns, and the code only where it sends some.
-pub(crate) fn make(start: Net, picks: &[u8], answers: &mut [u8]) -> Net
+pub fn make(start: Net, picks: &[u8], answers: &mut [u8]) -> Net
     requires { ⌜ Startable start × (length (now picks) ≤ length (now answers)) ⌝ }
     ensures { λ r. ⌜ Made start (now (picks .entry)) (now (answers .entry)) (now (answers .exit)) r ⌝ }
 {

@@ -1,4 +1,5 @@
 pub mod Buffer
+pub mod Bytes
 pub mod Decimal
 pub mod Joined
 pub mod Signed

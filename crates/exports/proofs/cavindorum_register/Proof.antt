@@ -1,6 +1,6 @@
 -- `exports::cavindorum_register` meets its contract. Assumes nothing.
 use Rattle.exports.proofs.ExportLaws.{length-as}
-use Rattle.run.specs.Calls.{registeredLength}
+use Rattle.registers.specs.Calls.{registeredLength}
 use borrow.Author.Needs.{needs}
 use Rattle.exports.proofs.cavindorum_register.Statement.{statement}
 use Rattle.exports.proofs.cavindorum_register.Tie as tie

@@ -1,0 +1,222 @@
+-- The claim of `specs/Longest.antt`. Numbers have at most 20 digits; those of a `pick` line fewer.
+-- Assumes nothing.
+use Prim.Native.Nat.{ℕ, zero, suc, _+_, _*_, _/_, _%_, _^_, _<_, _≤_}
+use mathlib.Core.Path.{_≡_, ap, _∙_}
+use mathlib.Core.List.{List, [], _∷_, _++_, map}
+use native.Mathlib.Omega.{arith}
+use native.Mathlib.Nat.{pow-suc, suc-mul, mul-le-mul-right, le-trans}
+use lib.ListN.{length, getD, take, length-append, length-take}
+use lib.Dec.{ltb}
+use lib.IntN.{ℤ}
+use Rattle.text.specs.Bytes.{bytes}
+use Rattle.text.specs.Decimal.{digit, digits, decimal, signedDecimal}
+use Rattle.text.specs.Joined.{joined}
+use Rattle.net.specs.Records.{fieldAt, tupleAt, nodeAt, addressOf}
+use Rattle.net.proofs.Every.{chosen, chosen-lt}
+use Rattle.step.specs.Answer.{numberOf}
+use Rattle.step.specs.Pick.{hostOf, slotOf}
+use Rattle.run.specs.Run.{Ran, Outcome, refused, ran, numbers}
+use Rattle.registers.specs.Types.{Locality, Item, Tuple, Node, Net, Fault, Answer}
+use Rattle.registers.specs.Words.{Word, name, number, wordText, spaced, lineText, printed}
+use Rattle.registers.specs.Shown.{plain}
+use Rattle.registers.specs.Lines.{fewer, refusedLine, netLine, pickLine, madeLine, nodeLine, itemWord, fieldWords}
+use Rattle.registers.specs.Lines.{tupleLine, tupleLines, nodeLines, netLines, pickLines, registerLines}
+use Rattle.registers.specs.Register.{registerIn, registerOf}
+use Rattle.registers.specs.Longest.{longest, LongestRegister}
+use Rattle.registers.proofs.WordLaws.{spaced-none, spaced-both, printed-none, printed-both}
+
+-- ---- numbers
+digits-short : (k n : ℕ) → length (digits k n) ≤ k
+unfolding digits
+digits-short zero n = omega arith
+digits-short (suc k) n =
+    chosen (λ (t : List ℕ). length t ≤ suc k) (ltb n 10) _ _ (λ _. omega arith)
+    (λ _. let inner = digits-short k (n / 10) in
+    let whole = length-append (digits k (n / 10)) (digit (n % 10) ∷ []) in omega (arith, inner, whole))
+
+-- of a number below a power of ten
+digits-below : (k j n : ℕ) → n < 10 ^ suc j → length (digits k n) ≤ suc j
+unfolding digits
+digits-below zero j n h = omega arith
+digits-below (suc k) zero n h =
+    chosen-lt (λ (t : List ℕ). length t ≤ 1) n 10 _ _ (λ _. omega arith) (λ l. absurd (omega arith))
+digits-below (suc k) (suc j) n h =
+    let power : 10 ^ suc (suc j) ≡ 10 ^ suc j * 10 = pow-suc 10 (suc j) in
+    let inner = digits-below k j (n / 10) (omega (arith, power)) in
+    let whole = length-append (digits k (n / 10)) (digit (n % 10) ∷ []) in
+    chosen (λ (t : List ℕ). length t ≤ suc (suc j)) (ltb n 10) _ _ (λ _. omega arith) (λ _. omega (arith, inner, whole))
+
+decimal-short : (n : ℕ) → length (decimal n) ≤ 20
+unfolding decimal
+decimal-short n = digits-short 20 n
+
+decimal-below : (j n : ℕ) → n < 10 ^ suc j → length (decimal n) ≤ suc j
+unfolding decimal
+decimal-below j n h = digits-below 20 j n h
+
+fewer-below : (count size : ℕ) → fewer count size ≤ size
+unfolding fewer
+fewer-below count size = chosen-lt (λ (n : ℕ). n ≤ size) count size _ _ (λ l. omega arith) (λ l. omega arith)
+
+-- ---- words
+item-short : (x : Item) → length (wordText (itemWord x)) ≤ 21
+unfolding wordText itemWord signedDecimal
+item-short (Item.Reading (ℤ.pos n)) = omega (arith, decimal-short n)
+item-short (Item.Reading (ℤ.negsuc n)) = omega (arith, decimal-short (n + 1))
+item-short (Item.Address l) = omega (arith, decimal-short (l .0))
+
+no-words : length (spaced []) ≤ 0
+unfolding spaced
+no-words = omega arith
+
+word-more :
+    (w : Word) (ws : List Word) (m rest : ℕ) → length (wordText w) ≤ m → length (spaced ws) ≤ rest
+    → length (spaced (w ∷ ws)) ≤ suc m + rest
+unfolding spaced
+word-more w ws m rest h g = omega (arith, length-append (wordText w) (spaced ws))
+
+number-more : (n : ℕ) (ws : List Word) (rest : ℕ) → length (spaced ws) ≤ rest → length (spaced (number n ∷ ws)) ≤ 21 + rest
+unfolding wordText
+number-more n ws rest h = word-more (number n) ws 20 rest (decimal-short n) h
+
+number-below :
+    (j n : ℕ) (ws : List Word) (rest : ℕ) → n < 10 ^ suc j → length (spaced ws) ≤ rest
+    → length (spaced (number n ∷ ws)) ≤ suc (suc j) + rest
+unfolding wordText
+number-below j n ws rest h g = word-more (number n) ws (suc j) rest (decimal-below j n h) g
+
+line-short :
+    (text : List ℕ) (ws : List Word) (m : ℕ) → length (spaced ws) ≤ m
+    → length (printed ((name text ∷ ws) ∷ [])) ≤ length text + m + 1
+unfolding printed lineText wordText
+line-short text ws m h =
+    let words = length-append (spaced ws) (10 ∷ []) in
+    let line = length-append text (spaced ws ++ 10 ∷ []) in
+    let whole = length-append (text ++ (spaced ws ++ 10 ∷ [])) [] in
+    omega (arith, words, line, whole)
+
+-- ---- parts, one after another
+module _ {B : Type 0} (g : List B → List ℕ) (none : g [] ≡ []) (both : (a b : List B) → g (a ++ b) ≡ g a ++ g b) where
+  two-short : (a b : List B) (m n : ℕ) → length (g a) ≤ m → length (g b) ≤ n → length (g (a ++ b)) ≤ m + n
+  two-short a b m n h k =
+      let whole = ap length (both a b) ∙ length-append (g a) (g b) in
+      omega (arith, whole)
+
+  parts-short : (n m : ℕ) (f : ℕ → List B) → ((i : ℕ) → i < n → length (g (f i)) ≤ m) → length (g (joined n f)) ≤ n * m
+  unfolding joined
+  parts-short zero m f h = omega (arith, ap length none)
+  parts-short (suc n) m f h =
+      let before = parts-short n m f (λ i l. h i (omega arith)) in
+      let last = two-short (joined n f) (f n) (n * m) m before (h n (omega arith)) in
+      let product : suc n * m ≡ n * m + m = suc-mul n m in
+      omega (arith, last, product)
+
+  -- so many at most
+  some-short :
+      (count size m : ℕ) (f : ℕ → List B) → ((i : ℕ) → i < size → length (g (f i)) ≤ m)
+      → length (g (joined (fewer count size) f)) ≤ size * m
+  some-short count size m f h =
+      let few = fewer-below count size in
+      let some = parts-short (fewer count size) m f (λ i l. h i (omega (arith, few))) in
+      le-trans some (mul-le-mul-right m few)
+
+-- a line, and more after it
+lines-short :
+    (line : List Word) (lines : List (List Word)) (m n : ℕ) → length (printed (line ∷ [])) ≤ m → length (printed lines) ≤ n
+    → length (printed (line ∷ lines)) ≤ m + n
+lines-short line lines m n h k = two-short printed printed-none printed-both (line ∷ []) lines m n h k
+
+-- ---- the lines
+refused-short : (f : Fault) → length (printed (refusedLine plain f ∷ [])) ≤ 29
+unfolding refusedLine bytes
+refused-short f = line-short _ _ 21 (number-more _ _ 0 no-words)
+
+net-short : (n k : ℕ) → length (printed (netLine n k ∷ [])) ≤ 46
+unfolding netLine bytes
+net-short n k = line-short _ _ 42 (number-more _ _ 21 (number-more _ _ 0 no-words))
+
+node-short : (a : Locality) (n busy : ℕ) → length (printed (nodeLine plain a n busy ∷ [])) ≤ 68
+unfolding nodeLine bytes
+node-short a n busy = line-short _ _ 63 (number-more _ _ 42 (number-more _ _ 21 (number-more _ _ 0 no-words)))
+
+made-short : (i b x : ℕ) → i < 100000 → b < 256 → x < 100 → length (printed (madeLine i b x ∷ [])) ≤ 19
+unfolding madeLine pickLine hostOf slotOf bytes
+made-short i b x h g l =
+    line-short _ _ 14
+    (number-below 4 i _ 8 h
+    (number-below 1 (b / 16) _ 5 (omega arith)
+    (number-below 0 (b / 4 % 4) _ 3 (omega arith) (number-below 1 x _ 0 l no-words))))
+
+fields-short : (t : Tuple) → length (spaced (fieldWords t)) ≤ 88
+unfolding fieldWords
+fields-short t =
+    some-short spaced spaced-none spaced-both (t .count) 4 22 _ (λ i _. word-more _ _ 21 0 (item-short (fieldAt t i)) no-words)
+
+tuple-short : (a : Locality) (t : Tuple) → length (printed (tupleLine plain a t ∷ [])) ≤ 115
+unfolding tupleLine bytes
+tuple-short a t = line-short _ _ 109 (number-more _ _ 88 (fields-short t))
+
+tuples-short : (a : Locality) (x : Node) → length (printed (tupleLines plain a x)) ≤ 1840
+unfolding tupleLines
+tuples-short a x =
+    some-short printed printed-none printed-both (x .stored) 16 115 _ (λ i _. tuple-short a (tupleAt x i))
+
+node-lines-short : (a : Locality) (x : Node) → length (printed (nodeLines plain a x)) ≤ 1908
+unfolding nodeLines
+node-lines-short a x = lines-short _ _ 68 1840 (node-short a _ _) (tuples-short a x)
+
+net-lines-short : (s : Net) → length (printed (netLines plain s)) ≤ 30528
+unfolding netLines
+net-lines-short s =
+    some-short printed printed-none printed-both (s .addresses) 16 1908 _
+    (λ a _. node-lines-short (addressOf a) (nodeAt s (addressOf a)))
+
+-- ---- the picks
+number-small : (x : Answer) → numberOf x < 100
+unfolding numberOf
+number-small Answer.Performed = omega arith
+number-small Answer.Ended = omega arith
+number-small Answer.NoTuple = omega arith
+number-small Answer.NoRoom = omega arith
+number-small Answer.NoRight = omega arith
+number-small Answer.NotWithin = omega arith
+number-small Answer.NotSet = omega arith
+number-small Answer.FreeSlot = omega arith
+number-small Answer.NotInUse = omega arith
+number-small Answer.Malformed = omega arith
+number-small Answer.Unsound = omega arith
+
+answers-small : (xs : List Answer) (i : ℕ) → getD (map numberOf xs) i 0 < 100
+answers-small [] i = omega arith
+answers-small (x ∷ xs) zero = number-small x
+answers-small (x ∷ xs) (suc i) = answers-small xs i
+
+take-small : (picks : List ℕ) (n : ℕ) → ((i : ℕ) → getD picks i 0 < 256) → (i : ℕ) → getD (take n picks) i 0 < 256
+take-small picks zero h i = omega arith
+take-small [] (suc n) h i = omega arith
+take-small (b ∷ bs) (suc n) h zero = h 0
+take-small (b ∷ bs) (suc n) h (suc i) = take-small bs n (λ j. h (suc j)) i
+
+picks-short :
+    (picks : List ℕ) (r : Ran) → length picks ≤ 65536 → ((i : ℕ) → getD picks i 0 < 256)
+    → length (printed (pickLines picks (numbers r))) ≤ 1245184
+unfolding pickLines numbers
+picks-short picks r h g =
+    let each = parts-short printed printed-none printed-both (length picks) 19 _
+    (λ i l. made-short (i + 1) _ _ (omega arith) (g i) (answers-small (r .answers) i)) in
+    le-trans each (mul-le-mul-right 19 h)
+
+register-short :
+    (s : Net) (picks : List ℕ) (x : Outcome) → length picks ≤ 65536 → ((i : ℕ) → getD picks i 0 < 256)
+    → length (registerIn s picks x) ≤ longest
+unfolding registerIn registerLines longest
+register-short s picks (refused f) h g = omega (arith, refused-short f)
+register-short s picks (ran r) h g =
+    let rest = two-short printed printed-none printed-both _ _ _ _ (picks-short picks r h g) (net-lines-short (r .net)) in
+    let whole = lines-short _ _ 46 _ (net-short (s .addresses) (s .length)) rest in
+    omega (arith, whole)
+
+pub longestRegister : LongestRegister
+unfolding LongestRegister registerOf
+longestRegister image picks h =
+    register-short _ (take 65536 picks) _ (omega (arith, length-take 65536 picks)) (take-small picks 65536 h)

@@ -1,0 +1,158 @@
+-- Laws by which the writing of a register meets its definitions (`specs/Register.antt`, `specs/Calls.antt`).
+-- Assumes nothing.
+use Prim.Native.Nat.{ℕ, _+_, _<_, _≤_}
+use mathlib.Core.Path.{_≡_, refl, sym, ap, subst, _∙_}
+use mathlib.Core.Bool.{Bool, true, false}
+use mathlib.Core.List.{List, [], _∷_}
+use native.Mathlib.Omega.{arith}
+use native.Mathlib.Decide.{decLe}
+use lib.ListN.{length, getD, take, length-map, List·getD-append}
+use lib.Seq.{sets-eq, take-all, take-length, length-take-le}
+use lib.Dec.{leb}
+use borrow.Author.Tests.{le-leb, lt-leb}
+use Rattle.net.specs.Choice.{choose}
+use Rattle.net.specs.Records.{processCount}
+use Rattle.net.proofs.Laws.{choose-true, choose-false}
+use Rattle.text.specs.Buffer.{over}
+use Rattle.text.specs.Writing.{Wrote}
+use Rattle.text.proofs.WritingLaws.{wrote-length, joined-same}
+use Rattle.image.specs.Image.{openedOf}
+use Rattle.step.specs.Answer.{numberOf}
+use Rattle.step.specs.Pick.{hostOf, slotOf}
+use Rattle.run.specs.Run.{Outcome, ran, ranFrom, runOf, numbers}
+use Rattle.run.specs.Making.{Made}
+use Rattle.run.proofs.CallLaws.{ran-is, refused-is, answers-length}
+use Rattle.registers.specs.Types.{Locality, Node, Net, Fault, Opened, Verdict}
+use Rattle.registers.specs.Words.{Word, printed}
+use Rattle.registers.specs.Shown.{plain}
+use Rattle.registers.specs.Lines.{refusedLine, netLine, pickLine, madeLine, nodeLine}
+use Rattle.registers.specs.Lines.{tupleLines, nodeLines, netLines, pickLines, registerLines}
+use Rattle.registers.specs.Register.{registerIn, registerOf}
+use Rattle.registers.specs.Calls.{Registered, registeredOf, registeredNumber, roomNumber}
+use Rattle.registers.proofs.WordLaws.{printed-none, printed-both, parts-then, lines-then}
+
+-- ---- lines whose numbers a callee gave
+pub made-line :
+    (xs : List ℕ) (at i b x : ℕ) (a : Locality) (k : ℕ) (ys : List ℕ) (r : ℕ) → a ≡ hostOf b → k ≡ slotOf b
+    → Wrote xs at (printed (pickLine i a k x ∷ [])) ys r → Wrote xs at (printed (madeLine i b x ∷ [])) ys r
+unfolding madeLine
+made-line xs at i b x a k ys r d e h = rw (← d, ← e) h
+
+pub node-lines :
+    (xs : List ℕ) (at : ℕ) (a : Locality) (x : Node) (busy : ℕ) (ys zs : List ℕ) (r q : ℕ) → busy ≡ processCount x
+    → Wrote xs at (printed (nodeLine plain a (x .stored) busy ∷ [])) ys r → Wrote ys r (printed (tupleLines plain a x)) zs q
+    → Wrote xs at (printed (nodeLines plain a x)) zs q
+unfolding nodeLines
+node-lines xs at a x busy ys zs r q e h k =
+    lines-then xs at _ _ _ _ _ _ (subst (λ (n : ℕ). Wrote xs at (printed (nodeLine plain a (x .stored) n ∷ [])) ys r) e h) k
+
+-- ---- a register
+chosen-number : (b : Bool) (n : ℕ) → registeredNumber (choose b (Registered.Written n) Registered.NoRoom) ≡ choose b 0 35
+unfolding choose registeredNumber
+chosen-number true n = refl
+chosen-number false n = refl
+
+by-lengths : (text : List ℕ) (room : ℕ) → registeredNumber (registeredOf text room) ≡ roomNumber (length text) room
+unfolding registeredOf roomNumber
+by-lengths text room = chosen-number (leb (length text) room) (length text)
+
+module _ (xs text ys : List ℕ) (r : ℕ) (w : Wrote xs 0 text ys r) where
+  pub written-whole : r ≤ length ys → Registered.Written r ≡ registeredOf text (length xs)
+  unfolding registeredOf
+  written-whole h =
+      let long = wrote-length xs 0 text ys r w in
+      let fits : length text ≤ length xs = fitting (decLe (length text) (length xs)) (omega (arith, long)) in
+      let end : r ≡ length text = w .fits (omega arith) ∙ omega arith in
+      ap Registered.Written end ∙ sym (choose-true _ _ _ (le-leb _ _ fits))
+    where
+      fitting : Dec (length text ≤ length xs) → r ≤ length xs → length text ≤ length xs
+      fitting (yes f) g = f
+      fitting (no f) g = absurd (let past = w .full (omega arith) in omega arith)
+
+  pub written-cut : length ys < r → Registered.NoRoom ≡ registeredOf text (length xs)
+  unfolding registeredOf
+  written-cut h =
+      let long = wrote-length xs 0 text ys r w in
+      sym (choose-false _ _ _ (lt-leb _ _ (cutting (decLe (length text) (length xs)) (omega (arith, long)))))
+    where
+      cutting : Dec (length text ≤ length xs) → length xs < r → length xs < length text
+      cutting (yes f) g = absurd (let here = w .fits (omega arith) in omega arith)
+      cutting (no f) g = omega arith
+
+  -- and its number
+  pub whole-number : r ≤ length ys → registeredNumber (Registered.Written r) ≡ roomNumber (length text) (length xs)
+  whole-number h = ap registeredNumber (written-whole h) ∙ by-lengths text (length xs)
+
+  pub cut-number : length ys < r → registeredNumber Registered.NoRoom ≡ roomNumber (length text) (length xs)
+  cut-number h = ap registeredNumber (written-cut h) ∙ by-lengths text (length xs)
+
+-- the answers that the buffer holds are those of the run
+over-at : (xs text : List ℕ) (i : ℕ) → length text ≤ length xs → i < length text → getD (over xs 0 text) i 0 ≡ getD text i 0
+unfolding over
+over-at xs text i h g =
+    ap (λ (ys : List ℕ). getD ys i 0) (sets-eq text xs 0 (omega arith)) ∙ List·getD-append text _ 0 i g
+
+module _ (s : Net) (picks xs ys : List ℕ) (last : Net) (m : Made s picks xs ys last) (room : length picks ≤ length xs) where
+  numbers-length : length (numbers (ranFrom s picks)) ≡ length picks
+  unfolding numbers
+  numbers-length = length-map (ranFrom s picks .answers) numberOf ∙ answers-length s picks
+
+  lines-same : pickLines picks ys ≡ pickLines picks (numbers (ranFrom s picks))
+  unfolding pickLines
+  lines-same =
+      joined-same (length picks) _ _
+      (λ i h. ap (λ (x : ℕ). madeLine (i + 1) (getD picks i 0) x ∷ [])
+      (ap (λ (zs : List ℕ). getD zs i 0) (m .left-is)
+      ∙ over-at xs _ i (omega (arith, numbers-length)) (omega (arith, numbers-length))))
+
+  pub register-run :
+      (out₀ out₁ out₂ out₃ : List ℕ) (p q r : ℕ)
+      → Wrote out₀ 0 (printed (netLine (s .addresses) (s .length) ∷ [])) out₁ p
+      → Wrote out₁ p (printed (pickLines picks ys)) out₂ q
+      → Wrote out₂ q (printed (netLines plain last)) out₃ r
+      → Wrote out₀ 0 (registerIn s picks (ran (ranFrom s picks))) out₃ r
+  unfolding registerIn registerLines
+  register-run out₀ out₁ out₂ out₃ p q r a b c =
+      lines-then _ _ _ _ _ _ _ _ a
+      (parts-then printed printed-none printed-both _ _ _ _ _ _ _ _
+      (subst (λ (t : List (List Word)). Wrote out₁ p (printed t) out₂ q) lines-same b)
+      (subst (λ (z : Net). Wrote out₂ q (printed (netLines plain z)) out₃ r) (m .net-is) c))
+
+module _ (image picks : List ℕ) (o : Opened) (read : o ≡ openedOf image) (xs ys : List ℕ) (r : ℕ) where
+  -- what a register says, of the outcome that the image has
+  accepted-register :
+      (x : Outcome) → x ≡ runOf image (take 65536 picks) → Wrote xs 0 (registerIn (o .net) (take 65536 picks) x) ys r
+      → Wrote xs 0 (registerOf image picks) ys r
+  unfolding registerOf
+  accepted-register x e w =
+      subst (λ (z : Outcome). Wrote xs 0 (registerIn (openedOf image .net) (take 65536 picks) z) ys r) e
+      (subst (λ (z : Opened). Wrote xs 0 (registerIn (z .net) (take 65536 picks) x) ys r) read w)
+
+  pub register-accepted :
+      o .answer ≡ Verdict.Accepted
+      → Wrote xs 0 (registerIn (o .net) (take 65536 picks) (ran (ranFrom (o .net) (take 65536 picks)))) ys r
+      → Wrote xs 0 (registerOf image picks) ys r
+  register-accepted a w = accepted-register _ (ran-is image o read (take 65536 picks) a) w
+
+  pub register-refused :
+      (f : Fault) → o .answer ≡ Verdict.Refused f → Wrote xs 0 (printed (refusedLine plain f ∷ [])) ys r
+      → Wrote xs 0 (registerOf image picks) ys r
+  unfolding registerIn registerLines
+  register-refused f a w = accepted-register _ (refused-is image o read (take 65536 picks) f a) w
+
+-- ---- the picks that count
+pub first-all : (picks : List ℕ) → length picks < 65536 → take (length picks) picks ≡ take 65536 picks
+first-all picks h = take-length picks ∙ sym (take-all 65536 picks (omega arith))
+
+module _ (picks : List ℕ) (n : ℕ) where
+  pub first-count : n ≤ length picks → n ≡ length (take n picks)
+  first-count h = sym (length-take-le n picks h)
+
+  pub first-few : n ≤ length picks → n ≤ 65536 → length (take n picks) ≤ 65536
+  first-few h g = omega (arith, first-count h)
+
+  pub register-first :
+      (s : Net) (xs ys : List ℕ) (r : ℕ) → take n picks ≡ take 65536 picks
+      → Wrote xs 0 (registerIn s (take n picks) (ran (ranFrom s (take n picks)))) ys r
+      → Wrote xs 0 (registerIn s (take 65536 picks) (ran (ranFrom s (take 65536 picks)))) ys r
+  register-first s xs ys r e w = subst (λ (p : List ℕ). Wrote xs 0 (registerIn s p (ran (ranFrom s p))) ys r) e w

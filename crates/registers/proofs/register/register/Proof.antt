@@ -1,0 +1,15 @@
+-- `registers::register::register` meets its contract. Assumes nothing.
+use Rattle.registers.proofs.RegisterLaws.{written-whole, written-cut, whole-number, cut-number}
+use borrow.Author.Needs.{needs}
+use Rattle.registers.proofs.register.register.Statement.{statement}
+use Rattle.registers.proofs.register.register.Tie as tie
+
+pub register-spec : {M : Type 1} → statement M
+register-spec =
+    tie.close
+    (tie.spec
+    (λ c κs. search needs)
+    (λ c. search needs)
+    (λ c. (search (needs, written-whole, written-cut), (search (needs, whole-number, cut-number), search needs)))
+    (λ c. search needs)
+    (λ c. (search (needs, written-whole, written-cut), (search (needs, whole-number, cut-number), search needs))))

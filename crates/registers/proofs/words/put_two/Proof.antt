@@ -1,0 +1,14 @@
+-- `registers::words::put_two` meets its contract. Assumes nothing.
+use Rattle.registers.proofs.WordLaws.{spaced-two}
+use borrow.Author.Needs.{needs}
+use Rattle.registers.proofs.words.put_two.Statement.{statement}
+use Rattle.registers.proofs.words.put_two.Tie as tie
+
+pub put-two-spec : {M : Type 1} → statement M
+put-two-spec =
+    tie.close
+    (tie.spec
+    (λ c κs. search needs)
+    (λ c κs. search needs)
+    (λ c. search needs)
+    (λ c. search (needs, spaced-two)))

@@ -1,0 +1,70 @@
+-- The lines of a register (document 01, "The register").
+use Prim.Native.Nat.{ℕ, _+_}
+use mathlib.Core.List.{List, [], _∷_, _++_}
+use lib.ListN.{getD, length}
+use lib.Dec.{ltb}
+use Rattle.text.specs.Bytes.{bytes}
+use Rattle.text.specs.Joined.{joined}
+use Rattle.net.specs.Choice.{choose}
+use Rattle.net.specs.Records.{fieldAt, tupleAt, nodeAt, addressOf, processCount}
+use Rattle.step.specs.Pick.{hostOf, slotOf}
+use Rattle.run.specs.Run.{Outcome, refused, ran, numbers}
+use Rattle.registers.specs.Types.{Locality, Item, Tuple, Node, Net, Fault}
+use Rattle.registers.specs.Words.{Word, name, number, reading, address}
+use Rattle.registers.specs.Shown.{Shown}
+
+-- a count, or the size of its array where the count is larger, which no sound net's is
+unfoldable pub fewer : ℕ → ℕ → ℕ
+fewer count size = choose (ltb count size) count size
+
+-- refused N
+unfoldable pub refusedLine : Shown → Fault → List Word
+refusedLine shown f = name (bytes "refused") ∷ number (f .number) ∷ []
+
+-- net, the image's address count and code length
+unfoldable pub netLine : ℕ → ℕ → List Word
+netLine n k = name (bytes "net") ∷ number n ∷ number k ∷ []
+
+-- pick, the pick's number, address, slot, answer
+unfoldable pub pickLine : ℕ → Locality → ℕ → ℕ → List Word
+pickLine i a k x = name (bytes "pick") ∷ number i ∷ number (a .0) ∷ number k ∷ number x ∷ []
+
+-- node, address, tuple count and busy slots
+unfoldable pub nodeLine : Shown → Locality → ℕ → ℕ → List Word
+nodeLine shown a stored busy = name (bytes "node") ∷ number (a .0) ∷ number stored ∷ number busy ∷ []
+
+-- a field of a tuple
+unfoldable pub itemWord : Item → Word
+itemWord (Item.Reading x) = reading x
+itemWord (Item.Address l) = address l
+
+unfoldable pub fieldWords : Tuple → List Word
+fieldWords t = joined (fewer (t .count) 4) (λ i. itemWord (fieldAt t i) ∷ [])
+
+-- tuple, address and fields
+unfoldable pub tupleLine : Shown → Locality → Tuple → List Word
+tupleLine shown a t = name (bytes "tuple") ∷ number (a .0) ∷ fieldWords t
+
+-- a node's line, followed by its tuples, oldest first
+unfoldable pub tupleLines : Shown → Locality → Node → List (List Word)
+tupleLines shown a x = joined (fewer (x .stored) 16) (λ i. tupleLine shown a (tupleAt x i) ∷ [])
+
+unfoldable pub nodeLines : Shown → Locality → Node → List (List Word)
+nodeLines shown a x = nodeLine shown a (x .stored) (processCount x) ∷ tupleLines shown a x
+
+-- each address in use, ascending
+unfoldable pub netLines : Shown → Net → List (List Word)
+netLines shown s = joined (fewer (s .addresses) 16) (λ a. nodeLines shown (addressOf a) (nodeAt s (addressOf a)))
+
+-- each pick, numbered from 1, with its answer
+unfoldable pub madeLine : ℕ → ℕ → ℕ → List Word
+madeLine i b x = pickLine i (hostOf b) (slotOf b) x
+
+unfoldable pub pickLines : List ℕ → List ℕ → List (List Word)
+pickLines picks answers = joined (length picks) (λ i. madeLine (i + 1) (getD picks i 0) (getD answers i 0) ∷ [])
+
+-- of a net and its picks, by what their run comes to: the one line of a refusal, or the net, its picks and the net after
+unfoldable pub registerLines : Shown → Net → List ℕ → Outcome → List (List Word)
+registerLines shown s picks (refused f) = refusedLine shown f ∷ []
+registerLines shown s picks (ran r) =
+    netLine (s .addresses) (s .length) ∷ (pickLines picks (numbers r) ++ netLines shown (r .net))

@@ -1,0 +1,17 @@
+-- The register of an image and its picks, of which the first 65,536 count (document 01, "The register").
+use Prim.Native.Nat.{ℕ}
+use mathlib.Core.List.{List}
+use lib.ListN.{take}
+use Rattle.image.specs.Image.{openedOf}
+use Rattle.run.specs.Run.{Outcome, runOf}
+use Rattle.registers.specs.Types.{Net}
+use Rattle.registers.specs.Words.{printed}
+use Rattle.registers.specs.Shown.{plain}
+use Rattle.registers.specs.Lines.{registerLines}
+
+-- the bytes, by what the run comes to
+unfoldable pub registerIn : Net → List ℕ → Outcome → List ℕ
+registerIn s picks outcome = printed (registerLines plain s picks outcome)
+
+unfoldable pub registerOf : List ℕ → List ℕ → List ℕ
+registerOf image picks = registerIn (openedOf image .net) (take 65536 picks) (runOf image (take 65536 picks))

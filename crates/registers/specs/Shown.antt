@@ -1,0 +1,17 @@
+-- What a listing may show beyond document 01's register.
+use mathlib.Core.Bool.{Bool, false}
+
+-- The lines take it where each part has its place. Today none is shown: no line looks at it.
+pub record Shown : Type 0 where
+  -- after the last line, `total` and the number of tuples in the net
+  pub total : Bool
+  -- in the line of a refusal, the bit at which the field at fault begins
+  pub place : Bool
+  -- at the end of a tuple's line, the address of the node that put it
+  pub mark : Bool
+  -- at the end of a node's line, its station's name
+  pub names : Bool
+
+-- document 01's register
+unfoldable pub plain : Shown
+plain = record { total = false; place = false; mark = false; names = false }
