@@ -11,26 +11,23 @@ use mir.Val.{Val}
 use denote.Array.{Array, each}
 use denote.Laws.{Is}
 use denote.Shadow.{shadow}
-use denote.Struct.Declared.{Declared, row, field}
+use denote.Struct.Declared.{Declared, field}
 use Rattle.net.proofs.Laws.{length-mapped}
 use Rattle.net.proofs.instruction.Instruction as instruction
 use Rattle.net.proofs.instruction.TemplateField as templateField
 use Rattle.net.proofs.network.Net as net
 use Rattle.net.proofs.node.Node as node
 use Rattle.net.proofs.policy.Rights as rights
 use Rattle.net.proofs.process.Process as process
 use Rattle.net.proofs.tuple.Field as tupleField
 use Rattle.net.proofs.tuple.Tuple as tuple
 use Rattle.net.proofs.tuple.Variable as variable
-use Rattle.net.specs.Records.{processAt, tupleAt, nodeAt, instructionAt}
-use Rattle.step.specs.declared.machine.Machine.{Machine}
-use Rattle.step.proofs.machine.Machine as machine
-use Rattle.step.specs.Types.{Tuple, Process, Node, Instruction, Net}
-use Rattle.step.specs.Shape.{ShapedTuple, ShapedProcess, ShapedNode, ShapedInstruction, Shaped}
+use Rattle.net.specs.Records.{Tuple, Process, Node, Instruction, Net, processAt, tupleAt, nodeAt, instructionAt}
+use Rattle.net.specs.Shape.{ShapedTuple, ShapedProcess, ShapedNode, ShapedInstruction, Shaped}
 
 -- ---- an array of a declared type
 module _ (T : Declared) where
-  long : (xs : List (T .D)) (n : ℕ) (vs : List Val) → Is (Array (field T .row) n) (map (T .to) xs) vs → length xs ≡ n
+  pub long : (xs : List (T .D)) (n : ℕ) (vs : List Val) → Is (Array (field T .row) n) (map (T .to) xs) vs → length xs ≡ n
   long xs n vs h = length-mapped (T .to) xs n (h .1 .0 .1)
 
   module _ (P : T .D → Type 0) (known : (x : T .D) (vs : List Val) → Is (field T .row) (T .to x) vs → P x) where
@@ -42,7 +39,7 @@ module _ (T : Declared) where
     at (x ∷ xs) (u ∷ us) h d zero l = known x _ (h .0)
     at (x ∷ xs) (u ∷ us) h d (suc i) l = at xs us (h .1) d i (le-of-suc-le-suc l)
 
-    element :
+    pub element :
         (xs : List (T .D)) (n : ℕ) (vs : List Val) → Is (Array (field T .row) n) (map (T .to) xs) vs
         → (d : T .D) (i : ℕ) → i < n → P (getD xs i d)
     element xs n vs h d i l = at xs (h .0) (h .1 .1) d i (omega (arith, long xs n vs h))
@@ -85,6 +82,3 @@ net-shaped s vs h =
       each-node = λ a. element node.the-type ShapedNode node-shaped (s .nodes) 16 _ nodes-known _ (a .0);
       each-instruction = λ p. element instruction.the-type ShapedInstruction instruction-shaped (s .code) 512 _ code-known _ (p .0);
     }
-
-pub machine-shaped : (m : Machine) (vs : List Val) → Is (row machine.the-type) m vs → Shaped (m .net)
-machine-shaped m vs k = net-shaped (m .net) _ (k .1 .1 .0)
