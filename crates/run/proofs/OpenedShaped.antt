@@ -12,13 +12,13 @@ use borrow.Author.Tests.{eqb-true}
 use Rattle.net.specs.Choice.{both, all}
 use Rattle.net.specs.Records.{zeroNode, zeroInstruction, emptyNet, nodeAt, instructionAt, addressOf}
 use Rattle.image.specs.Image.{openedOf}
-use Rattle.writer.specs.Fresh.{tupleFits, processFits, nodeFits, instructionFits, netFits}
+use Rattle.written.specs.Fresh.{tupleFits, processFits, nodeFits, instructionFits, netFits}
 use Rattle.net.proofs.Laws.{both-l, both-r, all-e}
 use Rattle.net.proofs.Every.{every-replicate}
-use Rattle.writer.proofs.FreshZero.{node-fit}
-use Rattle.writer.proofs.FreshNet.{zero-node-fits, zero-instruction-fits, net-fits}
-use Rattle.writer.proofs.WrittenWhole.{NetOk}
-use Rattle.writer.proofs.AcceptedWritten.{opened-ok}
+use Rattle.written.proofs.FreshZero.{node-fit}
+use Rattle.written.proofs.FreshNet.{zero-node-fits, zero-instruction-fits, net-fits}
+use Rattle.written.proofs.WrittenWhole.{NetOk}
+use Rattle.written.proofs.AcceptedWritten.{opened-ok}
 use Rattle.step.specs.Shape.{ShapedTuple, ShapedProcess, ShapedNode, ShapedInstruction, Shaped}
 use Rattle.step.proofs.SoundFacts.{pastNode, pastInstruction}
 use Rattle.run.specs.Types.{Tuple, Process, Node, Instruction, Net}

@@ -15,14 +15,14 @@ use Rattle.net.specs.Records.{fieldAt, rightsAt, processAt, tupleAt, patternAt,
 use Rattle.net.proofs.Every.{Every, every-replicate, Filled}
 use Rattle.net.proofs.Past.{pastProcess, pastTuple}
 use Rattle.image.proofs.PastRecords.{pastField, pastRights, pastTemplate, pastNode, pastInstruction}
-use Rattle.writer.proofs.WrittenRow.{RowOk}
-use Rattle.writer.proofs.WrittenProcesses.{Starts, ProcessesOk, node-is}
-use Rattle.writer.proofs.WrittenTuples.{TupleOk}
-use Rattle.writer.proofs.WrittenStore.{TuplesOk}
-use Rattle.writer.proofs.WrittenStages.{WithTuples}
-use Rattle.writer.proofs.WrittenTemplate.{TemplateOk}
-use Rattle.writer.proofs.WrittenCode.{Communicated, Evaluated, Created, Forked, Acting, InstructionOk}
-use Rattle.writer.proofs.WrittenWhole.{NetOk}
+use Rattle.written.proofs.WrittenRow.{RowOk}
+use Rattle.written.proofs.WrittenProcesses.{Starts, ProcessesOk, node-is}
+use Rattle.written.proofs.WrittenTuples.{TupleOk}
+use Rattle.written.proofs.WrittenStore.{TuplesOk}
+use Rattle.written.proofs.WrittenStages.{WithTuples}
+use Rattle.written.proofs.WrittenTemplate.{TemplateOk}
+use Rattle.written.proofs.WrittenCode.{Communicated, Evaluated, Created, Forked, Acting, InstructionOk}
+use Rattle.written.proofs.WrittenWhole.{NetOk}
 use Rattle.tenant.specs.Types.{Locality, Tuple, Row, Process, Node, Action, Instruction, Net}
 use Rattle.tenant.specs.TenantRule.{SameInstruction, SameCode, SamePolicy, SameTuple, SameTuples, SameStart, SameNode}
 use Rattle.tenant.proofs.Fence.{choose-both}

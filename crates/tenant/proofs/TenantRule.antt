@@ -16,8 +16,8 @@ use Rattle.image.specs.ImageClaims.{AcceptedIsSound}
 use Rattle.net.proofs.Laws.{both-l}
 use Rattle.image.proofs.AcceptedSound.{accepted-is-sound}
 use Rattle.image.proofs.PastRecords.{pastRights, pastNode}
-use Rattle.writer.proofs.WrittenWhole.{NetOk}
-use Rattle.writer.proofs.AcceptedWritten.{opened-ok}
+use Rattle.written.proofs.WrittenWhole.{NetOk}
+use Rattle.written.proofs.AcceptedWritten.{opened-ok}
 use Rattle.step.proofs.SoundFacts.{in-range-low}
 use Rattle.tenant.specs.Types.{Locality, Rights, Node, Net, Verdict}
 use Rattle.run.specs.Run.{Ran, ran, ranFrom, runIn, runOf}

@@ -10,10 +10,10 @@ use borrow.Author.Tests.{le-leb, lt-leb}
 use Rattle.net.proofs.Laws.{choose-true, choose-false}
 use Rattle.writer.specs.Buffer.{over}
 use Rattle.writer.specs.Calls.{Packed, placedOf, placedIn}
-use Rattle.writer.specs.ImageOf.{joined, digit, numberIn}
+use Rattle.written.specs.ImageOf.{joined, digit, numberIn}
 use Rattle.writer.specs.Writing.{bytesIn}
 use Rattle.writer.proofs.WritingLaws.{over-both}
-use Rattle.writer.proofs.WrittenBytes.{number-small, listed-length}
+use Rattle.written.proofs.WrittenBytes.{number-small, listed-length}
 
 -- ---- a bit as a number
 pub digit-set : (b : Bool) → b ≡ true → 1 ≡ digit b

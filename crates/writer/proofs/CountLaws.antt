@@ -14,7 +14,7 @@ use Rattle.sound.specs.Soundness.{instructionSound, isStop, isZeroInstruction, 
 use Rattle.writer.specs.Types.{Tuple, Node, Action, Instruction, Net}
 use Rattle.writer.specs.Writing.{NodeCounts, Counts}
 use Rattle.net.proofs.Laws.{both-l, both-r, all-e}
-use Rattle.writer.proofs.FreshNode.{range-high}
+use Rattle.written.proofs.FreshNode.{range-high}
 
 -- a fact that both sides of a choice give
 either : (P : Type 0) (b x y : Bool) → choose b x y ≡ true → (x ≡ true → P) → (y ≡ true → P) → P

@@ -31,7 +31,7 @@ use Rattle.net.proofs.tuple.Tuple as tuple
 use Rattle.net.proofs.tuple.Variable as variable
 use Rattle.net.specs.Records.{fieldAt, patternAt, processAt, tupleAt, nodeAt, instructionAt}
 use Rattle.writer.specs.Types.{Item, Field, Tuple, Process, Node, Pattern, TemplateField, Instruction, Net}
-use Rattle.writer.specs.Fresh.{readingFits, itemFits, patternFits, tupleFits, processFits, nodeFits, instructionFits, netFits}
+use Rattle.written.specs.Fresh.{readingFits, itemFits, patternFits, tupleFits, processFits, nodeFits, instructionFits, netFits}
 
 -- ---- an array of a declared type
 module _ (T : Declared) where

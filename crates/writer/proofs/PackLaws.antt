@@ -18,12 +18,12 @@ use Rattle.image.proofs.FirstBytes.{longestAccepted}
 use Rattle.writer.specs.Types.{Node, Net}
 use Rattle.writer.specs.Buffer.{over}
 use Rattle.writer.specs.Calls.{Packed, placedOf, placedIn, packedOf, imageIn}
-use Rattle.writer.specs.Fresh.{netFits, slotStarts, nodeStarts, freshOf}
-use Rattle.writer.specs.ImageOf.{joined, processCount, digit, numberIn, bytesOf, netBits, imageOf}
+use Rattle.written.specs.Fresh.{netFits, slotStarts, nodeStarts, freshOf}
+use Rattle.written.specs.ImageOf.{joined, processCount, digit, numberIn, bytesOf, netBits, imageOf}
 use Rattle.writer.specs.Writing.{Wrote, Counts, bytesIn}
-use Rattle.writer.proofs.AcceptedWritten.{fresh-accepted}
+use Rattle.written.proofs.AcceptedWritten.{fresh-accepted}
 use Rattle.writer.proofs.CountLaws.{counts-of}
-use Rattle.writer.proofs.WrittenBytes.{bytes-length}
+use Rattle.written.proofs.WrittenBytes.{bytes-length}
 
 both-true : (a b : Bool) → a ≡ true → both a b ≡ b
 unfolding both

@@ -13,11 +13,11 @@ use Rattle.image.specs.Image.{openedOf, accepted}
 use Rattle.writer.specs.Types.{Net}
 use Rattle.writer.specs.Buffer.{over}
 use Rattle.writer.specs.Calls.{Packed, placedOf, packedOf, packedNumber, packedLength, placedIn, imageIn}
-use Rattle.writer.specs.Fresh.{freshOf}
-use Rattle.writer.specs.ImageOf.{imageOf}
-use Rattle.writer.specs.WrittenClaims.{Bytes, AcceptedIsWritten, WrittenIsBytes}
+use Rattle.written.specs.Fresh.{freshOf}
+use Rattle.written.specs.ImageOf.{imageOf}
+use Rattle.written.specs.WrittenClaims.{Bytes, AcceptedIsWritten, WrittenIsBytes}
 use Rattle.writer.specs.PackedClaims.{PackedIsAccepted, NotFreshIsUngiven, RefusalKeepsBuffer}
-use Rattle.writer.proofs.AcceptedWritten.{fresh-accepted, acceptedIsWritten, writtenIsBytes}
+use Rattle.written.proofs.AcceptedWritten.{fresh-accepted, acceptedIsWritten, writtenIsBytes}
 
 -- ---- the three cases of a call
 data Case (net : Net) (buffer : List ℕ) : Type 0 where

@@ -12,7 +12,7 @@ use lib.Signed.{mag, leZ, nonNeg}
 use mir.Syntax.{w32, w64}
 use mir.Val.{Fits, SFits, toZ, ofZ}
 use mir.Facts.{toZ-ofZ}
-use Rattle.writer.specs.ImageOf.{bitsOf, readingBits}
+use Rattle.written.specs.ImageOf.{bitsOf, readingBits}
 use Rattle.writer.specs.Writing.{Wrote, complementOf}
 
 upward : (y : ℤ) → leZ (pos 0) y ≡ true → SFits w32 y → T (nonNeg y) × Fits w64 (natAbs y)

@@ -10,7 +10,7 @@ use lib.Dec.{eqb}
 use lib.ListN.{length, set, length-append}
 use lib.Seq.{length-sets, set-out}
 use Rattle.writer.specs.Buffer.{over}
-use Rattle.writer.specs.ImageOf.{bitsOf, joined}
+use Rattle.written.specs.ImageOf.{bitsOf, joined}
 use Rattle.writer.specs.Writing.{Wrote}
 
 -- of two numbers

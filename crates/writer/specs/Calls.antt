@@ -7,8 +7,8 @@ use lib.Dec.{leb}
 use Rattle.net.specs.Choice.{choose}
 use Rattle.writer.specs.Types.{Net}
 use Rattle.writer.specs.Buffer.{over}
-use Rattle.writer.specs.ImageOf.{imageOf}
-use Rattle.writer.specs.Fresh.{freshOf}
+use Rattle.written.specs.ImageOf.{imageOf}
+use Rattle.written.specs.Fresh.{freshOf}
 
 -- bytes written into a buffer with the given room
 unfoldable pub placedOf : ℕ → ℕ → Packed

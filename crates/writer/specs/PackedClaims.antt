@@ -7,7 +7,7 @@ use lib.ListN.{length, take, drop}
 use Rattle.image.specs.Image.{openedOf, accepted}
 use Rattle.writer.specs.Types.{Net}
 use Rattle.writer.specs.Calls.{Packed, packedOf, packedNumber, imageIn}
-use Rattle.writer.specs.WrittenClaims.{Bytes}
+use Rattle.written.specs.WrittenClaims.{Bytes}
 
 -- what is written is an image that gives the net, and the bytes beyond it stay
 unfoldable pub PackedIsAccepted : Type 0

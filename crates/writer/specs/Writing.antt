@@ -11,7 +11,7 @@ use lib.IntN.{ℤ}
 use Rattle.net.specs.Records.{tupleAt, nodeAt, instructionAt}
 use Rattle.writer.specs.Types.{Locality, Place, Node, Net}
 use Rattle.writer.specs.Buffer.{over}
-use Rattle.writer.specs.ImageOf.{joined, numberIn}
+use Rattle.written.specs.ImageOf.{joined, numberIn}
 
 -- from place `at` of buffer xs a text, of bits or of bytes, was written: the buffer is ys, and the next place r
 pub record Wrote {A : Type 0} (xs : List A) (at : ℕ) (text ys : List A) (r : ℕ) : Type 0 where

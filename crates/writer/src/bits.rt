@@ -1,7 +1,7 @@
 // Bits written into a lent buffer of bits: each writer takes the place to write at and gives the place
 // after its bits, or one past the buffer's end once they no longer fit.
 ghost use mathlib.Core.List.{[], _∷_, _++_};
-ghost use Rattle.writer.specs.ImageOf.{bitsOf};
+ghost use Rattle.written.specs.ImageOf.{bitsOf};
 ghost use Rattle.writer.specs.Writing.{Wrote};
 
 // One bit.

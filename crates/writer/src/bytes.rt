@@ -4,7 +4,7 @@ ghost use mathlib.Core.Bool.{false};
 ghost use mathlib.Core.Path.{_≡_};
 ghost use lib.ListN.{length, getD};
 ghost use Rattle.writer.specs.Buffer.{over};
-ghost use Rattle.writer.specs.ImageOf.{digit, numberIn};
+ghost use Rattle.written.specs.ImageOf.{digit, numberIn};
 ghost use Rattle.writer.specs.Writing.{bytesIn};
 
 // One bit, as a number.

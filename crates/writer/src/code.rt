@@ -14,8 +14,8 @@ use net::network::Net;
 ghost use Prim.Native.Nat.{_≤_};
 ghost use mathlib.Core.List.{_++_};
 ghost use Rattle.net.specs.Records.{patternAt};
-ghost use Rattle.writer.specs.ImageOf.{bitsOf, joined, placeBits, variableBits, readingBits, targetBits, patternBits};
-ghost use Rattle.writer.specs.ImageOf.{templateBits, actionBits, instructionBits, codeBits};
+ghost use Rattle.written.specs.ImageOf.{bitsOf, joined, placeBits, variableBits, readingBits, targetBits, patternBits};
+ghost use Rattle.written.specs.ImageOf.{templateBits, actionBits, instructionBits, codeBits};
 ghost use Rattle.writer.specs.Writing.{Wrote, Counts};
 
 // A target.

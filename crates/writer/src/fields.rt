@@ -4,7 +4,7 @@ use net::locality::Locality;
 use net::locality::Place;
 ghost use Prim.Native.Nat.{_-_};
 ghost use mathlib.Core.Path.{_≡_};
-ghost use Rattle.writer.specs.ImageOf.{addressBits, placeBits, variableBits, readingBits};
+ghost use Rattle.written.specs.ImageOf.{addressBits, placeBits, variableBits, readingBits};
 ghost use Rattle.writer.specs.Writing.{Wrote, complementOf};
 
 // An address.

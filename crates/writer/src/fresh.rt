@@ -12,8 +12,8 @@ ghost use mathlib.Core.Path.{_≡_};
 ghost use Rattle.net.specs.Choice.{choose, both, all};
 ghost use Rattle.net.specs.Records.{variableAt, nodeAt, addressOf};
 ghost use Rattle.sound.specs.Soundness.{isUnset};
-ghost use Rattle.writer.specs.ImageOf.{processCount};
-ghost use Rattle.writer.specs.Fresh.{nodeStarts, freshOf};
+ghost use Rattle.written.specs.ImageOf.{processCount};
+ghost use Rattle.written.specs.Fresh.{nodeStarts, freshOf};
 
 // A count, one more where the slot is busy.
 fn counted(p: Process, n: usize) -> usize

@@ -17,8 +17,8 @@ ghost use Prim.Native.Nat.{_≤_};
 ghost use mathlib.Core.Bool.{true, false};
 ghost use mathlib.Core.List.{_∷_};
 ghost use Rattle.net.specs.Records.{fieldAt, rightsAt, processAt, tupleAt, addressOf};
-ghost use Rattle.writer.specs.ImageOf.{joined, addressBits, placeBits, readingBits, rightsBits, rowBits, processesBits};
-ghost use Rattle.writer.specs.ImageOf.{itemBits, tupleBits, tuplesBits, rowsBits, allProcessesBits, allTuplesBits};
+ghost use Rattle.written.specs.ImageOf.{joined, addressBits, placeBits, readingBits, rightsBits, rowBits, processesBits};
+ghost use Rattle.written.specs.ImageOf.{itemBits, tupleBits, tuplesBits, rowsBits, allProcessesBits, allTuplesBits};
 ghost use Rattle.writer.specs.Writing.{Wrote, NodeCounts, Counts};
 
 // The rights over one address.

@@ -13,8 +13,8 @@ ghost use mathlib.Core.List.{_++_};
 ghost use mathlib.Core.Path.{_≡_};
 ghost use lib.ListN.{length};
 ghost use Rattle.writer.specs.Calls.{placedOf, placedIn, packedOf, imageIn};
-ghost use Rattle.writer.specs.Fresh.{freshOf};
-ghost use Rattle.writer.specs.ImageOf.{headerBits, rowsBits, allProcessesBits, allTuplesBits, codeBits, netBits, imageOf};
+ghost use Rattle.written.specs.Fresh.{freshOf};
+ghost use Rattle.written.specs.ImageOf.{headerBits, rowsBits, allProcessesBits, allTuplesBits, codeBits, netBits, imageOf};
 ghost use Rattle.writer.specs.Writing.{Wrote, Counts, bytesIn};
 
 // An image was written, with its length; or no accepted image gives the net; or the buffer is too short.

@@ -2,7 +2,7 @@
 use Prim.Native.Nat.{_-_, _<_, _≤_}
 use mathlib.Core.Path.{_≡_}
 use Rattle.writer.proofs.ByteLaws.{number-done, number-next, number-start, number-within}
-use Rattle.writer.specs.ImageOf.{numberIn}
+use Rattle.written.specs.ImageOf.{numberIn}
 use borrow.Author.Needs.{needs}
 use Rattle.writer.proofs.bytes.byte_at.Statement.{statement}
 use Rattle.writer.proofs.bytes.byte_at.Tie as tie

@@ -1,6 +1,6 @@
 -- `writer::code::put_action` meets its contract. Assumes nothing.
 use Rattle.writer.proofs.WritingLaws.{wrote-case-2}
-use Rattle.writer.specs.ImageOf.{actionBits}
+use Rattle.written.specs.ImageOf.{actionBits}
 use borrow.Author.Needs.{needs}
 use Rattle.writer.proofs.code.put_action.Statement.{statement}
 use Rattle.writer.proofs.code.put_action.Tie as tie

@@ -3,7 +3,7 @@ use Prim.Native.Nat.{_-_, _≤_}
 use Rattle.net.specs.Records.{instructionAt, placeOf}
 use Rattle.writer.proofs.CountLaws.{few-code}
 use Rattle.writer.proofs.WritingLaws.{joined-end, joined-more, joined-none, wrote-length}
-use Rattle.writer.specs.ImageOf.{codeBits, instructionBits, joined}
+use Rattle.written.specs.ImageOf.{codeBits, instructionBits, joined}
 use Rattle.writer.specs.Writing.{Wrote}
 use borrow.Author.Needs.{needs}
 use Rattle.writer.proofs.code.put_code.Statement.{statement}

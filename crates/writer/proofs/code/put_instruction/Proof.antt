@@ -1,5 +1,5 @@
 -- `writer::code::put_instruction` meets its contract. Assumes nothing.
-use Rattle.writer.specs.ImageOf.{instructionBits}
+use Rattle.written.specs.ImageOf.{instructionBits}
 use borrow.Author.Needs.{needs}
 use Rattle.writer.proofs.code.put_instruction.Statement.{statement}
 use Rattle.writer.proofs.code.put_instruction.Tie as tie

@@ -1,7 +1,7 @@
 -- `writer::code::put_pattern` meets its contract. Assumes nothing.
 use Rattle.writer.proofs.SignedLaws.{wrote-signed}
 use Rattle.writer.proofs.WritingLaws.{wrote-case}
-use Rattle.writer.specs.ImageOf.{addressBits, patternBits, variableBits}
+use Rattle.written.specs.ImageOf.{addressBits, patternBits, variableBits}
 use Rattle.writer.specs.Types.{Pattern}
 use borrow.Author.Needs.{needs}
 use Rattle.writer.proofs.code.put_pattern.Statement.{statement}

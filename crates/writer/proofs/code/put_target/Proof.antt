@@ -1,6 +1,6 @@
 -- `writer::code::put_target` meets its contract. Assumes nothing.
 use Rattle.writer.proofs.WritingLaws.{wrote-case}
-use Rattle.writer.specs.ImageOf.{addressBits, targetBits, variableBits}
+use Rattle.written.specs.ImageOf.{addressBits, targetBits, variableBits}
 use borrow.Author.Needs.{needs}
 use Rattle.writer.proofs.code.put_target.Statement.{statement}
 use Rattle.writer.proofs.code.put_target.Tie as tie

@@ -1,6 +1,6 @@
 -- `writer::code::put_template` meets its contract. Assumes nothing.
 use Rattle.writer.proofs.WritingLaws.{counted-then}
-use Rattle.writer.specs.ImageOf.{templateBits}
+use Rattle.written.specs.ImageOf.{templateBits}
 use borrow.Author.Needs.{needs}
 use Rattle.writer.proofs.code.put_template.Statement.{statement}
 use Rattle.writer.proofs.code.put_template.Tie as tie

@@ -1,5 +1,5 @@
 -- `writer::fields::put_address` meets its contract. Assumes nothing.
-use Rattle.writer.specs.ImageOf.{addressBits}
+use Rattle.written.specs.ImageOf.{addressBits}
 use borrow.Author.Needs.{needs}
 use Rattle.writer.proofs.fields.put_address.Statement.{statement}
 use Rattle.writer.proofs.fields.put_address.Tie as tie

@@ -1,5 +1,5 @@
 -- `writer::fields::put_place` meets its contract. Assumes nothing.
-use Rattle.writer.specs.ImageOf.{placeBits}
+use Rattle.written.specs.ImageOf.{placeBits}
 use borrow.Author.Needs.{needs}
 use Rattle.writer.proofs.fields.put_place.Statement.{statement}
 use Rattle.writer.proofs.fields.put_place.Tie as tie

@@ -1,5 +1,5 @@
 -- `writer::fields::put_variable` meets its contract. Assumes nothing.
-use Rattle.writer.specs.ImageOf.{variableBits}
+use Rattle.written.specs.ImageOf.{variableBits}
 use borrow.Author.Needs.{needs}
 use Rattle.writer.proofs.fields.put_variable.Statement.{statement}
 use Rattle.writer.proofs.fields.put_variable.Tie as tie

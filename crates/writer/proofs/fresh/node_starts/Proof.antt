@@ -5,8 +5,8 @@ use Rattle.net.proofs.AllLaws.{all-end, all-more, all-none}
 use Rattle.net.specs.Choice.{all}
 use Rattle.net.specs.Records.{processAt}
 use Rattle.writer.proofs.PackLaws.{slot-as}
-use Rattle.writer.specs.Fresh.{nodeStarts, slotStarts}
-use Rattle.writer.specs.ImageOf.{processCount}
+use Rattle.written.specs.Fresh.{nodeStarts, slotStarts}
+use Rattle.written.specs.ImageOf.{processCount}
 use borrow.Author.Needs.{needs}
 use Rattle.writer.proofs.fresh.node_starts.Statement.{statement}
 use Rattle.writer.proofs.fresh.node_starts.Tie as tie

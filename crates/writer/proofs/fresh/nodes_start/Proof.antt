@@ -4,7 +4,7 @@ use mathlib.Core.Path.{_≡_}
 use Rattle.net.proofs.AllLaws.{all-end, all-more, all-none}
 use Rattle.net.specs.Choice.{all}
 use Rattle.net.specs.Records.{nodeAt, addressOf}
-use Rattle.writer.specs.Fresh.{nodeStarts}
+use Rattle.written.specs.Fresh.{nodeStarts}
 use borrow.Author.Needs.{needs}
 use Rattle.writer.proofs.fresh.nodes_start.Statement.{statement}
 use Rattle.writer.proofs.fresh.nodes_start.Tie as tie

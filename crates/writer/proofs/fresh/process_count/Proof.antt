@@ -4,7 +4,7 @@ use mathlib.Core.Path.{_≡_}
 use Rattle.net.proofs.FoldLaws.{fold-end, fold-more, fold-none}
 use Rattle.net.specs.Choice.{choose, fold}
 use Rattle.net.specs.Records.{processAt}
-use Rattle.writer.specs.ImageOf.{processCount}
+use Rattle.written.specs.ImageOf.{processCount}
 use borrow.Author.Needs.{needs}
 use Rattle.writer.proofs.fresh.process_count.Statement.{statement}
 use Rattle.writer.proofs.fresh.process_count.Tie as tie

@@ -3,7 +3,7 @@ use Prim.Native.Nat.{_-_, _≤_}
 use Rattle.net.specs.Records.{nodeAt, addressOf}
 use Rattle.writer.proofs.CountLaws.{few-node}
 use Rattle.writer.proofs.WritingLaws.{joined-end, joined-more, joined-none, wrote-length}
-use Rattle.writer.specs.ImageOf.{allTuplesBits, joined, tuplesBits}
+use Rattle.written.specs.ImageOf.{allTuplesBits, joined, tuplesBits}
 use Rattle.writer.specs.Writing.{Wrote}
 use borrow.Author.Needs.{needs}
 use Rattle.writer.proofs.nodes.put_all_tuples.Statement.{statement}

@@ -1,7 +1,7 @@
 -- `writer::nodes::put_item` meets its contract. Assumes nothing.
 use Rattle.writer.proofs.SignedLaws.{wrote-signed}
 use Rattle.writer.proofs.WritingLaws.{wrote-case}
-use Rattle.writer.specs.ImageOf.{itemBits}
+use Rattle.written.specs.ImageOf.{itemBits}
 use Rattle.writer.specs.Types.{Item}
 use borrow.Author.Needs.{needs}
 use Rattle.writer.proofs.nodes.put_item.Statement.{statement}

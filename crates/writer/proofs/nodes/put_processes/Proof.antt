@@ -1,6 +1,6 @@
 -- `writer::nodes::put_processes` meets its contract. Assumes nothing.
 use Rattle.writer.proofs.WritingLaws.{counted-then}
-use Rattle.writer.specs.ImageOf.{processesBits}
+use Rattle.written.specs.ImageOf.{processesBits}
 use borrow.Author.Needs.{needs}
 use Rattle.writer.proofs.nodes.put_processes.Statement.{statement}
 use Rattle.writer.proofs.nodes.put_processes.Tie as tie

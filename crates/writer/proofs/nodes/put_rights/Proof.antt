@@ -1,6 +1,6 @@
 -- `writer::nodes::put_rights` meets its contract. Assumes nothing.
 use Rattle.writer.proofs.WritingLaws.{wrote-one-then}
-use Rattle.writer.specs.ImageOf.{rightsBits}
+use Rattle.written.specs.ImageOf.{rightsBits}
 use borrow.Author.Needs.{needs}
 use Rattle.writer.proofs.nodes.put_rights.Statement.{statement}
 use Rattle.writer.proofs.nodes.put_rights.Tie as tie

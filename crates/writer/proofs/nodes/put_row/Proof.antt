@@ -1,6 +1,6 @@
 -- `writer::nodes::put_row` meets its contract. Assumes nothing.
 use Rattle.writer.proofs.WritingLaws.{wrote-one-then}
-use Rattle.writer.specs.ImageOf.{rowBits}
+use Rattle.written.specs.ImageOf.{rowBits}
 use borrow.Author.Needs.{needs}
 use Rattle.writer.proofs.nodes.put_row.Statement.{statement}
 use Rattle.writer.proofs.nodes.put_row.Tie as tie

@@ -2,7 +2,7 @@
 use Prim.Native.Nat.{_-_, _≤_}
 use Rattle.net.specs.Records.{nodeAt, addressOf}
 use Rattle.writer.proofs.WritingLaws.{joined-end, joined-more, joined-none, wrote-length}
-use Rattle.writer.specs.ImageOf.{joined, rowBits, rowsBits}
+use Rattle.written.specs.ImageOf.{joined, rowBits, rowsBits}
 use Rattle.writer.specs.Writing.{Wrote}
 use borrow.Author.Needs.{needs}
 use Rattle.writer.proofs.nodes.put_rows.Statement.{statement}

@@ -3,7 +3,7 @@ use Prim.Native.Nat.{_-_, _≤_}
 use Rattle.net.specs.Records.{tupleAt}
 use Rattle.writer.proofs.CountLaws.{few-fields}
 use Rattle.writer.proofs.WritingLaws.{joined-end, joined-more, joined-none, wrote-length}
-use Rattle.writer.specs.ImageOf.{joined, tupleBits}
+use Rattle.written.specs.ImageOf.{joined, tupleBits}
 use Rattle.writer.specs.Writing.{Wrote}
 use borrow.Author.Needs.{needs}
 use Rattle.writer.proofs.nodes.put_stored.Statement.{statement}

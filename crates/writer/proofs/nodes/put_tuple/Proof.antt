@@ -1,6 +1,6 @@
 -- `writer::nodes::put_tuple` meets its contract. Assumes nothing.
 use Rattle.writer.proofs.WritingLaws.{counted-then}
-use Rattle.writer.specs.ImageOf.{tupleBits}
+use Rattle.written.specs.ImageOf.{tupleBits}
 use borrow.Author.Needs.{needs}
 use Rattle.writer.proofs.nodes.put_tuple.Statement.{statement}
 use Rattle.writer.proofs.nodes.put_tuple.Tie as tie

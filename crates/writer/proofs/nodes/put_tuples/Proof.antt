@@ -1,6 +1,6 @@
 -- `writer::nodes::put_tuples` meets its contract. Assumes nothing.
 use Rattle.writer.proofs.WritingLaws.{wrote-then}
-use Rattle.writer.specs.ImageOf.{tuplesBits}
+use Rattle.written.specs.ImageOf.{tuplesBits}
 use borrow.Author.Needs.{needs}
 use Rattle.writer.proofs.nodes.put_tuples.Statement.{statement}
 use Rattle.writer.proofs.nodes.put_tuples.Tie as tie

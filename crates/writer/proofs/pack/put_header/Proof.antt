@@ -1,6 +1,6 @@
 -- `writer::pack::put_header` meets its contract. Assumes nothing.
 use Rattle.writer.proofs.WritingLaws.{wrote-then}
-use Rattle.writer.specs.ImageOf.{headerBits}
+use Rattle.written.specs.ImageOf.{headerBits}
 use borrow.Author.Needs.{needs}
 use Rattle.writer.proofs.pack.put_header.Statement.{statement}
 use Rattle.writer.proofs.pack.put_header.Tie as tie

@@ -1,6 +1,6 @@
 -- `writer::pack::put_net` meets its contract. Assumes nothing.
 use Rattle.writer.proofs.WritingLaws.{wrote-then}
-use Rattle.writer.specs.ImageOf.{netBits}
+use Rattle.written.specs.ImageOf.{netBits}
 use borrow.Author.Needs.{needs}
 use Rattle.writer.proofs.pack.put_net.Statement.{statement}
 use Rattle.writer.proofs.pack.put_net.Tie as tie

@@ -10,18 +10,18 @@ use lib.IntN.{ℤ}
 use borrow.Author.Tests.{eqb-true, ltb-true, lt-ltb}
 use Rattle.net.specs.Choice.{both, implies}
 use Rattle.net.specs.Records.{zeroTemplateField, zeroInstruction, patternAt, withAction}
-use Rattle.writer.specs.Types.{Pattern, TemplateField, Action, Instruction}
+use Rattle.written.specs.Types.{Pattern, TemplateField, Action, Instruction}
 use Rattle.net.specs.Choice.{inRange}
 use Rattle.sound.specs.Soundness.{targetSound, patternSound, isZeroPattern, templateSound, noTemplate, isActual}
 use Rattle.sound.specs.Soundness.{actualsOnly, bindsAnew, formalsApart, actionSound, templateFor, instructionSound, isStop}
 use Rattle.sound.specs.Soundness.{isZeroInstruction}
-use Rattle.writer.specs.Fresh.{instructionFits}
+use Rattle.written.specs.Fresh.{instructionFits}
 use Rattle.net.proofs.Laws.{both-l, both-r, implies-e, all-e}
-use Rattle.writer.proofs.ReadsCells.{zeros-are}
-use Rattle.writer.proofs.WrittenTemplate.{TemplateOk, anew-as}
-use Rattle.writer.proofs.WrittenCode.{Communicated, Evaluated, Created, Forked, Acting, InstructionOk}
-use Rattle.writer.proofs.FreshZero.{never, filled-tests, zero-reading}
-use Rattle.writer.proofs.FreshNode.{range-low, range-high}
+use Rattle.written.proofs.ReadsCells.{zeros-are}
+use Rattle.written.proofs.WrittenTemplate.{TemplateOk, anew-as}
+use Rattle.written.proofs.WrittenCode.{Communicated, Evaluated, Created, Forked, Acting, InstructionOk}
+use Rattle.written.proofs.FreshZero.{never, filled-tests, zero-reading}
+use Rattle.written.proofs.FreshNode.{range-low, range-high}
 use Rattle.image.proofs.PastRecords.{pastTemplate}
 
 -- ---- zero records

@@ -8,9 +8,9 @@ use lib.IntN.{ℤ}
 use Rattle.net.specs.Choice.{choose, both, all}
 use Rattle.net.specs.Records.{fieldAt, variableAt, processAt, tupleAt, patternAt, nodeAt, instructionAt, addressOf, placeOf}
 use Rattle.sound.specs.Soundness.{isUnset, soundOf}
-use Rattle.writer.specs.Types.{Item, Tuple, Process, Node, Pattern, Instruction, Net}
+use Rattle.written.specs.Types.{Item, Tuple, Process, Node, Pattern, Instruction, Net}
 use Rattle.image.specs.Image.{admits}
-use Rattle.writer.specs.ImageOf.{processCount}
+use Rattle.written.specs.ImageOf.{processCount}
 
 -- ---- what the types of a running program fix and the definitions' lists and whole numbers do not: readings of 32
 -- bits, and the length of each array ("The net")

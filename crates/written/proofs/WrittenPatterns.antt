@@ -9,17 +9,17 @@ use lib.Dec.{ltb}
 use lib.IntN.{ℤ}
 use borrow.Author.Tests.{ltb-true, lt-ltb}
 use Rattle.net.specs.Choice.{implies}
-use Rattle.writer.specs.Types.{Locality, Target, Pattern, Instruction}
+use Rattle.written.specs.Types.{Locality, Target, Pattern, Instruction}
 use Rattle.sound.specs.Soundness.{targetSound, patternSound, isActual, unboundBefore, bindsAnew}
 use Rattle.image.specs.BitReader.{pure, alternative}
 use Rattle.image.specs.Image.{writtenTarget, heldTarget, target, readingPattern, addressPattern, heldPattern}
 use Rattle.image.specs.Image.{fresh, formalReading, formalAddress, kind, pattern}
-use Rattle.writer.specs.ImageOf.{bitsOf, addressBits, readingBits, variableBits, targetBits, patternBits}
-use Rattle.writer.specs.Fresh.{readingFits, patternFits}
+use Rattle.written.specs.ImageOf.{bitsOf, addressBits, readingBits, variableBits, targetBits, patternBits}
+use Rattle.written.specs.Fresh.{readingFits, patternFits}
 use Rattle.net.proofs.Laws.{implies-i}
-use Rattle.writer.proofs.ReadsWrites.{Reads, Ranged, reads-as, reads-map, reads-pure, reads-field}
-use Rattle.writer.proofs.ReadsParts.{Kinded, reads-kind, reads-tested}
-use Rattle.writer.proofs.WrittenFields.{reads-address, reads-variable, reads-reading}
+use Rattle.written.proofs.ReadsWrites.{Reads, Ranged, reads-as, reads-map, reads-pure, reads-field}
+use Rattle.written.proofs.ReadsParts.{Kinded, reads-kind, reads-tested}
+use Rattle.written.proofs.WrittenFields.{reads-address, reads-variable, reads-reading}
 
 -- ---- targets
 targetKind : Target → ℕ

@@ -5,11 +5,11 @@ use mathlib.Core.Path.{_≡_}
 use mathlib.Core.Bool.{true}
 use mathlib.Core.List.{List}
 use lib.ListN.{length, getD}
-use Rattle.writer.specs.Types.{Net}
+use Rattle.written.specs.Types.{Net}
 use Rattle.image.specs.Image.{openedOf, accepted}
-use Rattle.writer.specs.Types.{Verdict}
-use Rattle.writer.specs.ImageOf.{imageOf}
-use Rattle.writer.specs.Fresh.{freshOf}
+use Rattle.written.specs.Types.{Verdict}
+use Rattle.written.specs.ImageOf.{imageOf}
+use Rattle.written.specs.Fresh.{freshOf}
 
 -- a list of bytes, as a slice of a running program is
 pub record Bytes (s : List ℕ) : Type 0 where

@@ -14,16 +14,16 @@ use Rattle.net.specs.Choice.{choose, both, all}
 use Rattle.net.specs.declared.tuple.Value.{Value}
 use Rattle.net.specs.Records.{zeroField, zeroTuple, unsetVariable, freeProcess, noRights, zeroRow, zeroNode}
 use Rattle.net.specs.Records.{placeOf, fieldAt, variableAt, rightsAt, processAt, tupleAt}
-use Rattle.writer.specs.Types.{Item, Field, Tuple, Rights, Row, Process, Node}
+use Rattle.written.specs.Types.{Item, Field, Tuple, Rights, Row, Process, Node}
 use Rattle.net.specs.Readings.{sameReading}
 use Rattle.sound.specs.Soundness.{isZeroItem, isZeroTuple, isNone, isZeroRow, isUnset, isFree, isZeroNode}
-use Rattle.writer.specs.Fresh.{tupleFits, processFits, nodeFits}
+use Rattle.written.specs.Fresh.{tupleFits, processFits, nodeFits}
 use Rattle.net.proofs.Laws.{both-l, both-r, choose-true, choose-false, all-e}
 use Rattle.net.proofs.Every.{Every, Filled}
 use Rattle.net.proofs.Past.{pastProcess, pastTuple}
-use Rattle.writer.proofs.ReadsCells.{zeros-are}
+use Rattle.written.proofs.ReadsCells.{zeros-are}
 use Rattle.image.proofs.PastRecords.{pastVariable, pastField, pastRights}
-use Rattle.writer.proofs.WrittenProcesses.{node-is}
+use Rattle.written.proofs.WrittenProcesses.{node-is}
 
 pub never : {C : Type 0} → false ≡ true → C
 never e = let z : _≡_ {A = ℕ} 0 1 = cc in absurd (omega arith)

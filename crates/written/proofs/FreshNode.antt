@@ -10,24 +10,24 @@ use borrow.Author.Tests.{eqb-true, leb-true, ltb-true, lt-ltb, le-ltb, le-leb}
 use Rattle.net.specs.Choice.{choose, all, fold}
 use Rattle.net.specs.Records.{startingAt, unsetVariable}
 use Rattle.net.specs.Records.{fieldAt, variableAt, rightsAt, processAt, tupleAt}
-use Rattle.writer.specs.Types.{Tuple, Row, Process, Node}
+use Rattle.written.specs.Types.{Tuple, Row, Process, Node}
 use Rattle.net.specs.Choice.{inRange}
 use Rattle.sound.specs.Soundness.{itemSound, isZeroItem, tupleSound, isZeroTuple, tuplesSound, rowSound}
 use Rattle.sound.specs.Soundness.{isUnset, processSound, nodeSound}
-use Rattle.writer.specs.ImageOf.{processCount}
-use Rattle.writer.specs.Fresh.{tupleFits, processFits, nodeFits, slotStarts, nodeStarts}
+use Rattle.written.specs.ImageOf.{processCount}
+use Rattle.written.specs.Fresh.{tupleFits, processFits, nodeFits, slotStarts, nodeStarts}
 use Rattle.net.proofs.Laws.{both-l, both-r, choose-true, choose-false, implies-e, all-e}
 use Rattle.net.proofs.Every.{chosen}
 use Rattle.net.proofs.Past.{pastTuple}
-use Rattle.writer.proofs.WrittenTuples.{TupleOk}
-use Rattle.writer.proofs.WrittenPasses.{Slots}
-use Rattle.writer.proofs.WrittenStages.{WithTuples}
-use Rattle.writer.proofs.FreshZero.{not-true, filled-tests, zero-field, zero-tuple, zero-rights, unset-are}
-use Rattle.writer.proofs.FreshZero.{zero-process, NodeFit, node-fit}
+use Rattle.written.proofs.WrittenTuples.{TupleOk}
+use Rattle.written.proofs.WrittenPasses.{Slots}
+use Rattle.written.proofs.WrittenStages.{WithTuples}
+use Rattle.written.proofs.FreshZero.{not-true, filled-tests, zero-field, zero-tuple, zero-rights, unset-are}
+use Rattle.written.proofs.FreshZero.{zero-process, NodeFit, node-fit}
 use Rattle.image.proofs.PastRecords.{pastField}
-use Rattle.writer.proofs.WrittenProcesses.{Starts}
-use Rattle.writer.proofs.WrittenRow.{RowOk}
-use Rattle.writer.proofs.WrittenStore.{TuplesOk}
+use Rattle.written.proofs.WrittenProcesses.{Starts}
+use Rattle.written.proofs.WrittenRow.{RowOk}
+use Rattle.written.proofs.WrittenStore.{TuplesOk}
 
 -- ---- tuples
 pub range-low : (low x high : ℕ) → inRange low x high ≡ true → low ≤ x

@@ -7,24 +7,24 @@ use mathlib.Core.List.{List, _++_}
 use native.Mathlib.Omega.{arith}
 use native.Mathlib.Decide.{decLe}
 use lib.ListN.{length, getD, getD-replicate, length-replicate}
-use Rattle.writer.specs.Types.{Node, Net}
+use Rattle.written.specs.Types.{Node, Net}
 use Rattle.net.specs.Records.{zeroNode, zeroInstruction, emptyNet, nodeAt, instructionAt, withCounts, addressOf}
 use Rattle.image.specs.BitReader.{Reader, _>>=_}
 use Rattle.image.specs.Image.{header, rows, allProcesses, allTuples, code}
-use Rattle.writer.specs.ImageOf.{bitsOf, joined, rowBits, processesBits, tuplesBits, instructionBits}
-use Rattle.writer.specs.ImageOf.{headerBits, rowsBits, allProcessesBits, allTuplesBits, codeBits, netBits}
+use Rattle.written.specs.ImageOf.{bitsOf, joined, rowBits, processesBits, tuplesBits, instructionBits}
+use Rattle.written.specs.ImageOf.{headerBits, rowsBits, allProcessesBits, allTuplesBits, codeBits, netBits}
 use Rattle.net.proofs.Every.{every-replicate}
-use Rattle.writer.proofs.ReadsWrites.{Reads, Ranged, reads-as, reads-map, reads-field}
-use Rattle.writer.proofs.ReadsParts.{reads-in}
-use Rattle.writer.proofs.ReadsCells.{zeros-are}
-use Rattle.writer.proofs.WrittenPasses.{net-is, rowless, vacated}
-use Rattle.writer.proofs.WrittenPasses.{emptied, RowsPass, ProcessesPass, TuplesPass, CodePass}
-use Rattle.writer.proofs.WrittenPasses.{reads-rows, reads-allProcesses, reads-allTuples, reads-code}
-use Rattle.writer.proofs.WrittenStages.{Staged, Blank, WithRow, WithProcesses, WithTuples, rowed, peopled, stocked}
-use Rattle.writer.proofs.WrittenStages.{Keeps, keeps-on, pass-keeps, code-keeps, header-same, rows-same}
-use Rattle.writer.proofs.WrittenStages.{processes-same, tuples-same}
+use Rattle.written.proofs.ReadsWrites.{Reads, Ranged, reads-as, reads-map, reads-field}
+use Rattle.written.proofs.ReadsParts.{reads-in}
+use Rattle.written.proofs.ReadsCells.{zeros-are}
+use Rattle.written.proofs.WrittenPasses.{net-is, rowless, vacated}
+use Rattle.written.proofs.WrittenPasses.{emptied, RowsPass, ProcessesPass, TuplesPass, CodePass}
+use Rattle.written.proofs.WrittenPasses.{reads-rows, reads-allProcesses, reads-allTuples, reads-code}
+use Rattle.written.proofs.WrittenStages.{Staged, Blank, WithRow, WithProcesses, WithTuples, rowed, peopled, stocked}
+use Rattle.written.proofs.WrittenStages.{Keeps, keeps-on, pass-keeps, code-keeps, header-same, rows-same}
+use Rattle.written.proofs.WrittenStages.{processes-same, tuples-same}
 use Rattle.image.proofs.PastRecords.{pastNode, pastInstruction}
-use Rattle.writer.proofs.WrittenProcesses.{bareNode}
+use Rattle.written.proofs.WrittenProcesses.{bareNode}
 
 -- ---- 1. the header
 pub blank : (n k : ℕ) → Ranged 1 17 n → Ranged 1 513 k → Staged Blank (withCounts emptyNet n k)

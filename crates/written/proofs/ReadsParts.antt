@@ -5,7 +5,7 @@ use mathlib.Core.Path.{_≡_, refl, sym, ap, subst, _∙_}
 use mathlib.Core.Bool.{Bool, true}
 use mathlib.Core.List.{List, _++_, append-nil}
 use Rattle.image.specs.BitReader.{Reader, pure, require, _>>=_, _>>_}
-use Rattle.writer.proofs.ReadsWrites.{Reads, reads-then, reads-require}
+use Rattle.written.proofs.ReadsWrites.{Reads, reads-then, reads-require}
 
 -- a good value of that kind
 pub record Kinded {B : Type 0} (kindOf : B → ℕ) (Good : B → Type 0) (v : ℕ) (b : B) : Type 0 where

@@ -5,20 +5,20 @@ use mathlib.Core.Path.{_≡_, refl, sym, ap, subst, subst₂, _∙_}
 use mathlib.Core.List.{List, [], _∷_, map}
 use native.Mathlib.Omega.{arith}
 use lib.ListN.{length, getD, length-map}
-use Rattle.writer.specs.Types.{Node, Net}
+use Rattle.written.specs.Types.{Node, Net}
 use Rattle.net.specs.Records.{zeroNode, zeroInstruction, emptyNet, withRow}
-use Rattle.writer.specs.ImageOf.{netBits}
+use Rattle.written.specs.ImageOf.{netBits}
 use Rattle.net.proofs.Every.{Every, Filled}
-use Rattle.writer.proofs.ReadsWrites.{Reads, Ranged, reads-as}
-use Rattle.writer.proofs.ReadsCells.{Through}
-use Rattle.writer.proofs.WrittenCode.{InstructionOk}
-use Rattle.writer.proofs.WrittenPasses.{net-is, passOver, rowless, free, vacated}
-use Rattle.writer.proofs.WrittenPasses.{emptied, codeOf, RowsPass, ProcessesPass, TuplesPass, CodePass}
-use Rattle.writer.proofs.WrittenStages.{Staged, Blank, WithTuples, rowed, peopled, stocked}
-use Rattle.writer.proofs.WrittenNet.{body, FromTuples, FromProcesses, FromRows, FromHeader, reads-fromHeader}
-use Rattle.writer.proofs.WrittenNet.{empty-at}
+use Rattle.written.proofs.ReadsWrites.{Reads, Ranged, reads-as}
+use Rattle.written.proofs.ReadsCells.{Through}
+use Rattle.written.proofs.WrittenCode.{InstructionOk}
+use Rattle.written.proofs.WrittenPasses.{net-is, passOver, rowless, free, vacated}
+use Rattle.written.proofs.WrittenPasses.{emptied, codeOf, RowsPass, ProcessesPass, TuplesPass, CodePass}
+use Rattle.written.proofs.WrittenStages.{Staged, Blank, WithTuples, rowed, peopled, stocked}
+use Rattle.written.proofs.WrittenNet.{body, FromTuples, FromProcesses, FromRows, FromHeader, reads-fromHeader}
+use Rattle.written.proofs.WrittenNet.{empty-at}
 use Rattle.image.proofs.PastRecords.{pastNode, pastInstruction}
-use Rattle.writer.proofs.WrittenProcesses.{bareNode}
+use Rattle.written.proofs.WrittenProcesses.{bareNode}
 
 pub record NetOk (s : Net) : Type 0 where
   pub addresses-ok : Ranged 1 17 (s .addresses)

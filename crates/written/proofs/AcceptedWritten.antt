@@ -10,24 +10,24 @@ use lib.ListN.{length}
 use Rattle.net.specs.Choice.{choose, all}
 use Rattle.net.specs.Records.{emptyNet, nodeAt, addressOf}
 use Rattle.sound.specs.Soundness.{soundOf}
-use Rattle.writer.specs.Types.{Net}
+use Rattle.written.specs.Types.{Net}
 use Rattle.image.specs.BitReader.{Parsed, got, fault, Reader, pure, andThen, require, numbered, _>>=_, _>>_}
-use Rattle.writer.specs.Types.{Fault}
+use Rattle.written.specs.Types.{Fault}
 use Rattle.image.specs.Image.{header, rows, allProcesses, allTuples, code, endsAt, ending, layout}
-use Rattle.writer.specs.Types.{Verdict, Opened}
+use Rattle.written.specs.Types.{Verdict, Opened}
 use Rattle.image.specs.Image.{admits, refused, accepted, judgedNet, openedOf}
 use Rattle.image.specs.ImageClaims.{AcceptedIsSound}
-use Rattle.writer.specs.ImageOf.{netBits, imageOf}
-use Rattle.writer.specs.Fresh.{netFits, nodeStarts, freshOf}
-use Rattle.writer.specs.WrittenClaims.{Bytes, AcceptedIsWritten, WrittenIsBytes, OneImage, OneNet}
+use Rattle.written.specs.ImageOf.{netBits, imageOf}
+use Rattle.written.specs.Fresh.{netFits, nodeStarts, freshOf}
+use Rattle.written.specs.WrittenClaims.{Bytes, AcceptedIsWritten, WrittenIsBytes, OneImage, OneNet}
 use Rattle.net.proofs.Laws.{both-i, both-l, both-r, choose-true}
 use Rattle.image.proofs.AcceptedSound.{accepted-is-sound}
 use Rattle.image.proofs.Budget.{no-fault}
-use Rattle.writer.proofs.BitsAt.{BitsAt}
-use Rattle.writer.proofs.WrittenNet.{body}
-use Rattle.writer.proofs.WrittenWhole.{NetOk, reads-body}
-use Rattle.writer.proofs.WrittenBytes.{bytes-small, stands-bytes, bytes-stand, bytes-end}
-use Rattle.writer.proofs.FreshNet.{net-fits, net-starts, fresh-ok}
+use Rattle.written.proofs.BitsAt.{BitsAt}
+use Rattle.written.proofs.WrittenNet.{body}
+use Rattle.written.proofs.WrittenWhole.{NetOk, reads-body}
+use Rattle.written.proofs.WrittenBytes.{bytes-small, stands-bytes, bytes-stand, bytes-end}
+use Rattle.written.proofs.FreshNet.{net-fits, net-starts, fresh-ok}
 
 -- ---- the layout is its body, and then its end
 module _ {A B C : Type 0} (m : Reader A) (f : A → Reader B) (g : B → Reader C) (h : A → Reader C) where

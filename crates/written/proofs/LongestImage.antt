@@ -10,26 +10,26 @@ use borrow.Author.Tests.{eq-eqb, lt-ltb}
 use Rattle.net.specs.Choice.{choose, both, implies, all, fold}
 use Rattle.net.specs.Records.{startingAt, zeroField, unsetVariable, allRights, zeroTemplateField, addressOf, placeOf}
 use Rattle.net.specs.Records.{fieldAt, variableAt, rightsAt, processAt, tupleAt, patternAt, nodeAt, instructionAt}
-use Rattle.writer.specs.Types.{Locality, Place, Tuple, Node, Target, Action, Instruction, Net}
+use Rattle.written.specs.Types.{Locality, Place, Tuple, Node, Target, Action, Instruction, Net}
 use Rattle.net.specs.Choice.{inRange}
 use Rattle.sound.specs.Soundness.{itemSound, tupleSound, tuplesSound, rowSound, isUnset, valueSound, processSound}
 use Rattle.sound.specs.Soundness.{nodeSound, targetSound, patternSound, templateSound, isActual, actualsOnly, actionSound}
 use Rattle.sound.specs.Soundness.{templateFor, instructionSound, nodesSound, codeSound, soundOf}
 use Rattle.keeping.specs.Keeping.{mayPut, atTarget, permits, permitsMarked, keepsOf}
 use Rattle.image.specs.Image.{admitsProcess, admitsNode, admitsAt, admits, accepted, openedOf}
-use Rattle.writer.specs.Types.{Verdict, Opened}
-use Rattle.writer.specs.ImageOf.{bitsOf, joined, addressBits, placeBits, readingBits, headerBits, rightsBits, rowBits}
-use Rattle.writer.specs.ImageOf.{processCount, processesBits, itemBits, tupleBits, tuplesBits, targetBits, patternBits}
-use Rattle.writer.specs.ImageOf.{templateBits, actionBits, instructionBits, rowsBits, allProcessesBits, allTuplesBits}
-use Rattle.writer.specs.ImageOf.{codeBits, netBits, imageOf}
-use Rattle.writer.specs.Fresh.{readingFits, itemFits, patternFits, tupleFits, processFits, nodeFits, instructionFits}
-use Rattle.writer.specs.Fresh.{netFits, slotStarts, nodeStarts, freshOf}
-use Rattle.writer.specs.WrittenClaims.{Bytes, LongestIsReached}
+use Rattle.written.specs.Types.{Verdict, Opened}
+use Rattle.written.specs.ImageOf.{bitsOf, joined, addressBits, placeBits, readingBits, headerBits, rightsBits, rowBits}
+use Rattle.written.specs.ImageOf.{processCount, processesBits, itemBits, tupleBits, tuplesBits, targetBits, patternBits}
+use Rattle.written.specs.ImageOf.{templateBits, actionBits, instructionBits, rowsBits, allProcessesBits, allTuplesBits}
+use Rattle.written.specs.ImageOf.{codeBits, netBits, imageOf}
+use Rattle.written.specs.Fresh.{readingFits, itemFits, patternFits, tupleFits, processFits, nodeFits, instructionFits}
+use Rattle.written.specs.Fresh.{netFits, slotStarts, nodeStarts, freshOf}
+use Rattle.written.specs.WrittenClaims.{Bytes, LongestIsReached}
 use Rattle.net.proofs.Laws.{both-i, implies-i, choose-true, all-i}
 use Rattle.net.proofs.Past.{in-range}
 use Rattle.image.proofs.PastRecords.{pastNode, pastInstruction}
-use Rattle.writer.proofs.WrittenBytes.{bytes-length, bytes-small}
-use Rattle.writer.proofs.AcceptedWritten.{fresh-accepted}
+use Rattle.written.proofs.WrittenBytes.{bytes-length, bytes-small}
+use Rattle.written.proofs.AcceptedWritten.{fresh-accepted}
 
 fullTuple : Tuple
 fullTuple = record { count = 4; fields = replicate 4 zeroField }

@@ -11,7 +11,7 @@ use lib.ListN.{length, getD, length-append, List·getD-append}
 use lib.Seq.{getD-append-add}
 use lib.Dec.{eqb}
 use Rattle.image.specs.BitReader.{bitAt, numberAt}
-use Rattle.writer.specs.ImageOf.{bitsOf, digit}
+use Rattle.written.specs.ImageOf.{bitsOf, digit}
 
 pub record BitsAt (s : List ℕ) (p : ℕ) (bits : List Bool) : Type 0 where
   pub room : p + length bits ≤ 8 * length s

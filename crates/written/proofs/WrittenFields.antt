@@ -10,12 +10,12 @@ use lib.Dec.{eqb}
 use lib.IntN.{ℤ}
 use borrow.Author.Tests.{ltb-true, lt-ltb, le-ltb}
 use Rattle.net.specs.Records.{addressOf, placeOf}
-use Rattle.writer.specs.Types.{Rights}
+use Rattle.written.specs.Types.{Rights}
 use Rattle.image.specs.Image.{address, place, variable, signed, reading, isSetBit, rightsOf}
-use Rattle.writer.specs.ImageOf.{bitsOf, addressBits, placeBits, variableBits, readingBits, rightsBits, digit}
-use Rattle.writer.specs.Fresh.{readingFits}
+use Rattle.written.specs.ImageOf.{bitsOf, addressBits, placeBits, variableBits, readingBits, rightsBits, digit}
+use Rattle.written.specs.Fresh.{readingFits}
 use Rattle.net.proofs.Laws.{choose-true, choose-false}
-use Rattle.writer.proofs.ReadsWrites.{Reads, reads-map, reads-field, reads-bits}
+use Rattle.written.proofs.ReadsWrites.{Reads, reads-map, reads-field, reads-bits}
 
 pub reads-address : (n : ℕ) → n ≤ 16 → Reads (address n) addressBits (λ l. l .0 < n)
 unfolding address addressBits

@@ -8,17 +8,17 @@ use native.Mathlib.Omega.{arith}
 use lib.ListN.{getD, replicate, length-replicate, getD-replicate}
 use lib.Seq.{set-getD, set-set}
 use lib.Dec.{eqb}
-use Rattle.writer.specs.Types.{Rights, Row}
+use Rattle.written.specs.Types.{Rights, Row}
 use Rattle.net.specs.Records.{noRights, zeroRow, rightsAt, addressOf}
 use Rattle.net.specs.Records.{withRights}
 use Rattle.image.specs.Image.{eachAddress, rightsOf, creating, rights, row}
-use Rattle.writer.specs.ImageOf.{bitsOf, joined, rightsBits, rowBits}
-use Rattle.writer.specs.ImageOf.{digit}
+use Rattle.written.specs.ImageOf.{bitsOf, joined, rightsBits, rowBits}
+use Rattle.written.specs.ImageOf.{digit}
 use Rattle.net.proofs.Every.{Every, Filled}
-use Rattle.writer.proofs.ReadsWrites.{Reads, reads-then, reads-bits}
-use Rattle.writer.proofs.ReadsCells.{Arrayed, Through, Filling, reads-turn, reads-cells}
-use Rattle.writer.proofs.ReadsCells.{rewritten-filled, filled-rewritten}
-use Rattle.writer.proofs.WrittenFields.{rights-written, rights-parts, digit-set, digit-small}
+use Rattle.written.proofs.ReadsWrites.{Reads, reads-then, reads-bits}
+use Rattle.written.proofs.ReadsCells.{Arrayed, Through, Filling, reads-turn, reads-cells}
+use Rattle.written.proofs.ReadsCells.{rewritten-filled, filled-rewritten}
+use Rattle.written.proofs.WrittenFields.{rights-written, rights-parts, digit-set, digit-small}
 use Rattle.image.proofs.PastRecords.{pastRights}
 
 pub record RowOk (n : ℕ) (r : Row) : Type 0 where

@@ -9,9 +9,9 @@ use native.Mathlib.Omega.{arith}
 use lib.ListN.{length, getD, set, replicate, length-replicate, getD-replicate}
 use lib.Seq.{getD-set-same, getD-set-other, ext-getD}
 use Rattle.image.specs.BitReader.{Reader, pure, _>>=_, each}
-use Rattle.writer.specs.ImageOf.{joined}
+use Rattle.written.specs.ImageOf.{joined}
 use Rattle.net.proofs.Every.{Every, every-set, Filled}
-use Rattle.writer.proofs.ReadsWrites.{Reads, reads-map, reads-each}
+use Rattle.written.proofs.ReadsWrites.{Reads, reads-map, reads-each}
 
 -- place j of an array once i turns are done: below i a good record, which undone gives what stood there before; from i
 -- on what stood there before

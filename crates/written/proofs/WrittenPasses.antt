@@ -7,20 +7,20 @@ use mathlib.Core.List.{List}
 use native.Mathlib.Omega.{arith}
 use lib.ListN.{length, getD, replicate}
 use lib.Seq.{set-getD, set-set}
-use Rattle.writer.specs.Types.{Locality, Place, Row, Process, Node, Instruction, Net}
+use Rattle.written.specs.Types.{Locality, Place, Row, Process, Node, Instruction, Net}
 use Rattle.net.specs.Records.{freeProcess, zeroTuple, zeroRow, zeroNode, zeroInstruction, nodeAt, addressOf, placeOf}
 use Rattle.net.specs.Records.{withRow, withNode, withInstruction}
 use Rattle.image.specs.BitReader.{Reader}
 use Rattle.image.specs.Image.{eachAddress, eachPlace, row, rowOf, rows, processes, processesOf, allProcesses, tuples, tuplesOf, allTuples}
 use Rattle.image.specs.Image.{instruction, instructionOf, code}
-use Rattle.writer.specs.ImageOf.{joined, rowBits, processesBits, tuplesBits, instructionBits}
-use Rattle.writer.proofs.ReadsWrites.{Reads}
-use Rattle.writer.proofs.ReadsCells.{Arrayed, Through, Turned, Filling, reads-turn, reads-cells}
-use Rattle.writer.proofs.WrittenCode.{InstructionOk, reads-instruction}
+use Rattle.written.specs.ImageOf.{joined, rowBits, processesBits, tuplesBits, instructionBits}
+use Rattle.written.proofs.ReadsWrites.{Reads}
+use Rattle.written.proofs.ReadsCells.{Arrayed, Through, Turned, Filling, reads-turn, reads-cells}
+use Rattle.written.proofs.WrittenCode.{InstructionOk, reads-instruction}
 use Rattle.image.proofs.PastRecords.{pastNode, pastInstruction}
-use Rattle.writer.proofs.WrittenProcesses.{ProcessesOk, Peopled, reads-processes, bareNode, node-is}
-use Rattle.writer.proofs.WrittenRow.{RowOk, reads-row}
-use Rattle.writer.proofs.WrittenStore.{TuplesOk, Stocked, reads-tuples}
+use Rattle.written.proofs.WrittenProcesses.{ProcessesOk, Peopled, reads-processes, bareNode, node-is}
+use Rattle.written.proofs.WrittenRow.{RowOk, reads-row}
+use Rattle.written.proofs.WrittenStore.{TuplesOk, Stocked, reads-tuples}
 
 -- a net is what its parts are
 pub net-is : (s : Net) (n k : ℕ) (xs : List Node) (cs : List Instruction) → n ≡ s .addresses → k ≡ s .length

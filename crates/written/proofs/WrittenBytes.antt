@@ -14,11 +14,11 @@ use lib.Dec.{eqb}
 use borrow.Author.Tests.{eqb-true, eq-eqb}
 use Rattle.image.specs.BitReader.{bitAt, numberAt}
 use Rattle.image.specs.Image.{padding, endsAt}
-use Rattle.writer.specs.ImageOf.{digit, joined, numberIn, bytesOf}
-use Rattle.writer.specs.WrittenClaims.{Bytes}
+use Rattle.written.specs.ImageOf.{digit, joined, numberIn, bytesOf}
+use Rattle.written.specs.WrittenClaims.{Bytes}
 use Rattle.net.proofs.Laws.{both-i, both-l, both-r, split}
-use Rattle.writer.proofs.BitsAt.{BitsAt}
-use Rattle.writer.proofs.WrittenFields.{digit-small}
+use Rattle.written.proofs.BitsAt.{BitsAt}
+use Rattle.written.proofs.WrittenFields.{digit-small}
 
 -- ---- a byte and its bits
 bit-in-byte : (s : List ℕ) (i j : ℕ) → j < 8 → bitAt s (8 * i + j) ≡ getD s i 0 / 2 ^ (7 - j) % 2

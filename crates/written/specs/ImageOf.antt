@@ -7,8 +7,8 @@ use lib.ListN.{getD, length}
 use lib.Dec.{eqb}
 use lib.IntN.{ℤ}
 use Rattle.net.specs.Choice.{choose, fold}
-use Rattle.writer.specs.Types.{Locality, Place, Item, Tuple, Rights, Row, Node}
-use Rattle.writer.specs.Types.{Target, Pattern, Action, Instruction, Net}
+use Rattle.written.specs.Types.{Locality, Place, Item, Tuple, Rights, Row, Node}
+use Rattle.written.specs.Types.{Target, Pattern, Action, Instruction, Net}
 use Rattle.net.specs.Records.{fieldAt, rightsAt, processAt, tupleAt, patternAt, nodeAt, instructionAt, addressOf, placeOf}
 
 -- ---- numbers, and one part after another

@@ -5,19 +5,19 @@ use mathlib.Core.Path.{_≡_, refl, sym, ap, subst, _∙_}
 use mathlib.Core.List.{[], _++_}
 use native.Mathlib.Omega.{arith}
 use lib.ListN.{length, getD, replicate}
-use Rattle.writer.specs.Types.{Locality, Node, Net}
+use Rattle.written.specs.Types.{Locality, Node, Net}
 use Rattle.net.specs.Records.{zeroTuple, zeroRow, zeroNode, emptyNet, nodeAt, processAt, withRow, addressOf}
-use Rattle.writer.specs.ImageOf.{bitsOf, joined, rowBits, processCount, processesBits, tuplesBits}
-use Rattle.writer.specs.ImageOf.{headerBits, rowsBits, allProcessesBits, allTuplesBits}
+use Rattle.written.specs.ImageOf.{bitsOf, joined, rowBits, processCount, processesBits, tuplesBits}
+use Rattle.written.specs.ImageOf.{headerBits, rowsBits, allProcessesBits, allTuplesBits}
 use Rattle.net.proofs.Every.{Every, Filled}
-use Rattle.writer.proofs.ReadsWrites.{Ranged, joined-same}
-use Rattle.writer.proofs.ReadsCells.{Through}
-use Rattle.writer.proofs.WrittenPasses.{passOver, rowless, free, vacated, Slots}
-use Rattle.writer.proofs.WrittenPasses.{emptied, RowsPass, ProcessesPass, TuplesPass, CodePass}
+use Rattle.written.proofs.ReadsWrites.{Ranged, joined-same}
+use Rattle.written.proofs.ReadsCells.{Through}
+use Rattle.written.proofs.WrittenPasses.{passOver, rowless, free, vacated, Slots}
+use Rattle.written.proofs.WrittenPasses.{emptied, RowsPass, ProcessesPass, TuplesPass, CodePass}
 use Rattle.image.proofs.PastRecords.{pastNode}
-use Rattle.writer.proofs.WrittenProcesses.{bareNode, node-is}
-use Rattle.writer.proofs.WrittenRow.{RowOk}
-use Rattle.writer.proofs.WrittenStore.{TuplesOk}
+use Rattle.written.proofs.WrittenProcesses.{bareNode, node-is}
+use Rattle.written.proofs.WrittenRow.{RowOk}
+use Rattle.written.proofs.WrittenStore.{TuplesOk}
 
 -- ---- what stands at each address: L with the address count and the code length, and zero records past the count
 pub record Staged (L : ℕ → ℕ → Node → Type 0) (s : Net) : Type 0 where

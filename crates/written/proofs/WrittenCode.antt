@@ -5,17 +5,17 @@ use mathlib.Core.Path.{_≡_, refl, sym, ap, subst, _∙_}
 use mathlib.Core.Bool.{Bool, true, false}
 use mathlib.Core.List.{List, [], _∷_, _++_}
 use native.Mathlib.Omega.{arith}
-use Rattle.writer.specs.Types.{Place, Target, Action, Instruction}
+use Rattle.written.specs.Types.{Place, Target, Action, Instruction}
 use Rattle.net.specs.Records.{placeOf, zeroInstruction, withAction, patternAt}
 use Rattle.sound.specs.Soundness.{targetSound}
 use Rattle.image.specs.BitReader.{pure, alternative}
 use Rattle.image.specs.Image.{communication, evaluation, creation, forking, instruction}
-use Rattle.writer.specs.ImageOf.{bitsOf, placeBits, variableBits, targetBits, templateBits, actionBits, instructionBits}
-use Rattle.writer.proofs.ReadsWrites.{Reads, Ranged, reads-map, reads-pure, reads-field}
-use Rattle.writer.proofs.ReadsParts.{reads-in}
-use Rattle.writer.proofs.WrittenFields.{reads-place, reads-variable}
-use Rattle.writer.proofs.WrittenPatterns.{reads-target}
-use Rattle.writer.proofs.WrittenTemplate.{TemplateOk, reads-template}
+use Rattle.written.specs.ImageOf.{bitsOf, placeBits, variableBits, targetBits, templateBits, actionBits, instructionBits}
+use Rattle.written.proofs.ReadsWrites.{Reads, Ranged, reads-map, reads-pure, reads-field}
+use Rattle.written.proofs.ReadsParts.{reads-in}
+use Rattle.written.proofs.WrittenFields.{reads-place, reads-variable}
+use Rattle.written.proofs.WrittenPatterns.{reads-target}
+use Rattle.written.proofs.WrittenTemplate.{TemplateOk, reads-template}
 
 -- ---- the parts of an action
 targetOf : Action → Target

@@ -10,17 +10,17 @@ use lib.ListN.{length, getD, set, replicate, length-replicate, getD-replicate}
 use lib.Seq.{getD-set-same, getD-set-other, set-getD, set-set}
 use lib.Dec.{ltb}
 use borrow.Author.Tests.{ltb-true, lt-ltb}
-use Rattle.writer.specs.Types.{Pattern, TemplateField, Action, Instruction}
+use Rattle.written.specs.Types.{Pattern, TemplateField, Action, Instruction}
 use Rattle.net.specs.Records.{zeroTemplateField, zeroInstruction, patternAt, withPattern}
 use Rattle.sound.specs.Soundness.{bindsNot, unboundBefore, bindsAnew}
 use Rattle.image.specs.Image.{templateField, template}
-use Rattle.writer.specs.ImageOf.{bitsOf, joined, patternBits, templateBits}
+use Rattle.written.specs.ImageOf.{bitsOf, joined, patternBits, templateBits}
 use Rattle.net.proofs.Laws.{choose-true, implies-i, implies-e, all-i, all-e, split}
 use Rattle.net.proofs.Every.{Every, Filled}
 use Rattle.image.proofs.PastRecords.{pastTemplate}
-use Rattle.writer.proofs.ReadsWrites.{Reads, reads-then, reads-bits}
-use Rattle.writer.proofs.ReadsCells.{Arrayed, Through, Filling, reads-turn, reads-cells, rewritten-filled, filled-rewritten}
-use Rattle.writer.proofs.WrittenPatterns.{PatternOk, reads-pattern}
+use Rattle.written.proofs.ReadsWrites.{Reads, reads-then, reads-bits}
+use Rattle.written.proofs.ReadsCells.{Arrayed, Through, Filling, reads-turn, reads-cells, rewritten-filled, filled-rewritten}
+use Rattle.written.proofs.WrittenPatterns.{PatternOk, reads-pattern}
 
 -- ---- a template
 -- rule 27 looks at the earlier fields alone

@@ -8,18 +8,18 @@ use native.Mathlib.Omega.{arith}
 use lib.ListN.{getD, set, replicate, length-replicate, getD-replicate}
 use lib.Seq.{set-getD, set-set}
 use Rattle.net.specs.Choice.{choose, fold}
-use Rattle.writer.specs.Types.{Place, Tuple, Row, Process, Node}
+use Rattle.written.specs.Types.{Place, Tuple, Row, Process, Node}
 use Rattle.net.specs.Records.{startingAt, freeProcess, zeroTuple, processAt}
 use Rattle.net.specs.Records.{withProcess}
 use Rattle.image.specs.Image.{row, process, processes, stored, tuples}
-use Rattle.writer.specs.ImageOf.{bitsOf, joined, placeBits, processCount, processesBits}
+use Rattle.written.specs.ImageOf.{bitsOf, joined, placeBits, processCount, processesBits}
 use Rattle.net.proofs.Laws.{choose-true, choose-false}
 use Rattle.net.proofs.Every.{Every, Filled}
 use Rattle.net.proofs.Past.{pastProcess}
-use Rattle.writer.proofs.ReadsWrites.{Reads, reads-then, reads-field}
-use Rattle.writer.proofs.ReadsCells.{Arrayed, Through, Filling, reads-turn, reads-cells}
-use Rattle.writer.proofs.ReadsCells.{rewritten-filled, filled-rewritten}
-use Rattle.writer.proofs.WrittenFields.{reads-place}
+use Rattle.written.proofs.ReadsWrites.{Reads, reads-then, reads-field}
+use Rattle.written.proofs.ReadsCells.{Arrayed, Through, Filling, reads-turn, reads-cells}
+use Rattle.written.proofs.ReadsCells.{rewritten-filled, filled-rewritten}
+use Rattle.written.proofs.WrittenFields.{reads-place}
 
 pub record Starts (k : ℕ) (p : Process) : Type 0 where
   pub first : Place

@@ -7,20 +7,20 @@ use native.Mathlib.Omega.{arith}
 use lib.ListN.{getD, set, replicate, length-replicate, getD-replicate}
 use lib.Seq.{set-getD, set-set}
 use borrow.Author.Tests.{lt-ltb}
-use Rattle.writer.specs.Types.{Tuple, Row, Process, Node}
+use Rattle.written.specs.Types.{Tuple, Row, Process, Node}
 use Rattle.net.specs.Records.{zeroTuple, tupleAt}
 use Rattle.net.specs.Records.{withTuple}
 use Rattle.image.specs.Image.{row, processes, stored, tuples}
-use Rattle.writer.specs.ImageOf.{bitsOf, joined}
-use Rattle.writer.specs.ImageOf.{tupleBits, tuplesBits}
+use Rattle.written.specs.ImageOf.{bitsOf, joined}
+use Rattle.written.specs.ImageOf.{tupleBits, tuplesBits}
 use Rattle.net.proofs.Laws.{choose-true}
 use Rattle.net.proofs.Every.{Every, Filled}
 use Rattle.net.proofs.Past.{pastTuple}
-use Rattle.writer.proofs.ReadsWrites.{Reads, reads-then, reads-field}
-use Rattle.writer.proofs.ReadsCells.{Arrayed, Through, Filling, reads-turn, reads-cells}
-use Rattle.writer.proofs.ReadsCells.{rewritten-filled, filled-rewritten}
-use Rattle.writer.proofs.WrittenTuples.{TupleOk, reads-tuple}
-use Rattle.writer.proofs.WrittenProcesses.{bareNode, node-is}
+use Rattle.written.proofs.ReadsWrites.{Reads, reads-then, reads-field}
+use Rattle.written.proofs.ReadsCells.{Arrayed, Through, Filling, reads-turn, reads-cells}
+use Rattle.written.proofs.ReadsCells.{rewritten-filled, filled-rewritten}
+use Rattle.written.proofs.WrittenTuples.{TupleOk, reads-tuple}
+use Rattle.written.proofs.WrittenProcesses.{bareNode, node-is}
 
 pub record TuplesOk (n : ℕ) (x : Node) : Type 0 where
   pub few : x .stored ≤ 16

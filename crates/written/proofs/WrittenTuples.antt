@@ -11,19 +11,19 @@ use lib.Dec.{eqb}
 use lib.IntN.{ℤ}
 use borrow.Author.Tests.{ltb-true, lt-ltb}
 use Rattle.net.specs.Choice.{choose}
-use Rattle.writer.specs.Types.{Locality, Item, Field, Tuple}
+use Rattle.written.specs.Types.{Locality, Item, Field, Tuple}
 use Rattle.net.specs.Records.{zeroField, zeroTuple, fieldAt, withField}
 use Rattle.sound.specs.Soundness.{itemSound}
 use Rattle.image.specs.Image.{readingItem, addressItem, item, tupleField, tuple}
-use Rattle.writer.specs.ImageOf.{bitsOf, joined, addressBits, readingBits, itemBits, tupleBits}
-use Rattle.writer.specs.Fresh.{readingFits, itemFits}
+use Rattle.written.specs.ImageOf.{bitsOf, joined, addressBits, readingBits, itemBits, tupleBits}
+use Rattle.written.specs.Fresh.{readingFits, itemFits}
 use Rattle.net.proofs.Laws.{choose-true}
 use Rattle.net.proofs.Every.{Every, Filled}
 use Rattle.image.proofs.PastRecords.{pastField}
-use Rattle.writer.proofs.ReadsWrites.{Reads, reads-then, reads-map, reads-bits}
-use Rattle.writer.proofs.ReadsParts.{Kinded, reads-kind}
-use Rattle.writer.proofs.ReadsCells.{Arrayed, Through, Filling, reads-turn, reads-cells, rewritten-filled, filled-rewritten}
-use Rattle.writer.proofs.WrittenFields.{reads-address, reads-reading}
+use Rattle.written.proofs.ReadsWrites.{Reads, reads-then, reads-map, reads-bits}
+use Rattle.written.proofs.ReadsParts.{Kinded, reads-kind}
+use Rattle.written.proofs.ReadsCells.{Arrayed, Through, Filling, reads-turn, reads-cells, rewritten-filled, filled-rewritten}
+use Rattle.written.proofs.WrittenFields.{reads-address, reads-reading}
 
 -- ---- a field
 pub record ItemOk (n : ℕ) (x : Item) : Type 0 where

@@ -13,25 +13,25 @@ use Rattle.net.specs.Choice.{choose, both, all, fold}
 use Rattle.net.specs.Records.{startingAt, zeroField, zeroTuple, unsetVariable, freeProcess, zeroRow, zeroNode, addressOf}
 use Rattle.net.specs.Records.{zeroTemplateField, zeroInstruction, fieldAt, variableAt, processAt, tupleAt, patternAt, nodeAt}
 use Rattle.net.specs.Records.{instructionAt, withAction}
-use Rattle.writer.specs.Types.{Place, Tuple, Process, Node, Target, Action, Instruction, Net}
+use Rattle.written.specs.Types.{Place, Tuple, Process, Node, Target, Action, Instruction, Net}
 use Rattle.net.specs.Choice.{inRange}
 use Rattle.sound.specs.Soundness.{isUnset, nodeSound, isZeroNode, nodesSound, instructionSound, isZeroInstruction}
 use Rattle.sound.specs.Soundness.{codeSound, soundOf}
-use Rattle.writer.specs.ImageOf.{processCount}
-use Rattle.writer.specs.Fresh.{readingFits, itemFits, patternFits, tupleFits, processFits, nodeFits, instructionFits}
-use Rattle.writer.specs.Fresh.{netFits, slotStarts, nodeStarts}
+use Rattle.written.specs.ImageOf.{processCount}
+use Rattle.written.specs.Fresh.{readingFits, itemFits, patternFits, tupleFits, processFits, nodeFits, instructionFits}
+use Rattle.written.specs.Fresh.{netFits, slotStarts, nodeStarts}
 use Rattle.net.proofs.Laws.{both-i, both-l, both-r, choose-true, choose-false, all-i, all-e}
 use Rattle.net.proofs.Every.{Every, Filled}
-use Rattle.writer.proofs.WrittenTuples.{TupleOk}
-use Rattle.writer.proofs.WrittenTemplate.{TemplateOk}
-use Rattle.writer.proofs.WrittenCode.{Communicated, Evaluated, Created, Forked, Acting, InstructionOk}
-use Rattle.writer.proofs.WrittenStages.{WithTuples}
-use Rattle.writer.proofs.WrittenWhole.{NetOk}
-use Rattle.writer.proofs.FreshZero.{filled-tests, zero-node}
-use Rattle.writer.proofs.FreshNode.{range-low, range-high, node-ok}
-use Rattle.writer.proofs.FreshCode.{zero-instruction, instruction-ok}
+use Rattle.written.proofs.WrittenTuples.{TupleOk}
+use Rattle.written.proofs.WrittenTemplate.{TemplateOk}
+use Rattle.written.proofs.WrittenCode.{Communicated, Evaluated, Created, Forked, Acting, InstructionOk}
+use Rattle.written.proofs.WrittenStages.{WithTuples}
+use Rattle.written.proofs.WrittenWhole.{NetOk}
+use Rattle.written.proofs.FreshZero.{filled-tests, zero-node}
+use Rattle.written.proofs.FreshNode.{range-low, range-high, node-ok}
+use Rattle.written.proofs.FreshCode.{zero-instruction, instruction-ok}
 use Rattle.image.proofs.PastRecords.{pastNode, pastInstruction}
-use Rattle.writer.proofs.WrittenProcesses.{Starts, ProcessesOk, count-is}
+use Rattle.written.proofs.WrittenProcesses.{Starts, ProcessesOk, count-is}
 
 -- ---- a test that good records and the zero record pass
 passes : {A : Type 0} {U : A → Type 0} {z d : A} {size count : ℕ} {xs : List A} (test : A → Bool)

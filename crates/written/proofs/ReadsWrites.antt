@@ -12,11 +12,11 @@ use borrow.Author.Tests.{leb-true, ltb-true, le-leb, lt-ltb}
 use Rattle.net.specs.Choice.{choose, both}
 use Rattle.image.specs.BitReader.{Parsed, got, fault, Reader, pure, andThen, _>>=_, _>>_, turns, each}
 use Rattle.image.specs.BitReader.{require, numberAt, judged, field, bits}
-use Rattle.writer.specs.ImageOf.{bitsOf, joined}
+use Rattle.written.specs.ImageOf.{bitsOf, joined}
 use Rattle.net.proofs.Laws.{both-i, both-l, both-r, choose-true}
 use Rattle.image.proofs.Budget.{no-fault, choose-got}
-use Rattle.writer.proofs.BitsAt.{BitsAt, stands-append, stands-first, stands-rest, stands-none}
-use Rattle.writer.proofs.BitsAt.{bits-length, number-stands, stands-number}
+use Rattle.written.proofs.BitsAt.{BitsAt, stands-append, stands-first, stands-rest, stands-none}
+use Rattle.written.proofs.BitsAt.{bits-length, number-stands, stands-number}
 
 -- from place p to place q stand the bits of a value in range
 pub record Bears {A : Type 0} (w : A → List Bool) (P : A → Type 0) (s : List ℕ) (p : ℕ) (a : A) (q : ℕ) : Type 0 where

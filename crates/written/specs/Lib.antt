@@ -1,0 +1,4 @@
+pub mod Fresh
+pub mod ImageOf
+pub mod Types
+pub mod WrittenClaims
