@@ -19,8 +19,8 @@ use Rattle.written.proofs.FreshZero.{node-fit}
 use Rattle.written.proofs.FreshNet.{zero-node-fits, zero-instruction-fits, net-fits}
 use Rattle.written.proofs.WrittenWhole.{NetOk}
 use Rattle.written.proofs.AcceptedWritten.{opened-ok}
-use Rattle.step.specs.Shape.{ShapedTuple, ShapedProcess, ShapedNode, ShapedInstruction, Shaped}
-use Rattle.step.proofs.SoundFacts.{pastNode, pastInstruction}
+use Rattle.net.specs.Shape.{ShapedTuple, ShapedProcess, ShapedNode, ShapedInstruction, Shaped}
+use Rattle.net.proofs.Past.{pastNode, pastInstruction}
 use Rattle.run.specs.Types.{Tuple, Process, Node, Instruction, Net}
 
 -- ---- records that fit their types have their lengths

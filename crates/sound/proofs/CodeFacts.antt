@@ -60,7 +60,7 @@ module _ (n : ℕ) (c : Instruction) where
         (both-r (inRange 1 (c .count) 4) _ h) (λ j l e. e) (λ j l. zeroIsZero .templateField _ .0);
   }
 
-  template-sound : TemplateOk n c → templateSound n c ≡ true
+  pub template-sound : TemplateOk n c → templateSound n c ≡ true
   unfolding templateSound patternAt
   template-sound ok =
       both-i _ _ (in-range 1 (c .count) 4 (ok .least) (ok .most))

@@ -18,7 +18,7 @@ use Rattle.image.proofs.AcceptedSound.{accepted-is-sound}
 use Rattle.image.proofs.PastRecords.{pastRights, pastNode}
 use Rattle.written.proofs.WrittenWhole.{NetOk}
 use Rattle.written.proofs.AcceptedWritten.{opened-ok}
-use Rattle.step.proofs.SoundFacts.{in-range-low}
+use Rattle.net.proofs.Laws.{in-range-low}
 use Rattle.tenant.specs.Types.{Locality, Rights, Node, Net, Verdict}
 use Rattle.run.specs.Run.{Ran, ran, ranFrom, runIn, runOf}
 use Rattle.tenant.specs.TenantRule.{grants, creates, Fenced, Agree, TenantRule}

@@ -26,7 +26,7 @@ use Rattle.written.specs.Fresh.{readingFits, itemFits, patternFits, tupl
 use Rattle.written.specs.Fresh.{netFits, slotStarts, nodeStarts, freshOf}
 use Rattle.written.specs.WrittenClaims.{Bytes, LongestIsReached}
 use Rattle.net.proofs.Laws.{both-i, implies-i, choose-true, all-i}
-use Rattle.net.proofs.Past.{in-range}
+use Rattle.net.proofs.Laws.{in-range}
 use Rattle.image.proofs.PastRecords.{pastNode, pastInstruction}
 use Rattle.written.proofs.WrittenBytes.{bytes-length, bytes-small}
 use Rattle.written.proofs.AcceptedWritten.{fresh-accepted}
