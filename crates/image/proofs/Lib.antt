@@ -8,7 +8,6 @@ pub mod FirstBytes
 pub mod Gives
 pub mod ImageLaws
 pub mod LayoutLaws
-pub mod PastRecords
 pub mod ReaderLaws
 pub mod ReaderRecord
 pub mod SignedLaws

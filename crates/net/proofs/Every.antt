@@ -88,11 +88,19 @@ module _ {A : Type 0} {U Z : A → Type 0} {d : A} {size count : ℕ} {xs : List
       go (yes l) = g _ (e .holds j h .unused l)
       go (no l) = f _ (e .holds j h .used (omega arith))
 
+  pub filled-at :
+      {U₂ Z₂ : A → Type 0} → Every (Filled U Z count) d size xs
+      → ((j : ℕ) → j < size → U (getD xs j d) → U₂ (getD xs j d)) → ((x : A) → Z x → Z₂ x)
+      → Every (Filled U₂ Z₂ count) d size xs
+  filled-at e f g = record {
+    size-is = e .size-is;
+    holds = λ j h. record { used = λ l. f j h (e .holds j h .used l); unused = λ l. g _ (e .holds j h .unused l) };
+  }
+
   pub filled-map :
       {U₂ Z₂ : A → Type 0} → ((x : A) → U x → U₂ x) → ((x : A) → Z x → Z₂ x) → Every (Filled U Z count) d size xs
       → Every (Filled U₂ Z₂ count) d size xs
-  filled-map f g e =
-      every-weaken e (λ j x h. record { used = λ l. f x (h .used l); unused = λ l. g x (h .unused l) })
+  filled-map f g e = filled-at e (λ j h. f _) g
 
   -- the computed test, and back
   pub filled-all :

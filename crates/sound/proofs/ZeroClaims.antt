@@ -28,7 +28,7 @@ use Rattle.net.proofs.ReadingLaws.{never, reading-equal}
 -- ---- what every kind of record has in common
 
 -- an array of zero records
-zeros : {A : Type 0} (z d : A) (size : ℕ) (xs : List A) → length xs ≡ size → ((j : ℕ) → j < size → getD xs j d ≡ z)
+pub zeros : {A : Type 0} (z d : A) (size : ℕ) (xs : List A) → length xs ≡ size → ((j : ℕ) → j < size → getD xs j d ≡ z)
     → xs ≡ replicate size z
 zeros z d size xs e f =
     ext-getD d xs (replicate size z) (e ∙ sym (length-replicate size z))

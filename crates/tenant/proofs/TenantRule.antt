@@ -15,7 +15,7 @@ use Rattle.image.specs.Image.{openedOf}
 use Rattle.image.specs.ImageClaims.{AcceptedIsSound}
 use Rattle.net.proofs.Laws.{both-l}
 use Rattle.image.proofs.AcceptedSound.{accepted-is-sound}
-use Rattle.image.proofs.PastRecords.{pastRights, pastNode}
+use Rattle.net.proofs.Past.{pastRights, pastNode}
 use Rattle.written.proofs.WrittenWhole.{NetOk}
 use Rattle.written.proofs.AcceptedWritten.{opened-ok}
 use Rattle.net.proofs.Laws.{in-range-low}

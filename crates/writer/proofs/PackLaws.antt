@@ -22,6 +22,7 @@ use Rattle.written.specs.Fresh.{netFits, slotStarts, nodeStarts, freshOf}
 use Rattle.written.specs.ImageOf.{joined, processCount, digit, numberIn, bytesOf, netBits, imageOf}
 use Rattle.writer.specs.Writing.{Wrote, Counts, bytesIn}
 use Rattle.written.proofs.AcceptedWritten.{fresh-accepted}
+use Rattle.written.proofs.FreshFits.{net-fit}
 use Rattle.writer.proofs.CountLaws.{counts-of}
 use Rattle.written.proofs.WrittenBytes.{bytes-length}
 
@@ -41,7 +42,8 @@ slot-as x i n good e d = rw (← e) d
 -- ---- a fresh net
 pub fresh-counts : (net : Net) → freshOf net ≡ true → Counts net
 unfolding freshOf
-fresh-counts net h = counts-of net (both-l (soundOf net) _ (both-r (netFits net) _ h))
+fresh-counts net h =
+    counts-of net (net-fit net (both-l _ _ h) .shaped) (both-l (soundOf net) _ (both-r (netFits net) _ h))
 
 fresh-room : (net : Net) → freshOf net ≡ true → length (netBits net) ≤ 117992
 unfolding imageOf LongestAccepted accepted

@@ -3,7 +3,7 @@ pub mod BitsAt
 pub mod FreshCode
 pub mod FreshNet
 pub mod FreshNode
-pub mod FreshZero
+pub mod FreshFits
 pub mod LongestImage
 pub mod ReadsCells
 pub mod ReadsParts
