@@ -9,8 +9,8 @@ use lib.Dec.{ltb}
 use lib.ListN.{length, getD, replicate, length-replicate, getD-replicate, List·getD-append, List·getD-eq-default, drop}
 use lib.Seq.{sets-eq, getD-append-add, getD-drop}
 use Rattle.net.specs.Choice.{choose, both, all}
-use Rattle.net.specs.Records.{variableAt, processAt, nodeAt, addressOf}
-use Rattle.sound.specs.Soundness.{isUnset, soundOf}
+use Rattle.net.specs.Records.{processAt, nodeAt, addressOf}
+use Rattle.sound.specs.Soundness.{allUnset, soundOf}
 use Rattle.net.proofs.Laws.{both-l, both-r, choose-true, choose-false}
 use Rattle.image.specs.Image.{accepted, admits}
 use Rattle.image.specs.LengthClaims.{LongestAccepted}
@@ -33,8 +33,7 @@ both-true a b p = rw p
 -- ---- a slot as an image starts it
 pub slot-as :
     (x : Node) (i n : ℕ) (good : Bool) → n ≡ processCount x
-    → good ≡ both (choose (ltb i n) (processAt x i .busy) (not (processAt x i .busy)))
-    (all 8 (λ v. isUnset (variableAt (processAt x i) v)))
+    → good ≡ both (choose (ltb i n) (processAt x i .busy) (not (processAt x i .busy))) (allUnset (processAt x i))
     → good ≡ slotStarts x i
 unfolding slotStarts
 slot-as x i n good e d = rw (← e) d
