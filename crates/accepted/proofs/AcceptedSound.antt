@@ -8,52 +8,33 @@ use mathlib.Core.List.{List}
 use native.Mathlib.Omega.{arith}
 use lib.ListN.{length}
 use Rattle.accepted.specs.Types.{Locality, Place, Node, Instruction, Net}
-use Rattle.net.specs.Records.{zeroNode, zeroInstruction, emptyNet, nodeAt, instructionAt, addressOf, placeOf}
+use Rattle.net.specs.Records.{emptyNet, nodeAt, addressOf, placeOf}
 use Rattle.net.specs.Records.{withNode, withInstruction, withCounts}
-use Rattle.sound.specs.Soundness.{nodeSound, isZeroNode, instructionSound, isZeroInstruction}
-use Rattle.sound.specs.Soundness.{nodesSound, codeSound, soundOf}
-use Rattle.accepted.specs.Types.{Fault, Verdict, Opened}
-use Rattle.readers.specs.Reader.{Parsed, Reader, each, numbered}
-use Rattle.image.specs.Image.{eachAddress, eachPlace, header, row, rowOf, rows, processes, processesOf, allProcesses}
+use Rattle.sound.specs.Soundness.{soundOf}
+use Rattle.readers.specs.Reader.{Fault, Parsed, Reader, each, numbered}
+use Rattle.image.specs.Image.{Verdict, Opened, eachAddress, eachPlace, header, row, rowOf, rows, processes, processesOf, allProcesses}
 use Rattle.image.specs.Image.{tuples, tuplesOf, allTuples, instructionOf, code}
 use Rattle.instructions.specs.Instruction.{instruction}
 use Rattle.bitreader.specs.Ending.{endsAt, ending}
 use Rattle.image.specs.Image.{layout, refused, accepted, judgedNet, openedOf, numberOf}
 use Rattle.keeping.specs.Admission.{admits}
 use Rattle.accepted.specs.ImageClaims.{AcceptedIsSound, RefusedIsEmpty, Numbered, RefusedIsNumbered}
-use Rattle.net.proofs.Laws.{both-i}
-use Rattle.net.proofs.Every.{chosen, Every, every-replicate, every-weaken, Filled, filled-set, filled-all}
+use Rattle.net.proofs.Every.{chosen}
+use Rattle.sound.proofs.NodeFacts.{NodeOk}
+use Rattle.sound.proofs.NodeChanges.{with-row}
+use Rattle.sound.proofs.CodeFacts.{InstructionOk}
+use Rattle.sound.proofs.NetFacts.{NetWith, net-sound}
+use Rattle.sound.proofs.NetChanges.{empty-net, node-at, with-node, with-instruction}
 use Rattle.accepted.proofs.Gives.{Fine, value, stopped, Gives, gives-pure, gives-weaken, gives-then, gives-and}
 use Rattle.accepted.proofs.Gives.{gives-each, gives-require, Between, gives-field}
-use Rattle.net.proofs.Past.{in-range}
-use Rattle.image.proofs.PastRecords.{pastNode, pastInstruction}
-use Rattle.accepted.proofs.AcceptedNode.{NodeGood, node-sound, zero-node, zero-node-ok}
-use Rattle.accepted.proofs.AcceptedNode.{gives-row, set-row, gives-processes, gives-tuples}
-use Rattle.accepted.proofs.AcceptedCode.{zero-instruction, stop-sound, gives-instruction}
+use Rattle.accepted.proofs.AcceptedNode.{gives-row, gives-processes, gives-tuples}
+use Rattle.accepted.proofs.AcceptedCode.{gives-instruction}
 
 -- ---- the net under construction
-record NetOk (n k : ℕ) (s : Net) : Type 0 where
+record Making (n k : ℕ) (s : Net) : Type 0 where
   addresses-are : s .addresses ≡ n
   length-is : s .length ≡ k
-  addresses-in : Between 1 n 17
-  length-in : Between 1 k 513
-  nodes-ok : Every (Filled (NodeGood n k) (λ x. isZeroNode x ≡ true) n) pastNode 16 (s .nodes)
-  code-ok :
-      Every (Filled (λ c. instructionSound n k c ≡ true) (λ c. isZeroInstruction c ≡ true) k) pastInstruction 512
-      (s .code)
-
-ok-sound : (s : Net) → NetOk (s .addresses) (s .length) s → soundOf s ≡ true
-unfolding soundOf nodesSound codeSound nodeAt instructionAt
-ok-sound s ok =
-    let n : ℕ = s .addresses in
-    let k : ℕ = s .length in
-    both-i _ _
-    (both-i _ _ (in-range 1 n 16 (ok .addresses-in .above) (omega arith))
-    (in-range 1 k 512 (ok .length-in .above) (omega arith)))
-    (both-i _ _
-    (filled-all (nodeSound n k) isZeroNode pastNode 16 n (s .nodes)
-    (every-weaken (ok .nodes-ok) (λ j x e. record { used = λ l. node-sound n k x (e .used l); unused = e .unused })))
-    (filled-all (instructionSound n k) isZeroInstruction pastInstruction 512 k (s .code) (ok .code-ok)))
+  facts : NetWith n k s
 
 -- what the whole layout gives: a sound net, with room for no more than a net has
 pub record Laid (s : Net) : Type 0 where
@@ -61,11 +42,11 @@ pub record Laid (s : Net) : Type 0 where
   pub few : s .addresses ≤ 16
   pub short : length (s .code) ≤ 512
 
-net-laid : (n k : ℕ) (s : Net) → NetOk n k s → Laid s
+net-laid : (n k : ℕ) (s : Net) → Making n k s → Laid s
 net-laid n k s ok = record {
-  sound = ok-sound s (subst₂ (λ (a b : ℕ). NetOk a b s) (sym (ok .addresses-are)) (sym (ok .length-is)) ok);
-  few = omega (arith, ok .addresses-are, ok .addresses-in .below);
-  short = omega (arith, ok .code-ok .size-is);
+  sound = net-sound s (subst₂ (λ (a b : ℕ). NetWith a b s) (sym (ok .addresses-are)) (sym (ok .length-is)) (ok .facts));
+  few = omega (arith, ok .addresses-are, ok .facts .addresses-most);
+  short = omega (arith, ok .facts .code-ok .size-is);
 }
 
 -- a reader over a number, at an equal number
@@ -73,107 +54,92 @@ gives-at : {A : Type 0} {P : A → Type 0} {m n : ℕ} (f : ℕ → Reader A) �
 gives-at {P} f e g = subst (λ x. Gives (f x) P) (sym e) g
 
 -- ---- 1. the header: every record is zero
-record SomeOk (s : Net) : Type 0 where
+record Begun (s : Net) : Type 0 where
   n : ℕ
   k : ℕ
-  net-ok : NetOk n k s
+  making : Making n k s
 
-empty-ok : (n k : ℕ) → Between 1 n 17 → Between 1 k 513 → NetOk n k (withCounts emptyNet n k)
-unfolding withCounts emptyNet
-empty-ok n k h g = record {
+begin : (n k : ℕ) → Between 1 n 17 → Between 1 k 513 → Making n k (withCounts emptyNet n k)
+unfolding withCounts
+begin n k h g = record {
   addresses-are = refl;
   length-is = refl;
-  addresses-in = h;
-  length-in = g;
-  nodes-ok = every-replicate _ pastNode 16 zeroNode
-      (λ j _. record { used = λ _. zero-node-ok n k; unused = λ _. zero-node });
-  code-ok = every-replicate _ pastInstruction 512 zeroInstruction
-      (λ j _. record { used = λ _. stop-sound n k; unused = λ _. zero-instruction });
+  facts = empty-net n k n k (h .above) (omega (arith, h .below)) (g .above) (omega (arith, g .below));
 }
 
-gives-header : Gives header SomeOk
+gives-header : Gives header Begun
 unfolding header
 gives-header =
     gives-then (gives-field 4 1 2 21 (omega arith))
     (λ format _. gives-then (gives-field 5 1 17 22 (omega arith))
     (λ n h. gives-then (gives-field 10 1 513 22 (omega arith))
-    (λ k g. gives-pure _ _ (record { n = n; k = k; net-ok = empty-ok n k h g }))))
+    (λ k g. gives-pure _ _ (record { n = n; k = k; making = begin n k h g }))))
 
 module _ (n k : ℕ) where
   -- ---- 2 to 4. what stands at each address
-  set-node : (s : Net) (a : Locality) (x : Node) → a .0 < n → NetOk n k s → NodeGood n k x → NetOk n k (withNode s a x)
+  set-node : (s : Net) (a : Locality) (x : Node) → a .0 < n → Making n k s → NodeOk n k x → Making n k (withNode s a x)
   unfolding withNode
-  set-node s a x h ok x-ok = record {
-    addresses-are = ok .addresses-are;
-    length-is = ok .length-is;
-    addresses-in = ok .addresses-in;
-    length-in = ok .length-in;
-    nodes-ok = filled-set (a .0) x h x-ok (ok .nodes-ok);
-    code-ok = ok .code-ok;
-  }
+  set-node s a x h ok x-ok =
+      record { addresses-are = ok .addresses-are; length-is = ok .length-is; facts = with-node s (ok .facts) a x h x-ok }
 
-  node-ok : (s : Net) (a : Locality) → a .0 < n → NetOk n k s → NodeGood n k (nodeAt s a)
-  unfolding nodeAt
-  node-ok s a h ok = ok .nodes-ok .holds (a .0) (omega arith) .used h
+  node-ok : (s : Net) (a : Locality) → a .0 < n → Making n k s → NodeOk n k (nodeAt s a)
+  node-ok s a h ok = node-at s (ok .facts) a h
 
   -- turns that keep the net sound, one for each address or for each place
   gives-all :
       (f : ℕ → Net → Reader Net) (m i : ℕ) → m ≡ i
-      → ((j : ℕ) (s : Net) → j < i → NetOk n k s → Gives (f j s) (NetOk n k)) → (s : Net) → NetOk n k s
-      → Gives (each m f s) (NetOk n k)
+      → ((j : ℕ) (s : Net) → j < i → Making n k s → Gives (f j s) (Making n k)) → (s : Net) → Making n k s
+      → Gives (each m f s) (Making n k)
   gives-all f m i e turn s ok =
-      gives-at (λ j. each j f s) e (gives-each (λ j. NetOk n k) i f (λ j h t t-ok. turn j t h t-ok) s ok)
+      gives-at (λ j. each j f s) e (gives-each (λ j. Making n k) i f (λ j h t t-ok. turn j t h t-ok) s ok)
 
-  gives-rowOf : (a : Locality) (s : Net) → a .0 < n → NetOk n k s → Gives (rowOf a s) (NetOk n k)
+  gives-rowOf : (a : Locality) (s : Net) → a .0 < n → Making n k s → Gives (rowOf a s) (Making n k)
   unfolding rowOf
   gives-rowOf a s h ok =
       gives-then (gives-at row (ok .addresses-are) (gives-row n))
-      (λ r r-ok. gives-pure _ _ (set-node s a _ h ok (set-row n k _ r (node-ok s a h ok) r-ok)))
+      (λ r r-ok. gives-pure _ _ (set-node s a _ h ok (with-row n k _ (node-ok s a h ok) r r-ok)))
 
-  gives-rows : (s : Net) → NetOk n k s → Gives (rows s) (NetOk n k)
+  gives-rows : (s : Net) → Making n k s → Gives (rows s) (Making n k)
   unfolding rows eachAddress
   gives-rows s ok =
       gives-all (λ i. rowOf (addressOf i)) _ n (ok .addresses-are) (λ i. gives-rowOf (addressOf i)) s ok
 
-  gives-processesOf : (a : Locality) (s : Net) → a .0 < n → NetOk n k s → Gives (processesOf a s) (NetOk n k)
+  gives-processesOf : (a : Locality) (s : Net) → a .0 < n → Making n k s → Gives (processesOf a s) (Making n k)
   unfolding processesOf
   gives-processesOf a s h ok =
       gives-then
       (gives-at (λ m. processes m (nodeAt s a)) (ok .length-is) (gives-processes n k _ (node-ok s a h ok)))
       (λ x x-ok. gives-pure _ _ (set-node s a x h ok x-ok))
 
-  gives-allProcesses : (s : Net) → NetOk n k s → Gives (allProcesses s) (NetOk n k)
+  gives-allProcesses : (s : Net) → Making n k s → Gives (allProcesses s) (Making n k)
   unfolding allProcesses eachAddress
   gives-allProcesses s ok =
       gives-all (λ i. processesOf (addressOf i)) _ n (ok .addresses-are) (λ i. gives-processesOf (addressOf i)) s ok
 
-  gives-tuplesOf : (a : Locality) (s : Net) → a .0 < n → NetOk n k s → Gives (tuplesOf a s) (NetOk n k)
+  gives-tuplesOf : (a : Locality) (s : Net) → a .0 < n → Making n k s → Gives (tuplesOf a s) (Making n k)
   unfolding tuplesOf
   gives-tuplesOf a s h ok =
       gives-then
       (gives-at (λ m. tuples m (nodeAt s a)) (ok .addresses-are) (gives-tuples n k _ (node-ok s a h ok)))
       (λ x x-ok. gives-pure _ _ (set-node s a x h ok x-ok))
 
-  gives-allTuples : (s : Net) → NetOk n k s → Gives (allTuples s) (NetOk n k)
+  gives-allTuples : (s : Net) → Making n k s → Gives (allTuples s) (Making n k)
   unfolding allTuples eachAddress
   gives-allTuples s ok =
       gives-all (λ i. tuplesOf (addressOf i)) _ n (ok .addresses-are) (λ i. gives-tuplesOf (addressOf i)) s ok
 
   -- ---- 5. the code
   set-instruction :
-      (s : Net) (p : Place) (c : Instruction) → p .0 < k → NetOk n k s → instructionSound n k c ≡ true
-      → NetOk n k (withInstruction s p c)
+      (s : Net) (p : Place) (c : Instruction) → p .0 < k → Making n k s → InstructionOk n k c
+      → Making n k (withInstruction s p c)
   unfolding withInstruction
   set-instruction s p c h ok e = record {
     addresses-are = ok .addresses-are;
     length-is = ok .length-is;
-    addresses-in = ok .addresses-in;
-    length-in = ok .length-in;
-    nodes-ok = ok .nodes-ok;
-    code-ok = filled-set (p .0) c h e (ok .code-ok);
+    facts = with-instruction s (ok .facts) p c h e;
   }
 
-  gives-instructionOf : (p : Place) (s : Net) → p .0 < k → NetOk n k s → Gives (instructionOf p s) (NetOk n k)
+  gives-instructionOf : (p : Place) (s : Net) → p .0 < k → Making n k s → Gives (instructionOf p s) (Making n k)
   unfolding instructionOf
   gives-instructionOf p s h ok =
       gives-then
@@ -181,7 +147,7 @@ module _ (n k : ℕ) where
       (gives-at (instruction n) (ok .length-is) (gives-instruction n k)))
       (λ c e. gives-pure _ _ (set-instruction s p c h ok e))
 
-  gives-code : (s : Net) → NetOk n k s → Gives (code s) (NetOk n k)
+  gives-code : (s : Net) → Making n k s → Gives (code s) (Making n k)
   unfolding code eachPlace
   gives-code s ok =
       gives-all (λ i. instructionOf (placeOf i)) _ k (ok .length-is) (λ i. gives-instructionOf (placeOf i)) s ok
@@ -198,7 +164,7 @@ unfolding layout
 gives-layout =
     gives-then gives-header
     (λ s₁ ok. let n = ok .n in let k = ok .k in
-    gives-then (gives-rows n k s₁ (ok .net-ok))
+    gives-then (gives-rows n k s₁ (ok .making))
     (λ s₂ ok₂. gives-then (gives-allProcesses n k s₂ ok₂)
     (λ s₃ ok₃. gives-then (gives-allTuples n k s₃ ok₃)
     (λ s₄ ok₄. gives-then (gives-code n k s₄ ok₄)

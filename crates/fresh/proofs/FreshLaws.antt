@@ -4,8 +4,8 @@ use mathlib.Core.Path.{_≡_, sym, _∙_}
 use mathlib.Core.Bool.{Bool, true, not}
 use lib.Dec.{ltb}
 use Rattle.net.specs.Choice.{choose, both, all}
-use Rattle.net.specs.Records.{variableAt, processAt, nodeAt, addressOf, processCount}
-use Rattle.sound.specs.Soundness.{isUnset, soundOf}
+use Rattle.net.specs.Records.{processAt, nodeAt, addressOf, processCount}
+use Rattle.sound.specs.Soundness.{allUnset, soundOf}
 use Rattle.keeping.specs.Admission.{admits}
 use Rattle.fresh.specs.Types.{Node, Net}
 use Rattle.fresh.specs.Fresh.{netFits, slotStarts, nodeStarts, freshOf}
@@ -13,8 +13,7 @@ use Rattle.fresh.specs.Fresh.{netFits, slotStarts, nodeStarts, freshOf}
 -- ---- a slot as an image starts it
 pub slot-as :
     (x : Node) (i n : ℕ) (good : Bool) → n ≡ processCount x
-    → good ≡ both (choose (ltb i n) (processAt x i .busy) (not (processAt x i .busy)))
-    (all 8 (λ v. isUnset (variableAt (processAt x i) v)))
+    → good ≡ both (choose (ltb i n) (processAt x i .busy) (not (processAt x i .busy))) (allUnset (processAt x i))
     → good ≡ slotStarts x i
 unfolding slotStarts
 slot-as x i n good e d = rw (← e) d

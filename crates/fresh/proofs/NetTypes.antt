@@ -1,23 +1,19 @@
 -- Every net that a running program holds fits (`netFits` of `specs/Fresh.antt`): its arrays have their lengths and its
 -- readings 32 bits. So says the relation that the logic has between a value of a type and its machine values, type by
 -- type. Assumes nothing.
-use Prim.Native.Nat.{ℕ, zero, suc, _<_}
+use Prim.Native.Nat.{_<_}
 use mathlib.Core.Path.{_≡_, refl}
 use mathlib.Core.Bool.{true}
-use mathlib.Core.List.{List, [], _∷_, map}
-use native.Mathlib.Nat.{not-suc-le-zero, le-of-suc-le-suc}
-use native.Mathlib.Omega.{arith}
-use lib.ListN.{length, getD}
+use mathlib.Core.List.{List}
 use lib.IntN.{ℤ}
 use lib.Signed.{mag}
 use borrow.Author.Tests.{eq-eqb, lt-ltb}
 use mir.Val.{Val}
-use denote.Array.{Array, each}
 use denote.Laws.{Is}
-use denote.Shadow.{shadow}
-use denote.Struct.Declared.{Declared, row, field}
+use denote.Struct.Declared.{row, field}
 use denote.Enum.Declared as enum
-use Rattle.net.proofs.Laws.{length-mapped, both-i, all-i}
+use Rattle.net.proofs.Laws.{both-i, all-i}
+use Rattle.net.proofs.Lengths.{long, element}
 use Rattle.net.proofs.instruction.Instruction as instruction
 use Rattle.net.proofs.instruction.TemplateField as templateField
 use Rattle.net.proofs.instruction.Pattern as pattern
@@ -33,26 +29,6 @@ use Rattle.net.specs.Records.{fieldAt, patternAt, processAt, tupleAt, nodeAt, i
 use Rattle.fresh.specs.Types.{Item, Field, Tuple, Process, Node, Pattern, TemplateField, Instruction, Net}
 use Rattle.fresh.specs.Fresh.{readingFits, itemFits, patternFits, tupleFits, processFits, nodeFits, instructionFits, netFits}
 
--- ---- an array of a declared type
-module _ (T : Declared) where
-  long : (xs : List (T .D)) (n : ℕ) (vs : List Val) → Is (Array (field T .row) n) (map (T .to) xs) vs → length xs ≡ n
-  long xs n vs h = length-mapped (T .to) xs n (h .1 .0 .1)
-
-  module _ (P : T .D → Type 0) (known : (x : T .D) (vs : List Val) → Is (field T .row) (T .to x) vs → P x) where
-    at :
-        (xs : List (T .D)) (us : List Val) → shadow (each (field T .row .Denot) (field T .row .own) (map (T .to) xs) us)
-        → (d : T .D) (i : ℕ) → i < length xs → P (getD xs i d)
-    at [] us h d i l = absurd (not-suc-le-zero l)
-    at (x ∷ xs) [] h d i l = absurd h
-    at (x ∷ xs) (u ∷ us) h d zero l = known x _ (h .0)
-    at (x ∷ xs) (u ∷ us) h d (suc i) l = at xs us (h .1) d i (le-of-suc-le-suc l)
-
-    element :
-        (xs : List (T .D)) (n : ℕ) (vs : List Val) → Is (Array (field T .row) n) (map (T .to) xs) vs
-        → (d : T .D) (i : ℕ) → i < n → P (getD xs i d)
-    element xs n vs h d i l = at xs (h .0) (h .1 .1) d i (omega (arith, long xs n vs h))
-
--- ---- type by type
 reading-fits : (z : ℤ) → mag z < 2147483648 → readingFits z ≡ true
 unfolding readingFits
 reading-fits (ℤ.pos v) h = lt-ltb v 2147483648 h

@@ -6,8 +6,8 @@ use lib.ListN.{length}
 use lib.Dec.{eqb, ltb}
 use lib.IntN.{ℤ}
 use Rattle.net.specs.Choice.{choose, both, all}
-use Rattle.net.specs.Records.{fieldAt, variableAt, processAt, tupleAt, patternAt, nodeAt, instructionAt, addressOf, placeOf, processCount}
-use Rattle.sound.specs.Soundness.{isUnset, soundOf}
+use Rattle.net.specs.Records.{fieldAt, processAt, tupleAt, patternAt, nodeAt, instructionAt, addressOf, placeOf, processCount}
+use Rattle.sound.specs.Soundness.{allUnset, soundOf}
 use Rattle.fresh.specs.Types.{Item, Tuple, Process, Node, Pattern, Instruction, Net}
 use Rattle.keeping.specs.Admission.{admits}
 
@@ -55,7 +55,7 @@ netFits s =
 unfoldable pub slotStarts : Node → ℕ → Bool
 slotStarts x i =
     both (choose (ltb i (processCount x)) (processAt x i .busy) (not (processAt x i .busy)))
-    (all 8 (λ v. isUnset (variableAt (processAt x i) v)))
+    (allUnset (processAt x i))
 
 unfoldable pub nodeStarts : Node → Bool
 nodeStarts x = all 4 (slotStarts x)

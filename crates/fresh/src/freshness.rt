@@ -4,40 +4,14 @@ use keeping::admission::admitted;
 use net::network::Net;
 use net::node::Node;
 use net::process::Process;
-use net::tuple::Value;
+use sound::soundness::all_unset;
 use sound::soundness::sound;
 ghost use mathlib.Core.Bool.{not};
 ghost use mathlib.Core.Path.{_≡_};
 ghost use Rattle.net.specs.Choice.{choose, both, all};
-ghost use Rattle.net.specs.Records.{variableAt, nodeAt, addressOf};
-ghost use Rattle.sound.specs.Soundness.{isUnset};
+ghost use Rattle.net.specs.Records.{nodeAt, addressOf};
+ghost use Rattle.sound.specs.Soundness.{allUnset};
 ghost use Rattle.fresh.specs.Fresh.{nodeStarts, freshOf};
-
-fn is_unset(value: Value) -> bool
-    ensures { λ r. ⌜ r ≡ isUnset value ⌝ }
-{
-    match value {
-        Value::Unset => true,
-        Value::Reading(_) => false,
-        Value::Address(_) => false,
-    }
-}
-
-// Whether every variable is unset.
-fn all_unset(p: Process) -> bool
-    ensures { λ r. ⌜ r ≡ all 8 (λ v. isUnset (variableAt p v)) ⌝ }
-{
-    let mut ok = true;
-    let mut v = 0;
-    while v < 8 {
-        let variable = p.variables[v];
-        let value = variable.value;
-        let good = is_unset(value);
-        ok = ok & good;
-        v += 1;
-    }
-    ok
-}
 
 // Whether a slot is busy where it is used, and free elsewhere.
 fn busy_where(used: bool, p: Process) -> bool
@@ -48,7 +22,7 @@ fn busy_where(used: bool, p: Process) -> bool
 
 // Whether a slot stands as an image starts it.
 fn slot_starts(used: bool, p: Process) -> bool
-    ensures { λ r. ⌜ r ≡ both (choose used (p .busy) (not (p .busy))) (all 8 (λ v. isUnset (variableAt p v))) ⌝ }
+    ensures { λ r. ⌜ r ≡ both (choose used (p .busy) (not (p .busy))) (allUnset p) ⌝ }
 {
     let busy = busy_where(used, p);
     let unset = all_unset(p);

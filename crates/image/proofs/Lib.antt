@@ -1,4 +1,3 @@
 pub mod FirstBytes
 pub mod ImageLaws
 pub mod LayoutLaws
-pub mod PastRecords

@@ -7,13 +7,13 @@ use mathlib.Core.Logic.{_≢_}
 use mathlib.Core.Bool.{Bool, true, false}
 use mathlib.Core.List.{List}
 use native.Mathlib.Omega.{arith}
-use native.Mathlib.Decide.{ℕ-discrete}
+use native.Mathlib.Decide.{ℕ-discrete, decLe}
 use lib.ListN.{length, getD, set, replicate, length-set, length-replicate, getD-replicate}
 use lib.Seq.{getD-set-same, getD-set-other}
 use lib.Dec.{ltb}
-use borrow.Author.Tests.{ltb-true, ltb-false}
+use borrow.Author.Tests.{ltb-true, ltb-false, lt-ltb, le-ltb}
 use Rattle.net.specs.Choice.{choose, all}
-use Rattle.net.proofs.Laws.{all-i}
+use Rattle.net.proofs.Laws.{choose-e, choose-else, all-i, all-e}
 
 -- ---- a choice has what both of its sides have
 module _ {A : Type 0} (Q : A → Type 0) where
@@ -78,10 +78,47 @@ module _ {A : Type 0} {U Z : A → Type 0} {d : A} {size count : ℕ} {xs : List
       (λ j b n f. record { used = λ l. f .used (omega arith); unused = λ l. f .unused (omega arith) })
       (record { used = λ _. u; unused = λ l. absurd (omega arith) })
 
--- the computed test
-pub filled-all :
-    {A : Type 0} (p z : A → Bool) (d : A) (size count : ℕ) (xs : List A)
-    → Every (Filled (λ a. p a ≡ true) (λ a. z a ≡ true) count) d size xs
-    → all size (λ j. choose (ltb j count) (p (getD xs j d)) (z (getD xs j d))) ≡ true
-filled-all p z d size count xs e =
-    all-i size _ (λ j h. chosen-lt (λ b. b ≡ true) j count _ _ (e .holds j h .used) (e .holds j h .unused))
+  -- what every record of both kinds has, the array has at each place
+  pub filled-each :
+      {Q : A → Type 0} → Every (Filled U Z count) d size xs → ((x : A) → U x → Q x) → ((x : A) → Z x → Q x)
+      → (j : ℕ) → j < size → Q (getD xs j d)
+  filled-each {Q} e f g j h = go (decLe count j)
+    where
+      go : Dec (count ≤ j) → Q (getD xs j d)
+      go (yes l) = g _ (e .holds j h .unused l)
+      go (no l) = f _ (e .holds j h .used (omega arith))
+
+  pub filled-at :
+      {U₂ Z₂ : A → Type 0} → Every (Filled U Z count) d size xs
+      → ((j : ℕ) → j < size → U (getD xs j d) → U₂ (getD xs j d)) → ((x : A) → Z x → Z₂ x)
+      → Every (Filled U₂ Z₂ count) d size xs
+  filled-at e f g = record {
+    size-is = e .size-is;
+    holds = λ j h. record { used = λ l. f j h (e .holds j h .used l); unused = λ l. g _ (e .holds j h .unused l) };
+  }
+
+  pub filled-map :
+      {U₂ Z₂ : A → Type 0} → ((x : A) → U x → U₂ x) → ((x : A) → Z x → Z₂ x) → Every (Filled U Z count) d size xs
+      → Every (Filled U₂ Z₂ count) d size xs
+  filled-map f g e = filled-at e (λ j h. f _) g
+
+  -- the computed test, and back
+  pub filled-all :
+      (p z : A → Bool) → Every (Filled U Z count) d size xs → ((x : A) → U x → p x ≡ true) → ((x : A) → Z x → z x ≡ true)
+      → all size (λ j. choose (ltb j count) (p (getD xs j d)) (z (getD xs j d))) ≡ true
+  filled-all p z e f g =
+      all-i size _ (λ j h. chosen-lt (λ b. b ≡ true) j count _ _
+      (λ l. f _ (e .holds j h .used l)) (λ l. g _ (e .holds j h .unused l)))
+
+  pub all-filled :
+      (p z : A → Bool) → length xs ≡ size
+      → all size (λ j. choose (ltb j count) (p (getD xs j d)) (z (getD xs j d))) ≡ true
+      → ((j : ℕ) → j < size → p (getD xs j d) ≡ true → U (getD xs j d))
+      → ((j : ℕ) → j < size → z (getD xs j d) ≡ true → Z (getD xs j d)) → Every (Filled U Z count) d size xs
+  all-filled p z e h f g = record {
+    size-is = e;
+    holds = λ j l. record {
+      used = λ u. f j l (choose-e _ _ _ (all-e size _ h j l) (lt-ltb j count u));
+      unused = λ u. g j l (choose-else _ _ _ (all-e size _ h j l) (le-ltb j count u));
+    };
+  }

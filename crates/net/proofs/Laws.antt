@@ -10,8 +10,8 @@ use native.Mathlib.Decide.{decLe}
 use lib.Dec.{ltb, leb, eqb}
 use lib.ListN.{length, length-map}
 use mathlib.Core.List.{List, map}
-use borrow.Author.Tests.{lt-ltb, le-ltb, le-leb, lt-leb, eq-eqb, ne-eqb}
-use Rattle.net.specs.Choice.{choose, both, implies, all}
+use borrow.Author.Tests.{lt-ltb, le-ltb, le-leb, leb-true, lt-leb, eq-eqb, ne-eqb}
+use Rattle.net.specs.Choice.{choose, both, implies, inRange, all}
 
 -- ---- both, implies, choose
 pub both-i : (a b : Bool) → a ≡ true → b ≡ true → both a b ≡ true
@@ -55,6 +55,13 @@ module _ {A : Type 0} where
   unfolding choose
   choose-false b x y p = cc
 
+-- the test of a choice, taken apart
+pub choose-e : (b x y : Bool) → choose b x y ≡ true → b ≡ true → x ≡ true
+choose-e b x y h e = sym (choose-true b x y e) ∙ h
+
+pub choose-else : (b x y : Bool) → choose b x y ≡ true → b ≡ false → y ≡ true
+choose-else b x y h e = sym (choose-false b x y e) ∙ h
+
 -- ---- decisions: what a branch of the code knows picks the case of a definition
 module _ {A : Type 0} where
   pub if-true : (x y z : A) (b : Bool) → b ≡ true → x ≡ y → x ≡ choose b y z
@@ -89,6 +96,19 @@ module _ {A : Type 0} where
   if-not-call x y z b answer p q e = if-false x y z b (sym q ∙ p) e
 
 pub ruleset branches = (if-true, if-false, if-lt, if-not-lt, if-le, if-not-le, if-eq, if-ne)
+
+-- ---- a number within a range
+pub in-range : (low x high : ℕ) → low ≤ x → x ≤ high → inRange low x high ≡ true
+unfolding inRange
+in-range low x high h g = both-i _ _ (le-leb low x h) (le-leb x high g)
+
+pub in-range-low : (low x high : ℕ) → inRange low x high ≡ true → low ≤ x
+unfolding inRange
+in-range-low low x high h = leb-true low x (both-l _ _ h)
+
+pub in-range-high : (low x high : ℕ) → inRange low x high ≡ true → x ≤ high
+unfolding inRange
+in-range-high low x high h = leb-true x high (both-r (leb low x) _ h)
 
 -- ---- tests at each number below n
 pub all-i : (n : ℕ) (test : ℕ → Bool) → ((i : ℕ) → i < n → test i ≡ true) → all n test ≡ true

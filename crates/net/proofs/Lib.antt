@@ -3,6 +3,7 @@ pub mod Every
 pub mod FirstLaws
 pub mod FoldLaws
 pub mod Laws
+pub mod Lengths
 pub mod Lowest
 pub mod NodeLaws
 pub mod Past

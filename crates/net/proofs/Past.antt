@@ -1,19 +1,31 @@
--- What stands past the end of an array in the checker's goals, and a number within its range. Assumes nothing.
-use Prim.Native.Nat.{ℕ, _≤_}
-use mathlib.Core.Path.{_≡_}
-use mathlib.Core.Bool.{true, false}
+-- What stands past the end of an array in the checker's goals, of each record that an array of a net holds.
+-- Assumes nothing.
+use mathlib.Core.Bool.{false}
 use mathlib.Core.List.{[]}
-use borrow.Author.Tests.{le-leb}
-use Rattle.net.specs.Records.{Process, Tuple}
-use Rattle.net.specs.Choice.{inRange}
-use Rattle.net.proofs.Laws.{both-i}
+use lib.IntN.{ℤ}
+use Rattle.net.specs.Records.{Value, Variable, Item, Field, Tuple, Rights, Process, Node}
+use Rattle.net.specs.Records.{Pattern, TemplateField, Action, Instruction}
 
-abbrev pub pastProcess : Process
-pastProcess = record { busy = false; at = record { 0 = 0 }; variables = [] }
+abbrev pub pastField : Field
+pastField = record { item = Item.Reading (ℤ.pos 0) }
 
 abbrev pub pastTuple : Tuple
 pastTuple = record { count = 0; fields = [] }
 
-pub in-range : (low x high : ℕ) → low ≤ x → x ≤ high → inRange low x high ≡ true
-unfolding inRange
-in-range low x high h g = both-i _ _ (le-leb low x h) (le-leb x high g)
+abbrev pub pastVariable : Variable
+pastVariable = record { value = Value.Unset }
+
+abbrev pub pastProcess : Process
+pastProcess = record { busy = false; at = record { 0 = 0 }; variables = [] }
+
+abbrev pub pastRights : Rights
+pastRights = record { take = false; read = false; put = false; send = false }
+
+abbrev pub pastNode : Node
+pastNode = record { row = record { create = false; rights = [] }; processes = []; stored = 0; tuples = [] }
+
+abbrev pub pastTemplate : TemplateField
+pastTemplate = record { pattern = Pattern.Reading (ℤ.pos 0) }
+
+abbrev pub pastInstruction : Instruction
+pastInstruction = record { action = Action.Stop; count = 0; template = [] }

@@ -1,9 +1,10 @@
--- The lengths that the records of every running program have. Array types fix these lengths in the code, lists do not:
--- a claim about records that a program holds takes them from here.
+-- The lengths that the records of every running program have (`proofs/Lengths.antt`). Array types fix these lengths in
+-- the code, lists do not: a claim about records that a program holds takes them from here.
 use Prim.Native.Nat.{ℕ, _<_}
 use mathlib.Core.Path.{_≡_}
 use lib.ListN.{length}
-use Rattle.net.specs.Records.{Tuple, Process, Node, Instruction, processAt, tupleAt}
+use Rattle.net.specs.Records.{Locality, Place, Tuple, Process, Node, Instruction, Net}
+use Rattle.net.specs.Records.{processAt, tupleAt, nodeAt, instructionAt}
 
 pub record ShapedTuple (t : Tuple) : Type 0 where
   pub fields-are : length (t .fields) ≡ 4
@@ -20,3 +21,9 @@ pub record ShapedNode (x : Node) : Type 0 where
 
 pub record ShapedInstruction (c : Instruction) : Type 0 where
   pub template-is : length (c .template) ≡ 4
+
+pub record Shaped (s : Net) : Type 0 where
+  pub nodes-are : length (s .nodes) ≡ 16
+  pub code-is : length (s .code) ≡ 512
+  pub each-node : (a : Locality) → a .0 < 16 → ShapedNode (nodeAt s a)
+  pub each-instruction : (p : Place) → p .0 < 512 → ShapedInstruction (instructionAt (s .code) p)

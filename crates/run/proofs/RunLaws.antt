@@ -12,7 +12,7 @@ use Rattle.sound.specs.Soundness.{soundOf}
 use Rattle.net.proofs.Laws.{choose-true}
 use Rattle.step.specs.Answer.{numberOf}
 use Rattle.step.specs.Pick.{pickOf, stepOf}
-use Rattle.step.specs.Shape.{Shaped}
+use Rattle.net.specs.Shape.{Shaped}
 use Rattle.step.proofs.SoundKept.{step-sound-kept}
 use Rattle.run.specs.Types.{Net, Answer, Picked}
 use Rattle.run.specs.Run.{Ran, answered, ranFrom}

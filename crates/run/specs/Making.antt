@@ -6,7 +6,7 @@ use mathlib.Core.Bool.{true}
 use mathlib.Core.List.{List}
 use lib.ListN.{length, drop}
 use Rattle.sound.specs.Soundness.{soundOf}
-use Rattle.step.specs.Shape.{Shaped}
+use Rattle.net.specs.Shape.{Shaped}
 use Rattle.run.specs.Types.{Net}
 use Rattle.run.specs.Run.{numbers, ranFrom}
 use Rattle.text.specs.Buffer.{over}

@@ -1,5 +1,5 @@
--- The claim of `specs/ZeroClaims.antt`: a record that passes the test for zero is the zero record, and the zero record
--- passes it. Assumes nothing.
+-- The claim of `specs/ZeroClaims.antt`: a record that passes the test for zero is the zero record (`zeroIsZero`), and the
+-- zero record passes it (`tuple-passes` and its like). Assumes nothing.
 use Prim.Native.Nat.{ℕ, _<_}
 use mathlib.Core.Path.{_≡_, refl, sym, ap, subst, _∙_}
 use mathlib.Core.Logic.{_↔_}
@@ -18,7 +18,7 @@ use Rattle.net.specs.Records.{zeroField, zeroTuple, unsetVariable, freeProcess,
 use Rattle.net.specs.Records.{zeroTemplateField, zeroInstruction, withAction}
 use Rattle.net.specs.Records.{fieldAt, variableAt, rightsAt, processAt, tupleAt, patternAt}
 use Rattle.net.specs.Readings.{sameReading}
-use Rattle.sound.specs.Soundness.{isZeroItem, isZeroTuple, isUnset, isFree, isNone, isZeroRow, isZeroNode}
+use Rattle.sound.specs.Soundness.{isZeroItem, isZeroTuple, isUnset, allUnset, isFree, isNone, isZeroRow, isZeroNode}
 use Rattle.sound.specs.Soundness.{isZeroPattern, noTemplate, isStop, isZeroInstruction}
 use Rattle.net.specs.Shape.{ShapedTuple, ShapedProcess, ShapedNode, ShapedInstruction}
 use Rattle.sound.specs.ZeroClaims.{ZeroIsZero}
@@ -28,7 +28,7 @@ use Rattle.net.proofs.ReadingLaws.{never, reading-equal}
 -- ---- what every kind of record has in common
 
 -- an array of zero records
-zeros : {A : Type 0} (z d : A) (size : ℕ) (xs : List A) → length xs ≡ size → ((j : ℕ) → j < size → getD xs j d ≡ z)
+pub zeros : {A : Type 0} (z d : A) (size : ℕ) (xs : List A) → length xs ≡ size → ((j : ℕ) → j < size → getD xs j d ≡ z)
     → xs ≡ replicate size z
 zeros z d size xs e f =
     ext-getD d xs (replicate size z) (e ∙ sym (length-replicate size z))
@@ -38,7 +38,7 @@ zeros z d size xs e f =
 exactly : {A : Type 0} (test : A → Bool) (z : A) → test z ≡ true → (x : A) → (test x ≡ true → x ≡ z) → (test x ≡ true) ↔ (x ≡ z)
 exactly test z passes x f = (f, λ e. subst (λ y. test y ≡ true) (sym e) passes)
 
-not-true : (b : Bool) → not b ≡ true → b ≡ false
+pub not-true : (b : Bool) → not b ≡ true → b ≡ false
 not-true true h = never h
 not-true false h = refl
 
@@ -56,7 +56,7 @@ zero-field : (f : Field) → isZeroItem (f .item) ≡ true → f ≡ zeroField
 unfolding zeroField
 zero-field f h = ap (λ (x : Item). record { item = x }) (zero-item (f .item) h)
 
-tuple-passes : isZeroTuple zeroTuple ≡ true
+pub tuple-passes : isZeroTuple zeroTuple ≡ true
 unfolding isZeroTuple zeroTuple both all fieldAt isZeroItem zeroField sameReading
 tuple-passes = refl
 
@@ -83,19 +83,23 @@ unset-variable : (x : Variable) → isUnset (x .value) ≡ true → x ≡ unsetV
 unfolding unsetVariable
 unset-variable x h = ap (λ (v : Value). record { value = v }) (unset-value (x .value) h)
 
-process-passes : isFree freeProcess ≡ true
-unfolding isFree freeProcess both all variableAt isUnset unsetVariable
+pub all-unset : (p : Process) → ShapedProcess p → allUnset p ≡ true → p .variables ≡ replicate 8 unsetVariable
+unfolding allUnset variableAt
+all-unset p shape h =
+    zeros unsetVariable _ 8 (p .variables) (shape .variables-are) (λ v l. unset-variable _ (all-e 8 _ h v l))
+
+pub process-passes : isFree freeProcess ≡ true
+unfolding isFree allUnset freeProcess both all variableAt isUnset unsetVariable
 process-passes = refl
 
 free-process : (p : Process) → ShapedProcess p → isFree p ≡ true → p ≡ freeProcess
-unfolding isFree freeProcess variableAt
+unfolding isFree freeProcess
 free-process p shape h =
     let g = both-r (not (p .busy)) _ h in
     λ d. record {
       busy = not-true (p .busy) (both-l _ _ h) d;
       at = record { 0 = eqb-true (p .at .0) 0 (both-l _ _ g) d };
-      variables = zeros unsetVariable _ 8 (p .variables) (shape .variables-are)
-          (λ v l. unset-variable _ (all-e 8 _ (both-r (eqb (p .at .0) 0) _ g) v l)) d;
+      variables = all-unset p shape (both-r (eqb (p .at .0) 0) _ g) d;
     }
 
 -- ---- rows
@@ -127,7 +131,7 @@ zero-row r e h = λ d. record {
 }
 
 -- ---- nodes
-node-passes : isZeroNode zeroNode ≡ true
+pub node-passes : isZeroNode zeroNode ≡ true
 unfolding isZeroNode zeroNode processAt tupleAt
 node-passes =
     both-i _ _ row-passes
@@ -166,7 +170,7 @@ zero-template-field : (f : TemplateField) → isZeroPattern (f .pattern) ≡ tru
 unfolding zeroTemplateField
 zero-template-field f h = ap (λ (x : Pattern). record { pattern = x }) (zero-pattern (f .pattern) h)
 
-no-template-passes : (a : Action) → noTemplate (withAction zeroInstruction a) ≡ true
+pub no-template-passes : (a : Action) → noTemplate (withAction zeroInstruction a) ≡ true
 unfolding noTemplate withAction zeroInstruction both all patternAt isZeroPattern zeroTemplateField sameReading
 no-template-passes a = refl
 
@@ -189,7 +193,7 @@ stop-is (Action.Eval t sent p) h = never h
 stop-is (Action.New v p) h = never h
 stop-is (Action.Fork p q) h = never h
 
-instruction-passes : isZeroInstruction zeroInstruction ≡ true
+pub instruction-passes : isZeroInstruction zeroInstruction ≡ true
 unfolding isZeroInstruction isStop zeroInstruction withAction
 instruction-passes = both-i _ _ refl (no-template-passes Action.Stop)
 

@@ -54,8 +54,11 @@ isUnset Value.Unset = true
 isUnset (Value.Reading x) = false
 isUnset (Value.Address l) = false
 
+unfoldable pub allUnset : Process → Bool
+allUnset p = all 8 (λ v. isUnset (variableAt p v))
+
 unfoldable pub isFree : Process → Bool
-isFree p = both (not (p .busy)) (both (eqb (p .at .0) 0) (all 8 (λ v. isUnset (variableAt p v))))
+isFree p = both (not (p .busy)) (both (eqb (p .at .0) 0) (allUnset p))
 
 unfoldable pub processSound : ℕ → ℕ → Process → Bool
 processSound n k p =

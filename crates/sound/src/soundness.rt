@@ -21,7 +21,8 @@ ghost use Rattle.net.specs.Choice.{choose, both, implies, all};
 ghost use Rattle.net.specs.Records.{tupleAt, variableAt};
 ghost use Rattle.net.specs.Choice.{inRange};
 ghost use Rattle.sound.specs.Soundness.{itemSound, isZeroItem, tupleSound, isZeroTuple, tuplesSound};
-ghost use Rattle.sound.specs.Soundness.{isNone, rowSound, isZeroRow, valueSound, isUnset, isFree, processSound};
+ghost use Rattle.sound.specs.Soundness.{isNone, rowSound, isZeroRow, valueSound, isUnset, allUnset, isFree};
+ghost use Rattle.sound.specs.Soundness.{processSound};
 ghost use Rattle.sound.specs.Soundness.{nodeSound, isZeroNode, targetSound, patternSound, isZeroPattern};
 ghost use Rattle.sound.specs.Soundness.{templateSound, noTemplate, isActual, actualsOnly, bindsNot, unboundBefore};
 ghost use Rattle.sound.specs.Soundness.{bindsAnew, formalsApart, actionSound, templateFor, instructionSound};
@@ -197,8 +198,9 @@ fn is_unset(value: Value) -> bool
     }
 }
 
-fn is_free(p: Process) -> bool
-    ensures { λ r. ⌜ r ≡ isFree p ⌝ }
+// Whether every variable is unset.
+pub fn all_unset(p: Process) -> bool
+    ensures { λ r. ⌜ r ≡ allUnset p ⌝ }
 {
     let mut ok = true;
     let mut v = 0;
@@ -209,7 +211,14 @@ fn is_free(p: Process) -> bool
         ok = ok & good;
         v += 1;
     }
-    !p.busy & ((p.at.0 == 0) & ok)
+    ok
+}
+
+fn is_free(p: Process) -> bool
+    ensures { λ r. ⌜ r ≡ isFree p ⌝ }
+{
+    let unset = all_unset(p);
+    !p.busy & ((p.at.0 == 0) & unset)
 }
 
 // A process that holds its slot.

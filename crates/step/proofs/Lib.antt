@@ -1,7 +1,6 @@
 pub mod Lengths
 pub mod PutBack
 pub mod SoundChanges
-pub mod SoundFacts
 pub mod SoundKept
 pub mod SoundRequests
 pub mod StepLaws

@@ -1,5 +1,5 @@
 -- The claim of `specs/SoundKept.antt`: every pick keeps a net sound. Each request that is within a sound net keeps the
--- facts of `SoundFacts.antt` (`done-kept`), and an instruction of a sound net asks for no other (`SoundRequests.antt`).
+-- facts of `NetFacts.antt` of `sound` (`done-kept`), and an instruction of a sound net asks for no other (`SoundRequests.antt`).
 -- Assumes nothing.
 use Prim.Native.Nat.{ℕ, _<_}
 use mathlib.Core.Path.{_≡_, refl, sym, ap, _∙_}
@@ -10,7 +10,7 @@ use lib.ListN.{getD, set, List·getD-map}
 use lib.Seq.{map-set-same}
 use Rattle.net.specs.Records.{processAt, nodeAt, tupleAt, withProcess, withNode, movedTo, freeProcess}
 use Rattle.matching.specs.Matching.{matchedOf}
-use Rattle.sound.specs.Soundness.{tupleSound, instructionSound, soundOf}
+use Rattle.sound.specs.Soundness.{soundOf}
 use Rattle.matching.specs.MatchingPromise.{OldestThatFits}
 use Rattle.net.proofs.Laws.{choose-true}
 use Rattle.net.proofs.Every.{chosen, chosen-lt}
@@ -21,11 +21,14 @@ use Rattle.step.specs.Request.{Request}
 use Rattle.step.specs.Pick.{hostOf, slotOf, unchanged, performed, withHost, stopped, out, inFound, input}
 use Rattle.step.specs.Pick.{readFound, read, startedIn, eval, fork, create, carriedOut, acting, processStep}
 use Rattle.step.specs.Pick.{slotStep, stepOf, pickOf}
-use Rattle.step.specs.Shape.{ShapedTuple, Shaped}
+use Rattle.net.specs.Shape.{Shaped}
 use Rattle.step.specs.SoundKept.{SoundKept}
-use Rattle.step.proofs.SoundFacts.{Good, NetOk, sound-apart, ok-sound, ok-shaped}
-use Rattle.step.proofs.SoundChanges.{Running, running-apart, running-together, moved, copied, free}
-use Rattle.step.proofs.SoundChanges.{node-at, instruction-at, with-host, added-kept, taken-kept, created-kept}
+use Rattle.sound.proofs.NodeFacts.{TupleOk, Running}
+use Rattle.sound.proofs.NodeChanges.{runs, free-slot}
+use Rattle.sound.proofs.CodeFacts.{InstructionOk}
+use Rattle.sound.proofs.NetFacts.{NetOk, sound-apart, net-sound, net-shaped}
+use Rattle.sound.proofs.NetChanges.{node-at, instruction-at}
+use Rattle.step.proofs.SoundChanges.{moved, copied, with-host, added-kept, taken-kept, created-kept}
 use Rattle.step.proofs.SoundRequests.{bound, RequestOk, request-ok}
 
 -- ---- a change of a process leaves the tuple counts
@@ -56,23 +59,23 @@ performed-kept s ok = record { net-ok = ok }
 -- ---- each request, of the process p that runs at a in slot i
 module _
     (s : Net) (ok : NetOk s) (a : Locality) (i : ℕ) (hosted : a .0 < s .addresses) (p : Process)
-    (runs : Running (s .addresses) (s .length) p)
+    (running : Running (s .addresses) (s .length) p)
   where
     move-kept :
         (r : Process) (q : Place) → Running (s .addresses) (s .length) r → q .0 < s .length
         → NetOk (withHost s a i (movedTo r q))
-    move-kept r q g h = with-host s ok a i _ hosted (running-together _ _ _ (moved _ _ r q g h))
+    move-kept r q g h = with-host s ok a i _ hosted (runs _ _ _ (moved _ _ r g q h))
 
     stopped-kept : Kept (stopped s a i)
     unfolding stopped
-    stopped-kept = record { net-ok = with-host s ok a i freeProcess hosted (free _ _) }
+    stopped-kept = record { net-ok = with-host s ok a i freeProcess hosted (free-slot _ _) }
 
     out-kept :
         (l : Locality) (q : Place) (t : Tuple) → l .0 < s .addresses → q .0 < s .length
-        → Good (tupleSound (s .addresses)) ShapedTuple t → Kept (out s a i p l q t)
+        → TupleOk (s .addresses) t → Kept (out s a i p l q t)
     unfolding out withHost withNode
     out-kept l q t h g u =
-        chosen Kept _ _ _ (λ _. performed-kept _ (added-kept _ (move-kept p q runs g) l t h u)) (λ _. same-kept s _ ok)
+        chosen Kept _ _ _ (λ _. performed-kept _ (added-kept _ (move-kept p q running g) l t h u)) (λ _. same-kept s _ ok)
 
     module _ (l : Locality) (q : Place) (e : Evaluated) (reached : l .0 < s .addresses) (next : q .0 < s .length) where
       oldest : (j : ℕ) → matchedOf p (nodeAt s l) e .found ≡ Found.At j → OldestThatFits (nodeAt s l) e j
@@ -86,7 +89,7 @@ module _
           let x = node-at s ok l reached in
           let here = oldest j h in
           rw (promise .binds p (nodeAt s l) e j h)
-          (bound _ _ p _ e runs (x .tuples-ok .holds j (omega (arith, x .room, here .present)) .used (here .present) .passes)
+          (bound _ _ p _ e running (x .tuples-ok .holds j (omega (arith, x .room, here .present)) .used (here .present))
           (here .fits))
 
       in-kept :
@@ -109,14 +112,14 @@ module _
       unfolding startedIn withHost withNode
       started-kept sent h (Slot.Number j) =
           performed-kept _
-          (with-host _ (move-kept p q runs next) l j _ reached (running-together _ _ _ (copied _ _ p sent runs h)))
+          (with-host _ (move-kept p q running next) l j _ reached (runs _ _ _ (copied _ _ p running sent h)))
       started-kept sent h Slot.Full = same-kept s _ ok
 
     create-kept : (v : ℕ) (q : Place) → q .0 < s .length → Kept (create s a i p v q)
     unfolding create
     create-kept v q h =
         chosen-lt Kept (s .addresses) 16 _ _
-        (λ room. performed-kept _ (created-kept s ok a i p v q hosted room runs h)) (λ _. same-kept s _ ok)
+        (λ room. performed-kept _ (created-kept s ok a i p v q hosted room running h)) (λ _. same-kept s _ ok)
 
     done-kept : (e : Evaluated) (r : Request) → RequestOk (s .addresses) (s .length) e r → Kept (carriedOut s a i p e r)
     unfolding carriedOut RequestOk input read eval fork
@@ -131,10 +134,10 @@ module _
     done-kept e (Request.Fork q r) h = started-kept a q e hosted (h .0) r (h .1) _
 
     step-kept :
-        (c : Instruction) → instructionSound (s .addresses) (s .length) c ≡ true → Kept (processStep s a i p c)
+        (c : Instruction) → InstructionOk (s .addresses) (s .length) c → Kept (processStep s a i p c)
     unfolding processStep acting
     step-kept c h =
-        chosen Kept _ _ _ (λ _. done-kept _ _ (request-ok (s .addresses) (s .length) a p c hosted runs h))
+        chosen Kept _ _ _ (λ _. done-kept _ _ (request-ok (s .addresses) (s .length) a p c hosted running h))
         (λ _. same-kept s _ ok)
 
 -- ---- a pick
@@ -150,8 +153,8 @@ pick-kept s b ok =
     (λ hosted. chosen Kept _ _ _
     (λ busy.
     let node-ok = node-at s ok (hostOf b) hosted in
-    let runs = running-apart _ _ _ (node-ok .processes-ok .holds (slotOf b) (slot-below b)) busy in
-    step-kept s ok (hostOf b) (slotOf b) hosted _ runs _ (instruction-at s ok _ (runs .place)))
+    let running = node-ok .processes-ok .holds (slotOf b) (slot-below b) .running busy in
+    step-kept s ok (hostOf b) (slotOf b) hosted _ running _ (instruction-at s ok _ (running .place)))
     (λ _. same-kept s _ ok)) (λ _. same-kept s _ ok)) (λ _. same-kept s _ ok)
 
 pub step-sound-kept :
@@ -159,7 +162,7 @@ pub step-sound-kept :
     → (soundOf (stepOf s b .net) ≡ true) × Shaped (stepOf s b .net)
 step-sound-kept s b shaped sound =
     let ok = pick-kept s b (sound-apart s shaped sound) .net-ok in
-    (ok-sound _ ok, ok-shaped _ ok)
+    (net-sound _ ok, net-shaped _ _ _ ok)
 
 pub sound-kept : SoundKept
 unfolding SoundKept pickOf

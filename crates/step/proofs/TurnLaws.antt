@@ -20,8 +20,8 @@ use Rattle.step.specs.Pick.{hostOf, slotOf, spareOf, stepOf, slotStep, p
 use Rattle.step.specs.Plan.{Plan, planOf, refusing, changes, putBack, hostAfter, countAfter, targeted}
 use Rattle.step.specs.Plan.{targetIn, sentWithin}
 use Rattle.step.specs.Turn.{Turn, ready, refusal, met, turnPlan, planAt, Indexed, Turned, sendsCode}
-use Rattle.step.specs.Shape.{Shaped}
-use Rattle.step.proofs.SoundFacts.{pastNode, pastInstruction}
+use Rattle.net.specs.Shape.{Shaped}
+use Rattle.net.proofs.Past.{pastNode, pastInstruction}
 use Rattle.step.proofs.PutBack.{back, Standing, planIn, target, put-back-is}
 
 pub refusing-as : (x y : Answer) (z : Node) (plan : Plan) → x ≡ y → plan ≡ refusing x z → plan ≡ refusing y z

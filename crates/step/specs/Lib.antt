@@ -2,7 +2,6 @@ pub mod Answer
 pub mod Pick
 pub mod Plan
 pub mod Request
-pub mod Shape
 pub mod SoundKept
 pub mod Turn
 pub mod Types

@@ -4,7 +4,7 @@ use mathlib.Core.Path.{_≡_}
 use mathlib.Core.Bool.{true}
 use Rattle.sound.specs.Soundness.{soundOf}
 use Rattle.step.specs.Pick.{pickOf}
-use Rattle.step.specs.Shape.{Shaped}
+use Rattle.net.specs.Shape.{Shaped}
 use Rattle.step.specs.Types.{Net}
 
 -- "Accepted nets are sound and steps keep them so": whatever the byte, the net after a pick on a sound net is sound.

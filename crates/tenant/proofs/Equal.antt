@@ -14,7 +14,7 @@ use Rattle.net.specs.Records.{freeProcess, startingAt, zeroTemplateField, zeroI
 use Rattle.net.specs.Records.{fieldAt, rightsAt, processAt, tupleAt, patternAt, nodeAt, instructionAt, addressOf, placeOf}
 use Rattle.net.proofs.Every.{Every, every-replicate, Filled}
 use Rattle.net.proofs.Past.{pastProcess, pastTuple}
-use Rattle.image.proofs.PastRecords.{pastField, pastRights, pastTemplate, pastNode, pastInstruction}
+use Rattle.net.proofs.Past.{pastField, pastRights, pastTemplate, pastNode, pastInstruction}
 use Rattle.written.proofs.WrittenRow.{RowOk}
 use Rattle.written.proofs.WrittenProcesses.{Starts, ProcessesOk, node-is}
 use Rattle.written.proofs.WrittenTuples.{TupleOk}

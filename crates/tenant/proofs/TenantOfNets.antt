@@ -9,7 +9,7 @@ use Rattle.net.specs.Records.{nodeAt, addressOf}
 use Rattle.sound.specs.Soundness.{soundOf}
 use Rattle.net.proofs.Laws.{choose-true, choose-false}
 use Rattle.step.specs.Pick.{hostOf, stepOf, pickOf}
-use Rattle.step.specs.Shape.{Shaped}
+use Rattle.net.specs.Shape.{Shaped}
 use Rattle.step.proofs.SoundKept.{step-sound-kept}
 use Rattle.tenant.specs.Types.{Locality, Node, Net, Answer, Picked}
 use Rattle.run.specs.Run.{Ran, answered, ranFrom}

@@ -15,10 +15,10 @@ use Rattle.image.specs.Image.{openedOf}
 use Rattle.accepted.specs.ImageClaims.{AcceptedIsSound}
 use Rattle.net.proofs.Laws.{both-l}
 use Rattle.accepted.proofs.AcceptedSound.{accepted-is-sound}
-use Rattle.image.proofs.PastRecords.{pastRights, pastNode}
+use Rattle.net.proofs.Past.{pastRights, pastNode}
 use Rattle.written.proofs.WrittenWhole.{NetOk}
 use Rattle.written.proofs.AcceptedWritten.{opened-ok}
-use Rattle.step.proofs.SoundFacts.{in-range-low}
+use Rattle.net.proofs.Laws.{in-range-low}
 use Rattle.tenant.specs.Types.{Locality, Rights, Node, Net, Verdict}
 use Rattle.run.specs.Run.{Ran, ran, ranFrom, runIn, runOf}
 use Rattle.tenant.specs.TenantRule.{grants, creates, Fenced, Agree, TenantRule}

@@ -24,13 +24,15 @@ use Rattle.layout.specs.Counts.{Counts}
 use Rattle.writer.specs.Packing.{bytesIn}
 use Rattle.text.specs.Writing.{Wrote}
 use Rattle.written.proofs.AcceptedWritten.{fresh-accepted}
+use Rattle.written.proofs.FreshFits.{net-fit}
 use Rattle.layout.proofs.CountLaws.{counts-of}
 use Rattle.written.proofs.WrittenBytes.{bytes-length}
 
 -- ---- a fresh net
 pub fresh-counts : (net : Net) → freshOf net ≡ true → Counts net
 unfolding freshOf
-fresh-counts net h = counts-of net (both-l (soundOf net) _ (both-r (netFits net) _ h))
+fresh-counts net h =
+    counts-of net (net-fit net (both-l _ _ h) .shaped) (both-l (soundOf net) _ (both-r (netFits net) _ h))
 
 fresh-room : (net : Net) → freshOf net ≡ true → length (netBits net) ≤ 117992
 unfolding imageOf LongestAccepted accepted

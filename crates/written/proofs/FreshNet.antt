@@ -6,41 +6,37 @@ use mathlib.Core.Bool.{Bool, true, false, not}
 use mathlib.Core.List.{List}
 use native.Mathlib.Omega.{arith}
 use native.Mathlib.Decide.{decLe}
-use lib.ListN.{length, getD}
-use lib.Dec.{eqb, ltb}
-use borrow.Author.Tests.{eqb-true, eq-eqb, lt-ltb, le-ltb}
+use lib.ListN.{getD}
+use lib.Dec.{ltb}
+use borrow.Author.Tests.{eq-eqb, lt-ltb, le-ltb}
 use Rattle.net.specs.Choice.{choose, both, all, fold}
-use Rattle.net.specs.Records.{startingAt, zeroField, zeroTuple, unsetVariable, freeProcess, zeroRow, zeroNode, addressOf, processCount}
+use Rattle.net.specs.Records.{startingAt, zeroField, zeroTuple, unsetVariable, freeProcess, zeroRow, zeroNode, addressOf}
 use Rattle.net.specs.Records.{zeroTemplateField, zeroInstruction, fieldAt, variableAt, processAt, tupleAt, patternAt, nodeAt}
 use Rattle.net.specs.Records.{instructionAt, withAction}
 use Rattle.written.specs.Types.{Place, Tuple, Process, Node, Target, Action, Instruction, Net}
-use Rattle.net.specs.Choice.{inRange}
-use Rattle.sound.specs.Soundness.{isUnset, nodeSound, isZeroNode, nodesSound, instructionSound, isZeroInstruction}
-use Rattle.sound.specs.Soundness.{codeSound, soundOf}
+use Rattle.sound.specs.Soundness.{isUnset, allUnset, soundOf}
+use Rattle.net.specs.Records.{processCount}
 use Rattle.fresh.specs.Fresh.{readingFits, itemFits, patternFits, tupleFits, processFits, nodeFits, instructionFits}
 use Rattle.fresh.specs.Fresh.{netFits, slotStarts, nodeStarts}
-use Rattle.net.proofs.Laws.{both-i, both-l, both-r, choose-true, choose-false, all-i, all-e}
-use Rattle.net.proofs.Every.{Every, Filled}
+use Rattle.net.proofs.Laws.{both-i, choose-true, choose-false, all-i, all-e}
+use Rattle.net.proofs.Every.{Every, Filled, filled-each, filled-at}
+use Rattle.sound.proofs.NetFacts.{sound-apart}
 use Rattle.written.proofs.WrittenTuples.{TupleOk}
 use Rattle.written.proofs.WrittenTemplate.{TemplateOk}
 use Rattle.written.proofs.WrittenCode.{Communicated, Evaluated, Created, Forked, Acting, InstructionOk}
 use Rattle.written.proofs.WrittenStages.{WithTuples}
 use Rattle.written.proofs.WrittenWhole.{NetOk}
-use Rattle.written.proofs.FreshZero.{filled-tests, zero-node}
-use Rattle.written.proofs.FreshNode.{range-low, range-high, node-ok}
-use Rattle.written.proofs.FreshCode.{zero-instruction, instruction-ok}
-use Rattle.image.proofs.PastRecords.{pastNode, pastInstruction}
+use Rattle.written.proofs.FreshFits.{net-fit}
+use Rattle.written.proofs.FreshNode.{node-ok}
+use Rattle.written.proofs.FreshCode.{instruction-ok}
 use Rattle.written.proofs.WrittenProcesses.{Starts, ProcessesOk, count-is}
 
 -- ---- a test that good records and the zero record pass
 passes : {A : Type 0} {U : A → Type 0} {z d : A} {size count : ℕ} {xs : List A} (test : A → Bool)
     → Every (Filled U (λ x. z ≡ x) count) d size xs → ((x : A) → U x → test x ≡ true) → test z ≡ true
     → all size (λ j. test (getD xs j d)) ≡ true
-passes {d} {size} {count} {xs} test e f g = all-i size _ (λ j h. go j h (decLe count j))
-  where
-    go : (j : ℕ) → j < size → Dec (count ≤ j) → test (getD xs j d) ≡ true
-    go j h (yes l) = ap test (sym (e .holds j h .unused l)) ∙ g
-    go j h (no l) = f _ (e .holds j h .used (omega arith))
+passes {size} test e f g =
+    all-i size _ (filled-each {Q = λ x. test x ≡ true} e f (λ x d. ap test (sym d) ∙ g))
 
 tuple-fits : (n : ℕ) (t : Tuple) → TupleOk n t → tupleFits t ≡ true
 unfolding tupleFits fieldAt zeroField itemFits readingFits
@@ -108,12 +104,12 @@ net-fits s ok =
     (passes instructionFits (ok .code-ok) (instruction-fits _ _) zero-instruction-fits))
 
 -- ---- starting processes
-unset : (p q : Process) → q ≡ p → all 8 (λ v. isUnset (variableAt q v)) ≡ true → all 8 (λ v. isUnset (variableAt p v)) ≡ true
-unset p q e h = subst (λ (x : Process). all 8 (λ v. isUnset (variableAt x v)) ≡ true) e h
+unset : (p q : Process) → q ≡ p → allUnset q ≡ true → allUnset p ≡ true
+unset p q e h = subst (λ (x : Process). allUnset x ≡ true) e h
 
 module _ (k c : ℕ) (x : Node) (ok : ProcessesOk k c x) where
   slot-starts : (i : ℕ) → i < 4 → Dec (c ≤ i) → slotStarts x i ≡ true
-  unfolding slotStarts processAt variableAt startingAt freeProcess unsetVariable isUnset all both
+  unfolding slotStarts processAt allUnset variableAt startingAt freeProcess unsetVariable isUnset all both
   slot-starts i h (yes l) =
       let e = ok .slots-ok .holds i h .unused l in
       let m = count-is k c x ok in
@@ -134,7 +130,7 @@ module _ (k c : ℕ) (x : Node) (ok : ProcessesOk k c x) where
   node-starts = all-i 4 _ (λ i h. slot-starts i h (decLe c i))
 
 zero-node-starts : nodeStarts zeroNode ≡ true
-unfolding nodeStarts slotStarts zeroNode processAt processCount variableAt freeProcess unsetVariable isUnset fold choose all both
+unfolding nodeStarts slotStarts zeroNode processAt processCount allUnset variableAt freeProcess unsetVariable isUnset fold choose all both
 zero-node-starts = refl
 
 pub net-starts : (s : Net) → NetOk s → all 16 (λ a. nodeStarts (nodeAt s (addressOf a))) ≡ true
@@ -145,29 +141,14 @@ net-starts s ok =
 
 -- ---- and back
 pub fresh-ok : (s : Net) → netFits s ≡ true → soundOf s ≡ true → all 16 (λ a. nodeStarts (nodeAt s (addressOf a))) ≡ true → NetOk s
-unfolding netFits soundOf nodesSound codeSound nodeAt instructionAt
+unfolding nodeAt instructionAt
 fresh-ok s f h g =
-    let n : ℕ = s .addresses in
-    let k : ℕ = s .length in
-    let counts = both-l (both (inRange 1 n 16) (inRange 1 k 512)) _ h in
-    let sound = both-r (both (inRange 1 n 16) (inRange 1 k 512)) _ h in
-    let nodes = both-l (both (eqb (length (s .nodes)) 16) (all 16 (λ a. nodeFits (nodeAt s (addressOf a))))) _ f in
-    let code = both-r (both (eqb (length (s .nodes)) 16) (all 16 (λ a. nodeFits (nodeAt s (addressOf a))))) _ f in
-    let n₁ = range-low 1 n 16 (both-l _ _ counts) in
-    let n₂ = range-high 1 n 16 (both-l _ _ counts) in
-    let k₁ = range-low 1 k 512 (both-r (inRange 1 n 16) _ counts) in
-    let k₂ = range-high 1 k 512 (both-r (inRange 1 n 16) _ counts) in
+    let fit = net-fit s f in
+    let ok = sound-apart s (fit .shaped) h in
     record {
-      addresses-ok = record { above = n₁; below = omega arith };
-      length-ok = record { above = k₁; below = omega arith };
+      addresses-ok = record { above = ok .addresses-least; below = omega (arith, ok .addresses-most) };
+      length-ok = record { above = ok .length-least; below = omega (arith, ok .length-most) };
       nodes-ok =
-          filled-tests (nodeSound n k) isZeroNode pastNode 16 n (s .nodes) (eqb-true _ _ (both-l _ _ nodes))
-          (both-l _ _ sound)
-          (λ a l u e. node-ok n k _ (all-e 16 _ (both-r (eqb (length (s .nodes)) 16) _ nodes) a l) e (all-e 16 _ g a l))
-          (λ a l e. zero-node _ (all-e 16 _ (both-r (eqb (length (s .nodes)) 16) _ nodes) a l) e);
-      code-ok =
-          filled-tests (instructionSound n k) isZeroInstruction pastInstruction 512 k (s .code)
-          (eqb-true _ _ (both-l _ _ code)) (both-r (nodesSound s) _ sound)
-          (λ p l u e. instruction-ok n k _ (all-e 512 _ (both-r (eqb (length (s .code)) 512) _ code) p l) e)
-          (λ p l e. zero-instruction _ (all-e 512 _ (both-r (eqb (length (s .code)) 512) _ code) p l) e);
+          filled-at (ok .nodes-ok) (λ a l e. node-ok _ _ _ (fit .each-node a l) e (all-e 16 _ g a l)) (λ x. sym);
+      code-ok = filled-at (ok .code-ok) (λ p l. instruction-ok _ _ _ (fit .each-instruction p l)) (λ c. sym);
     }

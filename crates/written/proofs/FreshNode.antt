@@ -1,75 +1,36 @@
--- A node that passes the tests of `specs/Fresh.antt` is one that an image can write (`WrittenStages.antt`).
+-- A sound node (`NodeFacts.antt` of `sound`) that passes the tests of `specs/Fresh.antt` is one that an image can write
+-- (`WrittenStages.antt`).
 -- Assumes nothing.
 use Prim.Native.Nat.{ℕ, zero, suc, _+_, _<_, _≤_}
-use mathlib.Core.Path.{_≡_, sym, ap, _∙_}
-use mathlib.Core.Bool.{Bool, true, false, not}
+use mathlib.Core.Path.{_≡_, sym}
+use mathlib.Core.Bool.{true, false, not}
 use native.Mathlib.Omega.{arith}
-use lib.ListN.{length, replicate}
-use lib.Dec.{eqb, leb, ltb}
-use borrow.Author.Tests.{eqb-true, leb-true, ltb-true, lt-ltb, le-ltb, le-leb}
-use Rattle.net.specs.Choice.{choose, all, fold}
-use Rattle.net.specs.Records.{startingAt, unsetVariable, processCount}
-use Rattle.net.specs.Records.{fieldAt, variableAt, rightsAt, processAt, tupleAt}
-use Rattle.written.specs.Types.{Tuple, Row, Process, Node}
-use Rattle.net.specs.Choice.{inRange}
-use Rattle.sound.specs.Soundness.{itemSound, isZeroItem, tupleSound, isZeroTuple, tuplesSound, rowSound}
-use Rattle.sound.specs.Soundness.{isUnset, processSound, nodeSound}
-use Rattle.fresh.specs.Fresh.{tupleFits, processFits, nodeFits, slotStarts, nodeStarts}
-use Rattle.net.proofs.Laws.{both-l, both-r, choose-true, choose-false, implies-e, all-e}
-use Rattle.net.proofs.Every.{chosen}
-use Rattle.net.proofs.Past.{pastTuple}
+use lib.Dec.{ltb}
+use borrow.Author.Tests.{lt-ltb, le-ltb}
+use Rattle.net.specs.Choice.{choose, fold}
+use Rattle.net.specs.Records.{startingAt, fieldAt, processAt, tupleAt}
+use Rattle.net.specs.Shape.{ShapedProcess}
+use Rattle.written.specs.Types.{Tuple, Process, Node}
+use Rattle.sound.specs.Soundness.{allUnset}
+use Rattle.net.specs.Records.{processCount}
+use Rattle.fresh.specs.Fresh.{tupleFits, nodeFits, slotStarts, nodeStarts}
+use Rattle.net.proofs.Laws.{both-l, both-r, choose-e, choose-else, all-e}
+use Rattle.net.proofs.Every.{chosen, filled-at, filled-map}
+use Rattle.sound.proofs.ZeroClaims.{not-true, all-unset}
+use Rattle.sound.proofs.NodeFacts as sound
 use Rattle.written.proofs.WrittenTuples.{TupleOk}
 use Rattle.written.proofs.WrittenPasses.{Slots}
-use Rattle.written.proofs.WrittenStages.{WithTuples}
-use Rattle.written.proofs.FreshZero.{not-true, filled-tests, zero-field, zero-tuple, zero-rights, unset-are}
-use Rattle.written.proofs.FreshZero.{zero-process, NodeFit, node-fit}
-use Rattle.image.proofs.PastRecords.{pastField}
 use Rattle.written.proofs.WrittenProcesses.{Starts}
-use Rattle.written.proofs.WrittenRow.{RowOk}
-use Rattle.written.proofs.WrittenStore.{TuplesOk}
+use Rattle.written.proofs.WrittenStages.{WithTuples}
+use Rattle.written.proofs.FreshFits.{tuple-fit, node-fit}
 
 -- ---- tuples
-pub range-low : (low x high : ℕ) → inRange low x high ≡ true → low ≤ x
-unfolding inRange
-range-low low x high h = leb-true low x (both-l _ _ h)
-
-pub range-high : (low x high : ℕ) → inRange low x high ≡ true → x ≤ high
-unfolding inRange
-range-high low x high h = leb-true x high (both-r (leb low x) _ h)
-
-tuple-ok : (n : ℕ) (t : Tuple) → tupleFits t ≡ true → tupleSound n t ≡ true → TupleOk n t
-unfolding tupleFits tupleSound fieldAt
-tuple-ok n t f h = record {
-  least = range-low 1 (t .count) 4 (both-l _ _ h);
-  most = range-high 1 (t .count) 4 (both-l _ _ h);
-  fields-ok =
-      filled-tests (λ x. itemSound n (x .item)) (λ x. isZeroItem (x .item)) pastField 4 (t .count) (t .fields)
-      (eqb-true _ _ (both-l _ _ f)) (both-r (inRange 1 (t .count) 4) _ h)
-      (λ j l u e. record { sound = e; fits = all-e 4 _ (both-r (eqb (length (t .fields)) 4) _ f) j l })
-      (λ j l e. zero-field _ e);
-}
-
-tuples-ok : (n : ℕ) (x : Node) → NodeFit x → tuplesSound n x ≡ true → TuplesOk n x
-unfolding tuplesSound tupleAt
-tuples-ok n x f h = record {
-  few = leb-true (x .stored) 16 (both-l _ _ h);
-  tuples-ok =
-      filled-tests (tupleSound n) isZeroTuple pastTuple 16 (x .stored) (x .tuples) (f .tuples-are)
-      (both-r (leb (x .stored) 16) _ h) (λ j l u e. tuple-ok n _ (f .each-tuple j l) e)
-      (λ j l e. zero-tuple _ (f .each-tuple j l) e);
-}
-
--- ---- rows
-row-ok : (n : ℕ) (r : Row) → length (r .rights) ≡ 16 → rowSound n r ≡ true → RowOk n r
-unfolding rowSound rightsAt
-row-ok n r e h = record {
-  rights-ok = record {
-    size-is = e;
-    holds = λ l g. record {
-      used = λ _. tt;
-      unused = λ u. zero-rights _ (implies-e (leb n l) _ (all-e 16 _ h l g) (le-leb n l u));
-    };
-  };
+tuple-ok : (n : ℕ) (t : Tuple) → tupleFits t ≡ true → sound.TupleOk n t → TupleOk n t
+unfolding fieldAt
+tuple-ok n t f ok = record {
+  least = ok .least;
+  most = ok .most;
+  fields-ok = filled-at (ok .fields-ok) (λ j l e. record { sound = e; fits = tuple-fit t f .each-item j l }) (λ x. sym);
 }
 
 -- ---- processes
@@ -80,66 +41,59 @@ count-small x (suc i) =
     let h = count-small x i in
     chosen (λ (m : ℕ). m ≤ suc i) (processAt x i .busy) _ _ (λ _. omega arith) (λ _. omega arith)
 
-starts : (n k : ℕ) (p : Process) → processFits p ≡ true → p .busy ≡ true → processSound n k p ≡ true
-    → all 8 (λ v. isUnset (variableAt p v)) ≡ true → Starts k p
-unfolding processSound startingAt
-starts n k p f b h u =
-    let g = sym (choose-true (p .busy) _ _ b) ∙ h in
-    record {
-      first = p .at;
-      within = ltb-true (p .at .0) k (both-l _ _ g);
-      is =
-          ap (λ (c : Bool). record { busy = c; at = p .at; variables = replicate 8 unsetVariable }) (sym b)
-          ∙ ap (λ y. record { busy = p .busy; at = p .at; variables = y }) (unset-are p f u);
-    }
+starts : (n k : ℕ) (p : Process) → ShapedProcess p → sound.Running n k p → allUnset p ≡ true → Starts k p
+unfolding startingAt
+starts n k p shape r u = record {
+  first = p .at;
+  within = r .place;
+  is = λ d. record { busy = sym (r .is-busy) d; at = p .at; variables = sym (all-unset p shape u) d };
+}
 
-module _ (n k : ℕ) (x : Node) (f : NodeFit x) (h : all 4 (λ i. processSound n k (processAt x i)) ≡ true)
-    (s : nodeStarts x ≡ true) where
+module _ (n k : ℕ) (x : Node) (f : nodeFits x ≡ true) (ok : sound.NodeOk n k x) (s : nodeStarts x ≡ true) where
   slot : (i : ℕ) → i < 4 → slotStarts x i ≡ true
   unfolding nodeStarts
   slot i l = all-e 4 _ s i l
 
   busy-slot : (i : ℕ) → i < 4 → i < processCount x → processAt x i .busy ≡ true
   unfolding slotStarts
-  busy-slot i l u =
-      sym (choose-true (ltb i (processCount x)) _ _ (lt-ltb i (processCount x) u)) ∙ both-l _ _ (slot i l)
+  busy-slot i l u = choose-e (ltb i (processCount x)) _ _ (both-l _ _ (slot i l)) (lt-ltb i (processCount x) u)
 
-  free-slot : (i : ℕ) → i < 4 → processCount x ≤ i → processAt x i .busy ≡ false
+  idle-slot : (i : ℕ) → i < 4 → processCount x ≤ i → processAt x i .busy ≡ false
   unfolding slotStarts
-  free-slot i l u =
-      sym (not-true (processAt x i .busy)
-      (sym (choose-false (ltb i (processCount x)) _ _ (le-ltb i (processCount x) u)) ∙ both-l _ _ (slot i l)))
+  idle-slot i l u =
+      not-true (processAt x i .busy)
+      (choose-else (ltb i (processCount x)) _ _ (both-l _ _ (slot i l)) (le-ltb i (processCount x) u))
 
-  unset-slot : (i : ℕ) → i < 4 → all 8 (λ v. isUnset (variableAt (processAt x i) v)) ≡ true
+  unset-slot : (i : ℕ) → i < 4 → allUnset (processAt x i) ≡ true
   unfolding slotStarts
   unset-slot i l =
       both-r (choose (ltb i (processCount x)) (processAt x i .busy) (not (processAt x i .busy))) _ (slot i l)
 
   slots-ok : Slots k x
-  unfolding processCount processAt processSound
+  unfolding processCount processAt
   slots-ok = record {
     count = processCount x;
     slots = record {
       few = count-small x 4;
       slots-ok = record {
-        size-is = f .processes-are;
+        size-is = ok .processes-ok .size-is;
         holds = λ i l. record {
-          used = λ u. starts n k _ (f .each-process i l) (busy-slot i l u) (all-e 4 _ h i l) (unset-slot i l);
-          unused = λ u.
-              zero-process _ (f .each-process i l)
-              (sym (choose-false (processAt x i .busy) _ _ (free-slot i l u)) ∙ all-e 4 _ h i l);
+          used = λ u.
+              starts n k _ (node-fit x f .shaped .each-process i l)
+              (ok .processes-ok .holds i l .running (busy-slot i l u)) (unset-slot i l);
+          unused = λ u. sym (ok .processes-ok .holds i l .free (idle-slot i l u));
         };
       };
     };
   }
 
-pub node-ok : (n k : ℕ) (x : Node) → nodeFits x ≡ true → nodeSound n k x ≡ true → nodeStarts x ≡ true → WithTuples n k x
-unfolding nodeSound
-node-ok n k x f h s =
-    let fit = node-fit x f in
-    let g = both-r (rowSound n (x .row)) _ h in
-    record {
-      row-ok = row-ok n (x .row) (fit .rights-are) (both-l _ _ h);
-      slots-ok = slots-ok n k x fit (both-l _ _ g) s;
-      store-ok = tuples-ok n x fit (both-r (all 4 (λ i. processSound n k (processAt x i))) _ g);
-    }
+  pub node-ok : WithTuples n k x
+  unfolding tupleAt
+  node-ok = record {
+    row-ok = record { rights-ok = filled-map (λ r u. u) (λ r. sym) (ok .row-ok) };
+    slots-ok = slots-ok;
+    store-ok = record {
+      few = ok .room;
+      tuples-ok = filled-at (ok .tuples-ok) (λ j l. tuple-ok n _ (node-fit x f .each-tuple j l)) (λ t. sym);
+    };
+  }

@@ -1,9 +1,9 @@
 pub mod AcceptedWritten
 pub mod BitsAt
 pub mod FreshCode
+pub mod FreshFits
 pub mod FreshNet
 pub mod FreshNode
-pub mod FreshZero
 pub mod LongestImage
 pub mod ReadsCells
 pub mod ReadsParts

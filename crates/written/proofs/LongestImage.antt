@@ -12,9 +12,9 @@ use Rattle.net.specs.Records.{startingAt, zeroField, unsetVariable, allRights, 
 use Rattle.net.specs.Records.{fieldAt, variableAt, rightsAt, processAt, tupleAt, patternAt, nodeAt, instructionAt}
 use Rattle.written.specs.Types.{Locality, Place, Tuple, Node, Target, Action, Instruction, Net}
 use Rattle.net.specs.Choice.{inRange}
-use Rattle.sound.specs.Soundness.{itemSound, tupleSound, tuplesSound, rowSound, isUnset, valueSound, processSound}
-use Rattle.sound.specs.Soundness.{nodeSound, targetSound, patternSound, templateSound, isActual, actualsOnly, actionSound}
-use Rattle.sound.specs.Soundness.{templateFor, instructionSound, nodesSound, codeSound, soundOf}
+use Rattle.sound.specs.Soundness.{itemSound, tupleSound, tuplesSound, rowSound, isUnset, allUnset, valueSound}
+use Rattle.sound.specs.Soundness.{processSound, nodeSound, targetSound, patternSound, templateSound, isActual}
+use Rattle.sound.specs.Soundness.{actualsOnly, actionSound, templateFor, instructionSound, soundOf}
 use Rattle.keeping.specs.Keeping.{mayPut, atTarget, permits, permitsMarked, keepsOf}
 use Rattle.keeping.specs.Admission.{admitsProcess, admitsNode, admitsAt, admits}
 use Rattle.image.specs.Image.{accepted, openedOf}
@@ -29,8 +29,12 @@ use Rattle.fresh.specs.Fresh.{netFits, slotStarts, nodeStarts, freshOf}
 use Rattle.written.specs.WrittenClaims.{Bytes, LongestIsReached}
 use Rattle.accepted.specs.LengthClaims.{longestImage}
 use Rattle.net.proofs.Laws.{both-i, implies-i, choose-true, all-i}
-use Rattle.net.proofs.Past.{in-range}
-use Rattle.image.proofs.PastRecords.{pastNode, pastInstruction}
+use Rattle.net.proofs.Every.{every-replicate}
+use Rattle.sound.proofs.NodeFacts.{node-apart}
+use Rattle.sound.proofs.CodeFacts.{instruction-apart}
+use Rattle.sound.proofs.NetFacts as sound
+use Rattle.written.proofs.FreshFits.{node-fit, instruction-fit}
+use Rattle.net.proofs.Past.{pastNode, pastInstruction}
 use Rattle.written.proofs.WrittenBytes.{bytes-length, bytes-small}
 use Rattle.written.proofs.AcceptedWritten.{fresh-accepted}
 
@@ -73,7 +77,7 @@ unfolding nodeSound fullNode rowSound rightsAt processSound processAt startingAt
 node-sound = refl
 
 node-starts : nodeStarts fullNode ≡ true
-unfolding nodeStarts slotStarts fullNode processCount processAt startingAt variableAt unsetVariable isUnset fold all both choose
+unfolding nodeStarts slotStarts fullNode processCount processAt startingAt allUnset variableAt unsetVariable isUnset fold all both choose
 node-starts = refl
 
 instruction-fits : instructionFits fullInstruction ≡ true
@@ -100,38 +104,33 @@ net-fits =
     (both-i _ _ (eq-eqb _ _ code-length)
     (all-i 512 _ (λ p h. ap instructionFits (code-is-full (placeOf p) h) ∙ instruction-fits)))
 
-abbrev n : ℕ
-n = fullNet .addresses
-
-abbrev k : ℕ
-k = fullNet .length
-
-addresses-are : n ≡ 16
+addresses-are : fullNet .addresses ≡ 16
 unfolding fullNet
 addresses-are = refl
 
-length-is : k ≡ 512
+length-is : fullNet .length ≡ 512
 unfolding fullNet
 length-is = refl
 
 net-sound : soundOf fullNet ≡ true
-unfolding soundOf nodesSound codeSound
-net-sound =
-    both-i _ _
-    (both-i _ _ (in-range 1 n 16 (omega (arith, addresses-are)) (omega (arith, addresses-are)))
-    (in-range 1 k 512 (omega (arith, length-is)) (omega (arith, length-is))))
-    (both-i _ _
-    (all-i 16 _ (λ a h.
-    choose-true _ _ _ (lt-ltb a n (omega (arith, addresses-are)))
-    ∙ ap (nodeSound n k) (node-is-full (addressOf a) h)
-    ∙ ap (λ (i : ℕ). nodeSound i k fullNode) addresses-are ∙ ap (λ (i : ℕ). nodeSound 16 i fullNode) length-is
-    ∙ node-sound))
-    (all-i 512 _ (λ p h.
-    choose-true _ _ _ (lt-ltb p k (omega (arith, length-is)))
-    ∙ ap (instructionSound n k) (code-is-full (placeOf p) h)
-    ∙ ap (λ (i : ℕ). instructionSound i k fullInstruction) addresses-are
-    ∙ ap (λ (i : ℕ). instructionSound 16 i fullInstruction) length-is
-    ∙ instruction-sound)))
+unfolding fullNet
+net-sound = sound.net-sound fullNet (record {
+  addresses-least = omega arith;
+  addresses-most = omega arith;
+  length-least = omega arith;
+  length-most = omega arith;
+  nodes-ok =
+      every-replicate _ pastNode 16 fullNode (λ a l. record {
+        used = λ _. node-apart 16 512 fullNode (node-fit fullNode node-fits .shaped) node-sound;
+        unused = λ u. absurd (omega arith);
+      });
+  code-ok =
+      every-replicate _ pastInstruction 512 fullInstruction (λ p l. record {
+        used = λ _.
+            instruction-apart 16 512 fullInstruction (instruction-fit fullInstruction instruction-fits .shaped) instruction-sound;
+        unused = λ u. absurd (omega arith);
+      });
+})
 
 permitted : (a : Locality) → permits (fullNode .row) a (fullInstruction .action) ≡ true
 unfolding permits fullNode fullInstruction atTarget mayPut rightsAt allRights

@@ -6,7 +6,7 @@ use mathlib.Core.Path.{_≡_, refl, sym, ap, subst, _∙_}
 use mathlib.Core.Bool.{Bool}
 use mathlib.Core.List.{List}
 use native.Mathlib.Omega.{arith}
-use lib.ListN.{length, getD, set, replicate, length-replicate, getD-replicate}
+use lib.ListN.{length, getD, set, replicate, getD-replicate}
 use lib.Seq.{getD-set-same, getD-set-other, ext-getD}
 use Rattle.readers.specs.Reader.{Reader, pure, _>>=_, each}
 use Rattle.text.specs.Joined.{joined}
@@ -189,11 +189,3 @@ module _ {R : Type 0} {U : R → Type 0} {z d : R} {size i : ℕ} {xs : List R} 
       kept = λ l. getD-replicate size j z d h ∙ e .holds j h .unused (omega arith);
     };
   }
-
--- an array of zero records
-pub zeros-are : {R : Type 0} (z d : R) (size : ℕ) (xs : List R) → length xs ≡ size
-    → ((j : ℕ) → j < size → z ≡ getD xs j d) → replicate size z ≡ xs
-zeros-are z d size xs e f =
-    let l : length (replicate size z) ≡ size = length-replicate size z in
-    ext-getD d (replicate size z) xs (l ∙ sym e)
-    (λ j h. getD-replicate size j z d (omega arith) ∙ f j (omega arith))

@@ -5,7 +5,6 @@ use mathlib.Core.Path.{_≡_, refl, sym, ap, subst, _∙_}
 use mathlib.Core.Bool.{Bool}
 use mathlib.Core.List.{List, _++_}
 use native.Mathlib.Omega.{arith}
-use native.Mathlib.Decide.{decLe}
 use lib.ListN.{length, getD, getD-replicate, length-replicate}
 use Rattle.written.specs.Types.{Node, Net}
 use Rattle.net.specs.Records.{zeroNode, zeroInstruction, emptyNet, nodeAt, instructionAt, withCounts, addressOf}
@@ -14,17 +13,17 @@ use Rattle.image.specs.Image.{header, rows, allProcesses, allTuples, code}
 use Rattle.written.specs.ImageOf.{bitsOf, rowBits, processesBits, tuplesBits, instructionBits}
 use Rattle.text.specs.Joined.{joined}
 use Rattle.written.specs.ImageOf.{headerBits, rowsBits, allProcessesBits, allTuplesBits, codeBits, netBits}
-use Rattle.net.proofs.Every.{every-replicate}
+use Rattle.net.proofs.Every.{every-replicate, filled-each}
+use Rattle.sound.proofs.ZeroClaims.{zeros}
 use Rattle.written.proofs.ReadsWrites.{Reads, Ranged, reads-as, reads-map, reads-field}
 use Rattle.written.proofs.ReadsParts.{reads-in}
-use Rattle.written.proofs.ReadsCells.{zeros-are}
 use Rattle.written.proofs.WrittenPasses.{net-is, rowless, vacated}
 use Rattle.written.proofs.WrittenPasses.{emptied, RowsPass, ProcessesPass, TuplesPass, CodePass}
 use Rattle.written.proofs.WrittenPasses.{reads-rows, reads-allProcesses, reads-allTuples, reads-code}
 use Rattle.written.proofs.WrittenStages.{Staged, Blank, WithRow, WithProcesses, WithTuples, rowed, peopled, stocked}
 use Rattle.written.proofs.WrittenStages.{Keeps, keeps-on, pass-keeps, code-keeps, header-same, rows-same}
 use Rattle.written.proofs.WrittenStages.{processes-same, tuples-same}
-use Rattle.image.proofs.PastRecords.{pastNode, pastInstruction}
+use Rattle.net.proofs.Past.{pastNode, pastInstruction}
 use Rattle.written.proofs.WrittenProcesses.{bareNode}
 
 -- ---- 1. the header
@@ -41,14 +40,10 @@ blank n k h g = record {
 blank-is : (s : Net) → Staged Blank s → withCounts emptyNet (s .addresses) (s .length) ≡ s
 unfolding withCounts emptyNet
 blank-is s g =
-    net-is s _ _ _ _ refl refl (zeros-are zeroNode pastNode 16 (s .nodes) (g .nodes-ok .size-is) here) (g .code-is)
-  where
-    go : (a : ℕ) → a < 16 → Dec (s .addresses ≤ a) → zeroNode ≡ getD (s .nodes) a pastNode
-    go a h (yes l) = g .nodes-ok .holds a h .unused l
-    go a h (no l) = g .nodes-ok .holds a h .used (omega arith)
-
-    here : (a : ℕ) → a < 16 → zeroNode ≡ getD (s .nodes) a pastNode
-    here a h = go a h (decLe (s .addresses) a)
+    net-is s _ _ _ _ refl refl
+    (sym (zeros zeroNode pastNode 16 (s .nodes) (g .nodes-ok .size-is)
+    (filled-each {Q = λ x. x ≡ zeroNode} (g .nodes-ok) (λ x. sym) (λ x. sym))))
+    (g .code-is)
 
 headerRest : Net → List Bool
 headerRest s = bitsOf 5 (s .addresses) ++ bitsOf 10 (s .length)

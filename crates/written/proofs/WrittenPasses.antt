@@ -19,7 +19,7 @@ use Rattle.text.specs.Joined.{joined}
 use Rattle.written.proofs.ReadsWrites.{Reads}
 use Rattle.written.proofs.ReadsCells.{Arrayed, Through, Turned, Filling, reads-turn, reads-cells}
 use Rattle.written.proofs.WrittenCode.{InstructionOk, reads-instruction}
-use Rattle.image.proofs.PastRecords.{pastNode, pastInstruction}
+use Rattle.net.proofs.Past.{pastNode, pastInstruction}
 use Rattle.written.proofs.WrittenProcesses.{ProcessesOk, Peopled, reads-processes, bareNode, node-is}
 use Rattle.written.proofs.WrittenRow.{RowOk, reads-row}
 use Rattle.written.proofs.WrittenStore.{TuplesOk, Stocked, reads-tuples}

@@ -20,7 +20,7 @@ use Rattle.written.proofs.ReadsWrites.{Reads, reads-then, reads-bits}
 use Rattle.written.proofs.ReadsCells.{Arrayed, Through, Filling, reads-turn, reads-cells}
 use Rattle.written.proofs.ReadsCells.{rewritten-filled, filled-rewritten}
 use Rattle.written.proofs.WrittenFields.{rights-written, rights-parts, digit-set, digit-small}
-use Rattle.image.proofs.PastRecords.{pastRights}
+use Rattle.net.proofs.Past.{pastRights}
 
 pub record RowOk (n : ℕ) (r : Row) : Type 0 where
   pub rights-ok : Every (Filled (λ x. Unit {0}) (λ x. noRights ≡ x) n) pastRights 16 (r .rights)

@@ -15,7 +15,7 @@ use Rattle.written.proofs.ReadsWrites.{Ranged, joined-same}
 use Rattle.written.proofs.ReadsCells.{Through}
 use Rattle.written.proofs.WrittenPasses.{passOver, rowless, free, vacated, Slots}
 use Rattle.written.proofs.WrittenPasses.{emptied, RowsPass, ProcessesPass, TuplesPass, CodePass}
-use Rattle.image.proofs.PastRecords.{pastNode}
+use Rattle.net.proofs.Past.{pastNode}
 use Rattle.written.proofs.WrittenProcesses.{bareNode, node-is}
 use Rattle.written.proofs.WrittenRow.{RowOk}
 use Rattle.written.proofs.WrittenStore.{TuplesOk}

@@ -1,4 +1,4 @@
--- Templates (`specs/Instruction.antt`, `specs/ImageOf.antt`, 5): what is read is what is written.
+-- Templates (`specs/Image.antt`, `specs/ImageOf.antt`, 5): what is read is what is written.
 -- Assumes nothing.
 use Prim.Native.Nat.{ℕ, suc, _+_, _-_, _<_, _≤_}
 use mathlib.Core.Path.{_≡_, refl, sym, ap, subst, _∙_}
@@ -12,36 +12,19 @@ use lib.Dec.{ltb}
 use borrow.Author.Tests.{ltb-true, lt-ltb}
 use Rattle.written.specs.Types.{Pattern, TemplateField, Action, Instruction}
 use Rattle.net.specs.Records.{zeroTemplateField, zeroInstruction, patternAt, withPattern}
-use Rattle.sound.specs.Soundness.{bindsNot, unboundBefore, bindsAnew}
+use Rattle.sound.specs.Soundness.{bindsAnew}
 use Rattle.instructions.specs.Instruction.{templateField, template}
 use Rattle.written.specs.ImageOf.{bitsOf, patternBits, templateBits}
 use Rattle.text.specs.Joined.{joined}
-use Rattle.net.proofs.Laws.{choose-true, implies-i, implies-e, all-i, all-e, split}
+use Rattle.net.proofs.Laws.{choose-true, split}
 use Rattle.net.proofs.Every.{Every, Filled}
-use Rattle.image.proofs.PastRecords.{pastTemplate}
+use Rattle.net.proofs.Past.{pastTemplate}
+use Rattle.sound.proofs.FormalLaws.{anew-as}
 use Rattle.written.proofs.ReadsWrites.{Reads, reads-then, reads-bits}
 use Rattle.written.proofs.ReadsCells.{Arrayed, Through, Filling, reads-turn, reads-cells, rewritten-filled, filled-rewritten}
 use Rattle.written.proofs.WrittenPatterns.{PatternOk, reads-pattern}
 
 -- ---- a template
--- rule 27 looks at the earlier fields alone
-unbound-as : (c b : Instruction) (i v : ℕ) → ((j : ℕ) → j < i → patternAt c j ≡ patternAt b j)
-    → unboundBefore c i v ≡ true → unboundBefore b i v ≡ true
-unfolding unboundBefore
-unbound-as c b i v e h =
-    all-i 4 _ (λ j l. implies-i (ltb j i) _ (λ t.
-    ap (bindsNot v) (sym (e j (ltb-true j i t))) ∙ implies-e (ltb j i) _ (all-e 4 _ h j l) t))
-
-pub anew-as : (c b : Instruction) (i : ℕ) (x : Pattern) → ((j : ℕ) → j < i → patternAt c j ≡ patternAt b j)
-    → bindsAnew c i x ≡ true → bindsAnew b i x ≡ true
-unfolding bindsAnew
-anew-as c b i (Pattern.Reading x) e h = refl
-anew-as c b i (Pattern.Address l) e h = refl
-anew-as c b i Pattern.Own e h = refl
-anew-as c b i (Pattern.Held v) e h = refl
-anew-as c b i (Pattern.FormalReading v) e h = unbound-as c b i v e h
-anew-as c b i (Pattern.FormalAddress v) e h = unbound-as c b i v e h
-
 -- i fields are read, and no action yet
 record Drafted (i : ℕ) (c : Instruction) : Type 0 where
   action-is : Action.Stop ≡ c .action
@@ -94,7 +77,7 @@ module _ (c : Instruction) (i : ℕ) (f : TemplateField) where
   anew-kept k j l h b q =
       let same : (m : ℕ) → m < i → patternAt c m ≡ patternAt b m =
       λ m g. other-pattern k m g ∙ ap (λ (y : Instruction). patternAt y m) (sym q) in
-      anew-as c b j (patternAt b j) (λ m g. same m (omega arith))
+      anew-as c b j (λ m g. same m (omega arith)) (patternAt b j)
       (ap (bindsAnew c j) (sym (same j l)) ∙ h)
 
   longer-drafted : i < length (c .template) → Drafted i c → bindsAnew c i (f .pattern) ≡ true → Drafted (suc i) (longer i c f)
@@ -105,7 +88,7 @@ module _ (c : Instruction) (i : ℕ) (f : TemplateField) where
       go j (inl l) = anew-kept (suc i) j l (d .anew j l) (longer i c f) refl
       go j (inr e) =
           subst (λ (m : ℕ). bindsAnew (longer i c f) m (patternAt (longer i c f) m) ≡ true) (sym e)
-          (anew-as c (longer i c f) i _ (λ m g. other-pattern (suc i) m g)
+          (anew-as c (longer i c f) i (λ m g. other-pattern (suc i) m g) _
           (ap (bindsAnew c i) (sym (this-pattern h)) ∙ x))
 
   cut-drafted : Drafted (suc i) c → Drafted i (cutPattern i c f)
@@ -118,7 +101,7 @@ module _ (c : Instruction) (i : ℕ) (f : TemplateField) where
 
   cut-anew : Drafted (suc i) c → bindsAnew (cutPattern i c f) i (patternAt c i) ≡ true
   unfolding cutPattern
-  cut-anew d = anew-as c (cutPattern i c f) i (patternAt c i) (λ j l. other-pattern i j l) (d .anew i (omega arith))
+  cut-anew d = anew-as c (cutPattern i c f) i (λ j l. other-pattern i j l) (patternAt c i) (d .anew i (omega arith))
 
   pattern-cut : i < 4 → Drafted (suc i) c → withPattern (cutPattern i c f) (getD (c .template) i pastTemplate) ≡ c
   unfolding cutPattern longer

@@ -20,7 +20,7 @@ use Rattle.text.specs.Joined.{joined}
 use Rattle.fresh.specs.Fresh.{readingFits, itemFits}
 use Rattle.net.proofs.Laws.{choose-true}
 use Rattle.net.proofs.Every.{Every, Filled}
-use Rattle.image.proofs.PastRecords.{pastField}
+use Rattle.net.proofs.Past.{pastField}
 use Rattle.written.proofs.ReadsWrites.{Reads, reads-then, reads-map, reads-bits}
 use Rattle.written.proofs.ReadsParts.{Kinded, reads-kind}
 use Rattle.written.proofs.ReadsCells.{Arrayed, Through, Filling, reads-turn, reads-cells, rewritten-filled, filled-rewritten}

@@ -17,7 +17,7 @@ use Rattle.written.proofs.WrittenPasses.{emptied, codeOf, RowsPass, Pro
 use Rattle.written.proofs.WrittenStages.{Staged, Blank, WithTuples, rowed, peopled, stocked}
 use Rattle.written.proofs.WrittenNet.{body, FromTuples, FromProcesses, FromRows, FromHeader, reads-fromHeader}
 use Rattle.written.proofs.WrittenNet.{empty-at}
-use Rattle.image.proofs.PastRecords.{pastNode, pastInstruction}
+use Rattle.net.proofs.Past.{pastNode, pastInstruction}
 use Rattle.written.proofs.WrittenProcesses.{bareNode}
 
 pub record NetOk (s : Net) : Type 0 where

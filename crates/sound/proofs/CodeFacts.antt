@@ -1,0 +1,184 @@
+-- A sound instruction as facts about its action and its template: drawn from the test of soundness and the length of the
+-- template (`instruction-apart`), and giving both again (`instruction-sound`, `instruction-shaped`).
+-- Assumes nothing.
+use Prim.Native.Nat.{ℕ, _<_, _≤_}
+use mathlib.Core.Path.{_≡_, refl}
+use mathlib.Core.Bool.{true}
+use native.Mathlib.Omega.{arith}
+use lib.Dec.{ltb}
+use borrow.Author.Tests.{ltb-true, lt-ltb}
+use Rattle.net.specs.Choice.{both, inRange}
+use Rattle.net.specs.Records.{zeroTemplateField, zeroInstruction, patternAt, withAction}
+use Rattle.net.specs.Shape.{ShapedInstruction}
+use Rattle.sound.specs.Types.{Pattern, Action, Instruction}
+use Rattle.sound.specs.Soundness.{targetSound, patternSound, isZeroPattern, templateSound, noTemplate}
+use Rattle.sound.specs.Soundness.{isActual, actualsOnly, bindsAnew, formalsApart}
+use Rattle.sound.specs.Soundness.{actionSound, templateFor, instructionSound}
+use Rattle.net.proofs.Laws.{both-i, both-l, both-r, implies-i, implies-e, all-i, all-e}
+use Rattle.net.proofs.Laws.{in-range, in-range-low, in-range-high}
+use Rattle.net.proofs.Every.{Every, Filled, filled-all, all-filled}
+use Rattle.net.proofs.Past.{pastTemplate}
+use Rattle.sound.proofs.ZeroClaims.{zeroIsZero, no-template-passes}
+use Rattle.sound.proofs.NodeFacts.{of-zero}
+
+-- ---- templates
+abbrev pub PatternsOk : ℕ → Instruction → Type 0
+PatternsOk n c =
+    Every (Filled (λ f. patternSound n (f .pattern) ≡ true) (λ f. f ≡ zeroTemplateField) (c .count)) pastTemplate 4
+    (c .template)
+
+pub record TemplateOk (n : ℕ) (c : Instruction) : Type 0 where
+  pub least : 1 ≤ c .count
+  pub most : c .count ≤ 4
+  pub patterns-ok : PatternsOk n c
+
+-- a fact at each field
+abbrev pub AtEach : (ℕ → Pattern → Type 0) → Instruction → Type 0
+AtEach P c = (i : ℕ) → i < c .count → P i (patternAt c i)
+
+-- rule 26, and rule 27
+pub record OutTemplate (n : ℕ) (c : Instruction) : Type 0 where
+  pub template-ok : TemplateOk n c
+  pub actual : AtEach (λ i x. isActual x ≡ true) c
+
+pub record InTemplate (n : ℕ) (c : Instruction) : Type 0 where
+  pub template-ok : TemplateOk n c
+  pub anew : AtEach (λ i x. bindsAnew c i x ≡ true) c
+
+-- no template: the instruction is its action
+abbrev pub Bare : Instruction → Type 0
+Bare c = c ≡ withAction zeroInstruction (c .action)
+
+module _ (n : ℕ) (c : Instruction) where
+  template-apart : ShapedInstruction c → templateSound n c ≡ true → TemplateOk n c
+  unfolding templateSound patternAt
+  template-apart shape h = record {
+    least = in-range-low 1 (c .count) 4 (both-l _ _ h);
+    most = in-range-high 1 (c .count) 4 (both-l _ _ h);
+    patterns-ok =
+        all-filled (λ f. patternSound n (f .pattern)) (λ f. isZeroPattern (f .pattern)) (shape .template-is)
+        (both-r (inRange 1 (c .count) 4) _ h) (λ j l e. e) (λ j l. zeroIsZero .templateField _ .0);
+  }
+
+  pub template-sound : TemplateOk n c → templateSound n c ≡ true
+  unfolding templateSound patternAt
+  template-sound ok =
+      both-i _ _ (in-range 1 (c .count) 4 (ok .least) (ok .most))
+      (filled-all (λ f. patternSound n (f .pattern)) (λ f. isZeroPattern (f .pattern)) (ok .patterns-ok) (λ f e. e)
+      (λ f. zeroIsZero .templateField f .1))
+
+  out-apart : ShapedInstruction c → both (templateSound n c) (actualsOnly c) ≡ true → OutTemplate n c
+  unfolding actualsOnly
+  out-apart shape h =
+      let ok = template-apart shape (both-l _ _ h) in
+      record {
+        template-ok = ok;
+        actual = λ i l.
+            implies-e (ltb i (c .count)) _ (all-e 4 _ (both-r (templateSound n c) _ h) i (omega (arith, ok .most)))
+            (lt-ltb i (c .count) l);
+      }
+
+  out-sound : OutTemplate n c → both (templateSound n c) (actualsOnly c) ≡ true
+  unfolding actualsOnly
+  out-sound ok =
+      both-i _ _ (template-sound (ok .template-ok))
+      (all-i 4 _ (λ i h. implies-i (ltb i (c .count)) _ (λ e. ok .actual i (ltb-true i (c .count) e))))
+
+  in-apart : ShapedInstruction c → both (templateSound n c) (formalsApart c) ≡ true → InTemplate n c
+  unfolding formalsApart
+  in-apart shape h =
+      let ok = template-apart shape (both-l _ _ h) in
+      record {
+        template-ok = ok;
+        anew = λ i l.
+            implies-e (ltb i (c .count)) _ (all-e 4 _ (both-r (templateSound n c) _ h) i (omega (arith, ok .most)))
+            (lt-ltb i (c .count) l);
+      }
+
+  in-sound : InTemplate n c → both (templateSound n c) (formalsApart c) ≡ true
+  unfolding formalsApart
+  in-sound ok =
+      both-i _ _ (template-sound (ok .template-ok))
+      (all-i 4 _ (λ i h. implies-i (ltb i (c .count)) _ (λ e. ok .anew i (ltb-true i (c .count) e))))
+
+-- ---- an action, and the template that goes with it
+unfoldable pub Acts : ℕ → ℕ → Action → Instruction → Type 0
+Acts n k Action.Stop c = Bare c
+Acts n k (Action.Out t p) c = (targetSound n t ≡ true) × (p .0 < k) × OutTemplate n c
+Acts n k (Action.In t p) c = (targetSound n t ≡ true) × (p .0 < k) × InTemplate n c
+Acts n k (Action.Read t p) c = (targetSound n t ≡ true) × (p .0 < k) × InTemplate n c
+Acts n k (Action.Eval t sent p) c = (targetSound n t ≡ true) × (sent .0 < k) × (p .0 < k) × Bare c
+Acts n k (Action.New v p) c = (v < 8) × (p .0 < k) × Bare c
+Acts n k (Action.Fork p q) c = (p .0 < k) × (q .0 < k) × Bare c
+
+abbrev pub InstructionOk : ℕ → ℕ → Instruction → Type 0
+InstructionOk n k c = Acts n k (c .action) c
+
+module _ (n k : ℕ) (c : Instruction) where
+  acts-apart :
+      (a : Action) → ShapedInstruction c → actionSound n k a ≡ true → templateFor n a c ≡ true → Acts n k a c
+  unfolding actionSound templateFor Acts
+  acts-apart Action.Stop shape h t = zeroIsZero .template c shape .0 t
+  acts-apart (Action.Out to p) shape h t =
+      (both-l _ _ h, ltb-true _ _ (both-r (targetSound n to) _ h), out-apart n c shape t)
+  acts-apart (Action.In to p) shape h t =
+      (both-l _ _ h, ltb-true _ _ (both-r (targetSound n to) _ h), in-apart n c shape t)
+  acts-apart (Action.Read to p) shape h t =
+      (both-l _ _ h, ltb-true _ _ (both-r (targetSound n to) _ h), in-apart n c shape t)
+  acts-apart (Action.Eval to sent p) shape h t =
+      let g = both-r (targetSound n to) _ h in (
+        both-l _ _ h,
+        ltb-true _ _ (both-l _ _ g),
+        ltb-true _ _ (both-r (ltb (sent .0) k) _ g),
+        zeroIsZero .template c shape .0 t,
+      )
+  acts-apart (Action.New v p) shape h t =
+      (ltb-true _ _ (both-l _ _ h), ltb-true _ _ (both-r (ltb v 8) _ h), zeroIsZero .template c shape .0 t)
+  acts-apart (Action.Fork p q) shape h t =
+      (ltb-true _ _ (both-l _ _ h), ltb-true _ _ (both-r (ltb (p .0) k) _ h), zeroIsZero .template c shape .0 t)
+
+  bare-sound : Bare c → noTemplate c ≡ true
+  bare-sound e = of-zero (λ b. noTemplate b ≡ true) (no-template-passes (c .action)) c e
+
+  acts-sound : (a : Action) → Acts n k a c → both (actionSound n k a) (templateFor n a c) ≡ true
+  unfolding actionSound templateFor Acts
+  acts-sound Action.Stop b = both-i _ _ refl (bare-sound b)
+  acts-sound (Action.Out to p) (t, h, ok) = both-i _ _ (both-i _ _ t (lt-ltb _ _ h)) (out-sound n c ok)
+  acts-sound (Action.In to p) (t, h, ok) = both-i _ _ (both-i _ _ t (lt-ltb _ _ h)) (in-sound n c ok)
+  acts-sound (Action.Read to p) (t, h, ok) = both-i _ _ (both-i _ _ t (lt-ltb _ _ h)) (in-sound n c ok)
+  acts-sound (Action.Eval to sent p) (t, g, h, b) =
+      both-i _ _ (both-i _ _ t (both-i _ _ (lt-ltb _ _ g) (lt-ltb _ _ h))) (bare-sound b)
+  acts-sound (Action.New v p) (g, h, b) = both-i _ _ (both-i _ _ (lt-ltb _ _ g) (lt-ltb _ _ h)) (bare-sound b)
+  acts-sound (Action.Fork p q) (g, h, b) = both-i _ _ (both-i _ _ (lt-ltb _ _ g) (lt-ltb _ _ h)) (bare-sound b)
+
+  -- what the template of every action has
+  module _
+      (Q : Instruction → Type 0) (spoken : TemplateOk n c → Q c) (bare : (a : Action) → Q (withAction zeroInstruction a))
+    where
+      acts-each : (a : Action) → Acts n k a c → Q c
+      unfolding Acts
+      acts-each Action.Stop b = of-zero Q (bare _) c b
+      acts-each (Action.Out to p) (t, h, ok) = spoken (ok .template-ok)
+      acts-each (Action.In to p) (t, h, ok) = spoken (ok .template-ok)
+      acts-each (Action.Read to p) (t, h, ok) = spoken (ok .template-ok)
+      acts-each (Action.Eval to sent p) (t, g, h, b) = of-zero Q (bare _) c b
+      acts-each (Action.New v p) (g, h, b) = of-zero Q (bare _) c b
+      acts-each (Action.Fork p q) (g, h, b) = of-zero Q (bare _) c b
+
+      pub instruction-each : InstructionOk n k c → Q c
+      instruction-each ok = acts-each (c .action) ok
+
+  pub instruction-apart : ShapedInstruction c → instructionSound n k c ≡ true → InstructionOk n k c
+  unfolding instructionSound
+  instruction-apart shape h =
+      acts-apart (c .action) shape (both-l _ _ h) (both-r (actionSound n k (c .action)) _ h)
+
+  pub instruction-sound : InstructionOk n k c → instructionSound n k c ≡ true
+  unfolding instructionSound
+  instruction-sound ok = acts-sound (c .action) ok
+
+  pub instruction-shaped : InstructionOk n k c → ShapedInstruction c
+  unfolding withAction zeroInstruction
+  instruction-shaped =
+      instruction-each ShapedInstruction (λ ok. record { template-is = ok .patterns-ok .size-is })
+      (λ a. record { template-is = refl })

@@ -1,0 +1,96 @@
+-- What is sound with m addresses is sound with more: a node (`node-more`) and an instruction (`instruction-more`).
+-- Assumes nothing.
+use Prim.Native.Nat.{ℕ, _≤_}
+use mathlib.Core.Path.{_≡_, refl}
+use mathlib.Core.Bool.{true}
+use native.Mathlib.Omega.{arith}
+use lib.Dec.{ltb}
+use borrow.Author.Tests.{ltb-true, lt-ltb}
+use Rattle.sound.specs.Types.{Value, Item, Tuple, Process, Node, Target, Pattern, Action, Instruction}
+use Rattle.sound.specs.Soundness.{itemSound, valueSound, targetSound, patternSound}
+use Rattle.net.proofs.Every.{every-weaken, filled-map}
+use Rattle.sound.proofs.NodeFacts.{TupleOk, Running, ProcessOk, NodeOk}
+use Rattle.sound.proofs.CodeFacts.{TemplateOk, OutTemplate, InTemplate, Acts, InstructionOk}
+
+module _ (m n : ℕ) (l : m ≤ n) where
+  below-more : (a : ℕ) → ltb a m ≡ true → ltb a n ≡ true
+  below-more a h = lt-ltb a n (omega (arith, ltb-true a m h))
+
+  -- ---- nodes
+  item-more : (x : Item) → itemSound m x ≡ true → itemSound n x ≡ true
+  unfolding itemSound
+  item-more (Item.Reading x) h = refl
+  item-more (Item.Address a) h = below-more (a .0) h
+
+  tuple-more : (t : Tuple) → TupleOk m t → TupleOk n t
+  tuple-more t ok = record {
+    least = ok .least;
+    most = ok .most;
+    fields-ok = filled-map (λ f. item-more (f .item)) (λ f e. e) (ok .fields-ok);
+  }
+
+  value-more : (x : Value) → valueSound m x ≡ true → valueSound n x ≡ true
+  unfolding valueSound
+  value-more Value.Unset h = refl
+  value-more (Value.Reading x) h = refl
+  value-more (Value.Address a) h = below-more (a .0) h
+
+  pub running-more : (k : ℕ) (p : Process) → Running m k p → Running n k p
+  running-more k p r = record {
+    is-busy = r .is-busy;
+    place = r .place;
+    values = every-weaken (r .values) (λ v x. value-more (x .value));
+  }
+
+  process-more : (k : ℕ) (p : Process) → ProcessOk m k p → ProcessOk n k p
+  process-more k p ok = record { running = λ e. running-more k p (ok .running e); free = ok .free }
+
+  pub node-more : (k : ℕ) (x : Node) → NodeOk m k x → NodeOk n k x
+  node-more k x ok = record {
+    row-ok = every-weaken (ok .row-ok) (λ a r f. record { used = λ _. tt; unused = λ u. f .unused (omega arith) });
+    processes-ok = every-weaken (ok .processes-ok) (λ i. process-more k);
+    room = ok .room;
+    tuples-ok = filled-map tuple-more (λ t e. e) (ok .tuples-ok);
+  }
+
+  -- ---- instructions
+  target-more : (t : Target) → targetSound m t ≡ true → targetSound n t ≡ true
+  unfolding targetSound
+  target-more (Target.Written a) h = below-more (a .0) h
+  target-more Target.Own h = refl
+  target-more (Target.Held v) h = h
+
+  pattern-more : (x : Pattern) → patternSound m x ≡ true → patternSound n x ≡ true
+  unfolding patternSound
+  pattern-more (Pattern.Reading x) h = refl
+  pattern-more (Pattern.Address a) h = below-more (a .0) h
+  pattern-more Pattern.Own h = refl
+  pattern-more (Pattern.Held v) h = h
+  pattern-more (Pattern.FormalReading v) h = h
+  pattern-more (Pattern.FormalAddress v) h = h
+
+  template-more : (c : Instruction) → TemplateOk m c → TemplateOk n c
+  template-more c ok = record {
+    least = ok .least;
+    most = ok .most;
+    patterns-ok = filled-map (λ f. pattern-more (f .pattern)) (λ f e. e) (ok .patterns-ok);
+  }
+
+  out-more : (c : Instruction) → OutTemplate m c → OutTemplate n c
+  out-more c ok = record { template-ok = template-more c (ok .template-ok); actual = ok .actual }
+
+  in-more : (c : Instruction) → InTemplate m c → InTemplate n c
+  in-more c ok = record { template-ok = template-more c (ok .template-ok); anew = ok .anew }
+
+  acts-more : (k : ℕ) (c : Instruction) (a : Action) → Acts m k a c → Acts n k a c
+  unfolding Acts
+  acts-more k c Action.Stop b = b
+  acts-more k c (Action.Out t p) (e, h, ok) = (target-more t e, h, out-more c ok)
+  acts-more k c (Action.In t p) (e, h, ok) = (target-more t e, h, in-more c ok)
+  acts-more k c (Action.Read t p) (e, h, ok) = (target-more t e, h, in-more c ok)
+  acts-more k c (Action.Eval t sent p) (e, g, h, b) = (target-more t e, g, h, b)
+  acts-more k c (Action.New v p) ok = ok
+  acts-more k c (Action.Fork p q) ok = ok
+
+  pub instruction-more : (k : ℕ) (c : Instruction) → InstructionOk m k c → InstructionOk n k c
+  instruction-more k c = acts-more k c (c .action)

@@ -1,0 +1,71 @@
+-- What keeps a net sound (`NetFacts.antt`): a node or an instruction set anew, of a net that begins as the empty net.
+-- Assumes nothing.
+use Prim.Native.Nat.{ℕ, _<_, _≤_}
+use mathlib.Core.Path.{_≡_, refl}
+use native.Mathlib.Omega.{arith}
+use Rattle.net.specs.Records.{zeroNode, zeroInstruction, emptyNet, nodeAt, instructionAt, withAction}
+use Rattle.net.specs.Records.{withNode, withInstruction, withCounts}
+use Rattle.net.specs.Shape.{Shaped}
+use Rattle.net.specs.declared.locality.Locality.{Locality}
+use Rattle.net.specs.declared.locality.Place.{Place}
+use Rattle.sound.specs.Types.{Node, Instruction, Net}
+use Rattle.net.proofs.Every.{every-replicate, filled-set}
+use Rattle.net.proofs.Past.{pastNode, pastInstruction}
+use Rattle.sound.proofs.NodeFacts.{NodeOk}
+use Rattle.sound.proofs.NodeChanges.{zero-node}
+use Rattle.sound.proofs.CodeFacts.{Acts, InstructionOk}
+use Rattle.sound.proofs.NetFacts.{NetWith, net-shaped}
+
+pub zero-instruction : (n k : ℕ) → InstructionOk n k zeroInstruction
+unfolding Acts zeroInstruction withAction
+zero-instruction n k = refl
+
+-- the records of the empty net, whatever the counts that stand before them
+pub empty-net : (m j n k : ℕ) → 1 ≤ n → n ≤ 16 → 1 ≤ k → k ≤ 512 → NetWith n k (withCounts emptyNet m j)
+unfolding withCounts emptyNet
+empty-net m j n k n₁ n₂ k₁ k₂ = record {
+  addresses-least = n₁;
+  addresses-most = n₂;
+  length-least = k₁;
+  length-most = k₂;
+  nodes-ok = every-replicate _ pastNode 16 zeroNode (λ a _. record { used = λ _. zero-node n k; unused = λ _. refl });
+  code-ok =
+      every-replicate _ pastInstruction 512 zeroInstruction
+      (λ p _. record { used = λ _. zero-instruction n k; unused = λ _. refl });
+}
+
+pub empty-shaped : Shaped emptyNet
+unfolding withCounts emptyNet
+empty-shaped = net-shaped 1 1 _ (empty-net 0 0 1 1 (omega arith) (omega arith) (omega arith) (omega arith))
+
+module _ {n k : ℕ} (s : Net) (ok : NetWith n k s) where
+  pub node-at : (a : Locality) → a .0 < n → NodeOk n k (nodeAt s a)
+  unfolding nodeAt
+  node-at a h = ok .nodes-ok .holds (a .0) (omega (arith, ok .addresses-most)) .used h
+
+  pub instruction-at : (p : Place) → p .0 < k → InstructionOk n k (instructionAt (s .code) p)
+  unfolding instructionAt
+  instruction-at p h = ok .code-ok .holds (p .0) (omega (arith, ok .length-most)) .used h
+
+  pub with-node : (a : Locality) (x : Node) → a .0 < n → NodeOk n k x → NetWith n k (withNode s a x)
+  unfolding withNode
+  with-node a x h g = record {
+    addresses-least = ok .addresses-least;
+    addresses-most = ok .addresses-most;
+    length-least = ok .length-least;
+    length-most = ok .length-most;
+    nodes-ok = filled-set (a .0) x h g (ok .nodes-ok);
+    code-ok = ok .code-ok;
+  }
+
+  pub with-instruction :
+      (p : Place) (c : Instruction) → p .0 < k → InstructionOk n k c → NetWith n k (withInstruction s p c)
+  unfolding withInstruction
+  with-instruction p c h g = record {
+    addresses-least = ok .addresses-least;
+    addresses-most = ok .addresses-most;
+    length-least = ok .length-least;
+    length-most = ok .length-most;
+    nodes-ok = ok .nodes-ok;
+    code-ok = filled-set (p .0) c h g (ok .code-ok);
+  }

@@ -1,0 +1,107 @@
+-- What keeps a node sound (`NodeFacts.antt`): a row, a process or a tuple set anew, of a node that begins as the zero node;
+-- and a tuple made field by field.
+-- Assumes nothing.
+use Prim.Native.Nat.{ℕ, suc, _<_, _≤_}
+use mathlib.Core.Path.{_≡_, refl, sym, _∙_}
+use mathlib.Core.Bool.{true}
+use native.Mathlib.Omega.{arith}
+use Rattle.net.specs.Records.{startingAt, zeroField, zeroTuple, unsetVariable, freeProcess, noRights, zeroRow, zeroNode}
+use Rattle.net.specs.Records.{withField, withRow, withProcess, withTuple}
+use Rattle.net.specs.Shape.{ShapedNode}
+use Rattle.sound.specs.Types.{Field, Tuple, Row, Process, Node}
+use Rattle.net.specs.declared.locality.Place.{Place}
+use Rattle.sound.specs.Soundness.{itemSound, valueSound}
+use Rattle.net.proofs.Every.{chosen-lt, every-replicate, every-set, filled-add}
+use Rattle.net.proofs.Past.{pastField, pastVariable, pastRights, pastProcess, pastTuple}
+use Rattle.net.proofs.ReadingLaws.{never}
+use Rattle.sound.proofs.NodeFacts.{FieldsOk, TupleOk, RowOk, Running, ProcessOk, NodeOk, node-shaped}
+
+-- ---- a tuple of which i fields are set
+pub record Filling (n i : ℕ) (t : Tuple) : Type 0 where
+  pub count-is : t .count ≡ i
+  pub fields-ok : FieldsOk n t
+
+module _ (n : ℕ) where
+  pub no-field : Filling n 0 zeroTuple
+  unfolding zeroTuple
+  no-field = record {
+    count-is = refl;
+    fields-ok =
+        every-replicate _ pastField 4 zeroField (λ j h. record { used = λ l. absurd (omega arith); unused = λ _. refl });
+  }
+
+  pub next-field :
+      (i : ℕ) (t : Tuple) (f : Field) → i < 4 → Filling n i t → itemSound n (f .item) ≡ true
+      → Filling n (suc i) (withField t f)
+  unfolding withField
+  next-field i t f h ok s =
+      chosen-lt (Filling n (suc i)) (t .count) 4 _ _
+      (λ l. record { count-is = omega (arith, ok .count-is); fields-ok = filled-add f s (ok .fields-ok) })
+      (λ l. absurd (omega (arith, ok .count-is)))
+
+  pub all-fields : (i : ℕ) (t : Tuple) → 1 ≤ i → i ≤ 4 → Filling n i t → TupleOk n t
+  all-fields i t h g ok = record {
+    least = omega (arith, ok .count-is);
+    most = omega (arith, ok .count-is);
+    fields-ok = ok .fields-ok;
+  }
+
+-- ---- rows
+pub zero-row : (n : ℕ) → RowOk n zeroRow
+unfolding zeroRow
+zero-row n = every-replicate _ pastRights 16 noRights (λ j h. record { used = λ _. tt; unused = λ _. refl })
+
+module _ (n k : ℕ) where
+  -- ---- processes
+  pub runs : (p : Process) → Running n k p → ProcessOk n k p
+  runs p r = record { running = λ _. r; free = λ e. never (sym e ∙ r .is-busy) }
+
+  pub free-slot : ProcessOk n k freeProcess
+  unfolding freeProcess
+  free-slot = record { running = λ e. never e; free = λ _. refl }
+
+  pub starting : (p : Place) → p .0 < k → Running n k (startingAt p)
+  unfolding startingAt unsetVariable valueSound
+  starting p h =
+      record { is-busy = refl; place = h; values = every-replicate _ pastVariable 8 unsetVariable (λ v l. refl) }
+
+  -- ---- nodes
+  pub zero-node : NodeOk n k zeroNode
+  unfolding zeroNode
+  zero-node = record {
+    row-ok = zero-row n;
+    processes-ok = every-replicate _ pastProcess 4 freeProcess (λ j h. free-slot);
+    room = omega arith;
+    tuples-ok =
+        every-replicate _ pastTuple 16 zeroTuple (λ j h. record { used = λ l. absurd (omega arith); unused = λ _. refl });
+  }
+
+  module _ (x : Node) (ok : NodeOk n k x) where
+    pub with-row : (r : Row) → RowOk n r → NodeOk n k (withRow x r)
+    unfolding withRow
+    with-row r h =
+        record { row-ok = h; processes-ok = ok .processes-ok; room = ok .room; tuples-ok = ok .tuples-ok }
+
+    pub with-process : (i : ℕ) (p : Process) → ProcessOk n k p → NodeOk n k (withProcess x i p)
+    unfolding withProcess
+    with-process i p h = record {
+      row-ok = ok .row-ok;
+      processes-ok = every-set i p (ok .processes-ok) (λ j q d e. e) h;
+      room = ok .room;
+      tuples-ok = ok .tuples-ok;
+    }
+
+    pub with-tuple : (t : Tuple) → TupleOk n t → NodeOk n k (withTuple x t)
+    unfolding withTuple
+    with-tuple t h =
+        chosen-lt (NodeOk n k) (x .stored) 16 _ _
+        (λ l. record {
+          row-ok = ok .row-ok;
+          processes-ok = ok .processes-ok;
+          room = omega arith;
+          tuples-ok = filled-add t h (ok .tuples-ok);
+        })
+        (λ l. ok)
+
+pub zero-node-shaped : ShapedNode zeroNode
+zero-node-shaped = node-shaped 1 1 zeroNode (zero-node 1 1)
