@@ -11,8 +11,10 @@ use Rattle.accepted.specs.Types.{Locality, Place, Node, Instruction, Net
 use Rattle.net.specs.Records.{emptyNet, nodeAt, addressOf, placeOf}
 use Rattle.net.specs.Records.{withNode, withInstruction, withCounts}
 use Rattle.sound.specs.Soundness.{soundOf}
-use Rattle.readers.specs.Reader.{Fault, Parsed, Reader, each, numbered}
-use Rattle.image.specs.Image.{Verdict, Opened, eachAddress, eachPlace, header, row, rowOf, rows, processes, processesOf, allProcesses}
+use Rattle.accepted.specs.Types.{Fault}
+use Rattle.readers.specs.Reader.{Parsed, Reader, each, numbered}
+use Rattle.accepted.specs.Types.{Verdict, Opened}
+use Rattle.image.specs.Image.{eachAddress, eachPlace, header, row, rowOf, rows, processes, processesOf, allProcesses}
 use Rattle.image.specs.Image.{tuples, tuplesOf, allTuples, instructionOf, code}
 use Rattle.instructions.specs.Instruction.{instruction}
 use Rattle.bitreader.specs.Ending.{endsAt, ending}
