@@ -1,4 +1,3 @@
-pub mod Judged
 pub mod Keeping
 pub mod KeepingPromise
 pub mod Reaching
