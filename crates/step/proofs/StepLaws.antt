@@ -2,16 +2,16 @@
 use Prim.Native.Nat.{ℕ}
 use mathlib.Core.Path.{_≡_, refl, sym, ap, _∙_}
 use mathlib.Core.Bool.{Bool, true, false}
+use mathlib.Core.List.{List}
 use lib.ListN.{getD}
 use lib.IntN.{ℤ}
 use Rattle.net.specs.Choice.{choose}
-use Rattle.net.specs.Records.{rightsAt, withField, withRights, withRow, withVariable, movedTo, copiedTo, putIn, startedOn, zeroNode}
-use Rattle.keeping.specs.Keeping.{mayTake, mayRead, mayPut, maySend, mayCreate}
+use Rattle.net.specs.Records.{rowFor, withField, withRights, withRow, withVariable, movedTo, copiedTo, putIn, startedOn, zeroNode}
+use Rattle.keeping.specs.Keeping.{keepsOf}
 use Rattle.matching.specs.Matching.{wantAt}
 use Rattle.net.proofs.Laws.{choose-true, choose-false}
-use Rattle.keeping.proofs.KeepingPromise.{keepingPromise as keeping}
 use Rattle.matching.proofs.MatchingPromise.{matchingPromise as matching}
-use Rattle.step.specs.Types.{Locality, Place, Value, Item, Tuple, Rights, Row, Process, Node, Changed, Want, Evaluated, Found, Matched}
+use Rattle.step.specs.Types.{Locality, Place, Value, Item, Tuple, Rights, Row, Process, Node, Changed, Instruction, Want, Evaluated, Found, Matched}
 use Rattle.step.specs.Answer.{Answer}
 use Rattle.step.specs.Plan.{Plan, going, changing, opening}
 use Rattle.step.specs.Pick.{itemOf, gaining}
@@ -60,21 +60,10 @@ module _ {A B C D E F G R : Type 0} (f : B → C → D → E → F → G → A �
 pub at-as : (x y : Aim) (f : Locality → Request) (r : Request) → x ≡ y → r ≡ at x f → r ≡ at y f
 at-as x y f r p q = q ∙ ap (λ (z : Aim). at z f) p
 
-module _ (row : Row) (l : Locality) (h : Rights) (e : h ≡ rightsAt row l) where
-  pub takes : h .take ≡ mayTake row l
-  takes = ap (λ (x : Rights). x .take) e ∙ sym (keeping .takes row l)
-
-  pub reads : h .read ≡ mayRead row l
-  reads = ap (λ (x : Rights). x .read) e ∙ sym (keeping .reads row l)
-
-  pub puts : h .put ≡ mayPut row l
-  puts = ap (λ (x : Rights). x .put) e ∙ sym (keeping .puts row l)
-
-  pub sends : h .send ≡ maySend row l
-  sends = ap (λ (x : Rights). x .send) e ∙ sym (keeping .sends row l)
-
-pub creates : (row : Row) → row .create ≡ mayCreate row
-creates row = sym (keeping .creates row)
+-- sent code, judged by the row of the process that would start
+pub within-as : (code : List Instruction) (p r : Process) (y : Node) (l : Locality) (sent : Place) (row : Row) (x : Bool)
+    → r ≡ copiedTo p sent → row ≡ rowFor y r → x ≡ keepsOf code sent l row → x ≡ keepsOf code sent l (rowFor y (copiedTo p sent))
+within-as code p r y l sent row x a b d = d ∙ ap (keepsOf code sent l) (b ∙ ap (rowFor y) a)
 
 -- ---- plans
 -- a field of an out, read from its place in the template

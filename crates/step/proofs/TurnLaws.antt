@@ -10,9 +10,10 @@ use lib.Dec.{eqb, ltb}
 use lib.ListN.{length, getD, set, List·getD-eq-default}
 use borrow.Author.Tests.{ltb-true, lt-ltb, le-ltb}
 use Rattle.net.specs.Choice.{choose, both}
-use Rattle.net.specs.Records.{nodeAt, processAt, instructionAt, withNode, withCounts, zeroInstruction}
+use Rattle.net.specs.Records.{nodeAt, processAt, instructionAt, rowFor, withNode, withCounts, zeroInstruction}
 use Rattle.matching.specs.Matching.{evaluatedOf}
 use Rattle.net.proofs.Laws.{choose-true, choose-false, both-l, both-r}
+use Rattle.net.proofs.ReadingLaws.{never}
 use Rattle.step.specs.Types.{Locality, Action, Row, Process, Node, Instruction, Net, Evaluated}
 use Rattle.step.specs.Answer.{Answer, Picked}
 use Rattle.step.specs.Request.{Request, requestOf, asked, granted}
@@ -27,22 +28,19 @@ use Rattle.step.proofs.PutBack.{back, Standing, planIn, target, put-bac
 pub refusing-as : (x y : Answer) (z : Node) (plan : Plan) → x ≡ y → plan ≡ refusing x z → plan ≡ refusing y z
 refusing-as x y z plan e h = h ∙ ap (λ (w : Answer). refusing w z) e
 
-true-not-false : true ≡ false → ⊥
-true-not-false e = let z : _≡_ {A = ℕ} 0 1 = cc in omega arith
-
 -- no code is sent, so none can go beyond a row
 pub nothing-sent :
-    (code : List Instruction) (r : Row) (req : Request) (x : Bool) → x ≡ sendsCode req → x ≡ false
-    → true ≡ sentWithin code r req
+    (code : List Instruction) (p : Process) (y : Node) (req : Request) (x : Bool) → x ≡ sendsCode req → x ≡ false
+    → true ≡ sentWithin code p y req
 unfolding sendsCode sentWithin
-nothing-sent code r Request.Lack x e h = refl
-nothing-sent code r Request.Stop x e h = refl
-nothing-sent code r (Request.Out l q) x e h = refl
-nothing-sent code r (Request.In l q) x e h = refl
-nothing-sent code r (Request.Read l q) x e h = refl
-nothing-sent code r (Request.Eval l sent q) x e h = absurd (true-not-false (sym e ∙ h))
-nothing-sent code r (Request.New v q) x e h = refl
-nothing-sent code r (Request.Fork q q′) x e h = refl
+nothing-sent code p y Request.Lack x e h = refl
+nothing-sent code p y Request.Stop x e h = refl
+nothing-sent code p y (Request.Out l q) x e h = refl
+nothing-sent code p y (Request.In l q) x e h = refl
+nothing-sent code p y (Request.Read l q) x e h = refl
+nothing-sent code p y (Request.Eval l sent q) x e h = never (sym h ∙ e)
+nothing-sent code p y (Request.New v q) x e h = refl
+nothing-sent code p y (Request.Fork q q′) x e h = refl
 
 -- ---- a plan put back, node by node
 module _ (s : Net) (a : Locality) (k : ℕ) (l : Locality) (plan : Plan) (x : Bool) where
@@ -88,7 +86,7 @@ module _ (s : Net) (a : Locality) (k : ℕ) (l : Locality) (y : Node) where
       ≡ choose x (choose w (choose z next (unchanged Answer.FreeSlot s)) (unchanged Answer.NotInUse s))
       (unchanged Answer.Malformed s)
   unfolding choose both changes
-  in-order true true true next e = absurd (true-not-false e)
+  in-order true true true next e = never (sym e)
   in-order true true false next e = refused-back Answer.FreeSlot refl
   in-order true false z next e = refused-back Answer.NotInUse refl
   in-order false w z next e = refused-back Answer.Malformed refl
@@ -101,20 +99,19 @@ ready-step :
     (unchanged Answer.Malformed s)
 unfolding choose both
 ready-step true true true next s e = refl
-ready-step true true false next s e = absurd (true-not-false (sym e))
-ready-step true false z next s e = absurd (true-not-false (sym e))
-ready-step false y z next s e = absurd (true-not-false (sym e))
+ready-step true true false next s e = never e
+ready-step true false z next s e = never e
+ready-step false y z next s e = never e
 
 -- ---- the plan, by the calls that draw it
 pub drawn-is :
-    (s : Net) (b : ℕ) (a : Locality) (p : Process) (turn : Turn) (within : Bool) (plan : Plan)
-    → within ≡ sentWithin (s .code) (nodeAt s (turn .target) .row) (turn .request)
-    → plan ≡ turnPlan b (s .addresses) (nodeAt s a .row) p (nodeAt s (turn .target)) (turn .template) within (turn .request)
+    (s : Net) (b : ℕ) (a : Locality) (p : Process) (turn : Turn) (row : Row) (within : Bool) (plan : Plan)
+    → row ≡ rowFor (nodeAt s a) p
+    → within ≡ sentWithin (s .code) p (nodeAt s (turn .target)) (turn .request)
+    → plan ≡ turnPlan b (s .addresses) row p (nodeAt s (turn .target)) (turn .template) within (turn .request)
     → plan ≡ planAt s b a p turn
 unfolding planAt
-drawn-is s b a p turn within plan hw hp =
-    hp
-    ∙ ap (λ (w : Bool). turnPlan b (s .addresses) (nodeAt s a .row) p (nodeAt s (turn .target)) (turn .template) w (turn .request)) hw
+drawn-is s b a p turn row within plan hr hw hp = hp ∙ rw (hr, hw)
 
 -- ---- the pick
 module _ (s : Net) (b at : ℕ) (turn : Turn) where
@@ -152,12 +149,12 @@ module _ (s : Net) (b at : ℕ) (turn : Turn) where
   made-by true q shaped low index ht =
       let r = sym q in
       let n = s .addresses in
-      let row = nodeAt s (hostOf b) .row in
+      let row = rowFor (nodeAt s (hostOf b)) p in
       let e = turn .template in
       let req = turn .request in
       let m = met b n p (getD (s .code) at pastInstruction) in
       let F : Locality → Picked =
-      λ l. back s (hostOf b) (slotOf b) l (planOf row p (nodeAt s l) e n (sentWithin (s .code) (nodeAt s l .row) req) req) in
+      λ l. back s (hostOf b) (slotOf b) l (planOf row p (nodeAt s l) e n (sentWithin (s .code) p (nodeAt s l) req) req) in
       ap (back s (hostOf b) (slotOf b) (turn .target)) (choose-true _ _ _ r)
       ∙ ap F (ht .target-is)
       ∙ put-back-is s (hostOf b) (slotOf b) (standing shaped low r) p e req

@@ -4,7 +4,7 @@ use Prim.Native.Nat.{ℕ, _+_, _/_, _%_}
 use lib.Dec.{eqb, ltb}
 use lib.IntN.{ℤ}
 use Rattle.net.specs.Choice.{choose, fold}
-use Rattle.net.specs.Records.{processAt, nodeAt, instructionAt, withProcess, withTuple, withNode, withRow, withRights}
+use Rattle.net.specs.Records.{processAt, nodeAt, instructionAt, rowFor, withProcess, withTuple, withNode, withRow, withRights}
 use Rattle.net.specs.Records.{withVariable, movedTo, copiedTo, withoutTuple, freeSlot, freeProcess, allRights, zeroNode}
 use Rattle.net.specs.Records.{zeroTuple, withField, addressOf}
 use Rattle.matching.specs.Matching.{evaluatedOf, matchedOf, wantAt}
@@ -83,10 +83,10 @@ startedIn s a k l p sent q (Slot.Number j) =
     performed (withHost (withHost s a k (movedTo p q)) l j (copiedTo p sent))
 startedIn s a k l p sent q Slot.Full = unchanged Answer.NoRoom s
 
--- eval: the sent code has to keep within the target's row, where self means the target
+-- eval: the sent code has to keep within the target's row for the process that would start, where self means the target
 unfoldable pub eval : Net → Locality → ℕ → Process → Locality → Place → Place → Picked
 eval s a k p l sent q =
-    choose (keepsOf (s .code) sent l (nodeAt s l .row))
+    choose (keepsOf (s .code) sent l (rowFor (nodeAt s l) (copiedTo p sent)))
     (startedIn s a k l p sent q (freeSlot (nodeAt s l)))
     (unchanged Answer.NotWithin s)
 
@@ -135,7 +135,7 @@ carriedOut s a k p e (Request.Fork q r) = fork s a k p q r
 
 -- the process p hosted at a in slot k makes its step. A lack and a stop need no right, so 6 and 1 come before 4
 unfoldable pub acting : Net → Locality → ℕ → Process → Evaluated → Request → Picked
-acting s a k p e r = choose (granted (nodeAt s a .row) r) (carriedOut s a k p e r) (unchanged Answer.NoRight s)
+acting s a k p e r = choose (granted (rowFor (nodeAt s a) p) r) (carriedOut s a k p e r) (unchanged Answer.NoRight s)
 
 unfoldable pub processStep : Net → Locality → ℕ → Process → Instruction → Picked
 processStep s a k p c = acting s a k p (evaluatedOf a p c) (requestOf a p c)

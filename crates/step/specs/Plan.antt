@@ -3,16 +3,16 @@
 pub use Rattle.step.specs.declared.plan.Plan.{Plan}
 use Prim.Native.Nat.{ℕ, _+_}
 use mathlib.Core.Bool.{Bool, true, false}
-use mathlib.Core.List.{List}
+use mathlib.Core.List.{List, [], _∷_}
 use lib.Dec.{ltb}
 use Rattle.net.specs.Choice.{choose}
-use Rattle.net.specs.Records.{nodeAt, withProcess, withNode, withRow, withVariable, withCounts, movedTo, copiedTo}
+use Rattle.net.specs.Records.{nodeAt, rowFor, withProcess, withNode, withRow, withVariable, withCounts, movedTo, copiedTo}
 use Rattle.net.specs.Records.{putIn, takenFrom, startedOn, freeProcess, zeroNode, addressOf}
 use Rattle.matching.specs.Matching.{matchedOf}
 use Rattle.keeping.specs.Keeping.{keepsOf}
 use Rattle.step.specs.Types.{Locality, Place, Value, Tuple, Row, Process, Node, Changed, Net, Evaluated, Found, Instruction}
 use Rattle.step.specs.Answer.{Answer}
-use Rattle.step.specs.Request.{Request, granted}
+use Rattle.step.specs.Request.{Request, granted, targets, isNew}
 use Rattle.step.specs.Pick.{tupleOf, gaining}
 
 -- ---- plans: in what follows p is the host's process, y the node at the target
@@ -80,26 +80,23 @@ planOf row p y e n within req =
 unfoldable pub near : Locality → Locality → Locality
 near l a = choose (ltb (l .0) 16) l a
 
-unfoldable pub targetIn : Locality → ℕ → Request → Locality
-targetIn a n Request.Lack = a
-targetIn a n Request.Stop = a
-targetIn a n (Request.Out l q) = near l a
-targetIn a n (Request.In l q) = near l a
-targetIn a n (Request.Read l q) = near l a
-targetIn a n (Request.Eval l sent q) = near l a
-targetIn a n (Request.New v q) = near (addressOf n) a
-targetIn a n (Request.Fork q q′) = a
+unfoldable pub firstNear : List Locality → Locality → Locality
+firstNear [] a = a
+firstNear (l ∷ ls) a = near l a
 
--- ---- whether the code that a request sends keeps within the row of its target
-unfoldable pub sentWithin : List Instruction → Row → Request → Bool
-sentWithin code r Request.Lack = true
-sentWithin code r Request.Stop = true
-sentWithin code r (Request.Out l q) = true
-sentWithin code r (Request.In l q) = true
-sentWithin code r (Request.Read l q) = true
-sentWithin code r (Request.Eval l sent q) = keepsOf code sent l r
-sentWithin code r (Request.New v q) = true
-sentWithin code r (Request.Fork q q′) = true
+unfoldable pub targetIn : Locality → ℕ → Request → Locality
+targetIn a n r = choose (isNew r) (near (addressOf n) a) (firstNear (targets r) a)
+
+-- ---- whether the code that a request of the process p sends keeps within the row that the node y has for it
+unfoldable pub sentWithin : List Instruction → Process → Node → Request → Bool
+sentWithin code p y Request.Lack = true
+sentWithin code p y Request.Stop = true
+sentWithin code p y (Request.Out l q) = true
+sentWithin code p y (Request.In l q) = true
+sentWithin code p y (Request.Read l q) = true
+sentWithin code p y (Request.Eval l sent q) = keepsOf code sent l (rowFor y (copiedTo p sent))
+sentWithin code p y (Request.New v q) = true
+sentWithin code p y (Request.Fork q q′) = true
 
 -- ---- putting a plan back: the target first, then the host as it is then
 unfoldable pub changes : Answer → Bool

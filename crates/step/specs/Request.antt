@@ -2,7 +2,8 @@
 -- "Reaching and rights").
 pub use Rattle.step.specs.declared.request.Aim.{Aim}
 pub use Rattle.step.specs.declared.request.Request.{Request}
-use mathlib.Core.Bool.{Bool, true}
+use mathlib.Core.Bool.{Bool, true, false}
+use mathlib.Core.List.{List, [], _∷_}
 use Rattle.net.specs.Choice.{choose}
 use Rattle.net.specs.Records.{variableAt}
 use Rattle.matching.specs.Matching.{evaluatedOf}
@@ -43,7 +44,7 @@ asked a p e (Action.Fork q r) = Request.Fork q r
 unfoldable pub requestOf : Locality → Process → Instruction → Request
 requestOf a p c = asked a p (evaluatedOf a p c) (c .action)
 
--- the hosting node's row has the right of the request
+-- a row has the right of the request
 unfoldable pub granted : Row → Request → Bool
 granted r Request.Lack = true
 granted r Request.Stop = true
@@ -53,3 +54,25 @@ granted r (Request.Read l q) = mayRead r l
 granted r (Request.Eval l sent q) = maySend r l
 granted r (Request.New v q) = mayCreate r
 granted r (Request.Fork q r′) = true
+
+-- the addresses that a request names beside its host
+unfoldable pub targets : Request → List Locality
+targets Request.Lack = []
+targets Request.Stop = []
+targets (Request.Out l q) = l ∷ []
+targets (Request.In l q) = l ∷ []
+targets (Request.Read l q) = l ∷ []
+targets (Request.Eval l sent q) = l ∷ []
+targets (Request.New v q) = []
+targets (Request.Fork q r) = []
+
+-- the request is for a new address, which it does not name
+unfoldable pub isNew : Request → Bool
+isNew Request.Lack = false
+isNew Request.Stop = false
+isNew (Request.Out l q) = false
+isNew (Request.In l q) = false
+isNew (Request.Read l q) = false
+isNew (Request.Eval l sent q) = false
+isNew (Request.New v q) = true
+isNew (Request.Fork q r) = false

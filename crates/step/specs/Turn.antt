@@ -7,7 +7,7 @@ use mathlib.Core.Bool.{Bool, true, false}
 use mathlib.Core.Path.{_≡_}
 use lib.Dec.{eqb, ltb}
 use Rattle.net.specs.Choice.{choose, both}
-use Rattle.net.specs.Records.{zeroInstruction, nodeAt}
+use Rattle.net.specs.Records.{zeroInstruction, nodeAt, rowFor}
 use Rattle.matching.specs.Matching.{evaluatedOf}
 use Rattle.step.specs.Types.{Locality, Place, Row, Process, Node, Instruction, Net, Evaluated}
 use Rattle.step.specs.Answer.{Answer}
@@ -45,8 +45,8 @@ turnPlan b n r p y e within req = choose (ready b n p) (planOf r p y e n within 
 -- the plan of a pick in a net, drawn for the process p at a
 unfoldable pub planAt : Net → ℕ → Locality → Process → Turn → Plan
 planAt s b a p turn =
-    turnPlan b (s .addresses) (nodeAt s a .row) p (nodeAt s (turn .target)) (turn .template)
-    (sentWithin (s .code) (nodeAt s (turn .target) .row) (turn .request))
+    turnPlan b (s .addresses) (rowFor (nodeAt s a) p) p (nodeAt s (turn .target)) (turn .template)
+    (sentWithin (s .code) p (nodeAt s (turn .target)) (turn .request))
     (turn .request)
 
 -- the request sends code

@@ -65,8 +65,9 @@ impl Machine {
         let y = net.nodes[target_at];
         let request = turn.request;
         let code = net.code;
-        let within = sent_within(code, y.row, request);
-        plan_of(b, net.addresses, host.row, p, y, turn, within)
+        let within = sent_within(code, p, y, request);
+        let row = host.row_for(p);
+        plan_of(b, net.addresses, row, p, y, turn, within)
     }
 
     // A pick on a net that is known to be sound.

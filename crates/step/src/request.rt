@@ -1,5 +1,9 @@
 // What an instruction asks for, once its variables are read (document 01, "One pick").
-use keeping::rights::rights_over;
+use keeping::rights::may_create;
+use keeping::rights::may_put;
+use keeping::rights::may_read;
+use keeping::rights::may_send;
+use keeping::rights::may_take;
 use matching::template::Evaluated;
 use matching::template::evaluate;
 use matching::template::variable;
@@ -143,30 +147,18 @@ pub fn ask(a: Locality, p: Process, c: Instruction) -> Asked
     Asked { request, template }
 }
 
-// Whether the hosting node's row has the right of the request.
+// Whether a row has the right of the request.
 pub fn has_right(row: Row, r: Request) -> bool
     ensures { λ x. ⌜ x ≡ granted row r ⌝ }
 {
     match r {
         Request::Lack => true,
         Request::Stop => true,
-        Request::Out(l, _) => {
-            let held = rights_over(row, l);
-            held.put
-        }
-        Request::In(l, _) => {
-            let held = rights_over(row, l);
-            held.take
-        }
-        Request::Read(l, _) => {
-            let held = rights_over(row, l);
-            held.read
-        }
-        Request::Eval(l, _, _) => {
-            let held = rights_over(row, l);
-            held.send
-        }
-        Request::New(_, _) => row.create,
+        Request::Out(l, _) => may_put(row, l),
+        Request::In(l, _) => may_take(row, l),
+        Request::Read(l, _) => may_read(row, l),
+        Request::Eval(l, _, _) => may_send(row, l),
+        Request::New(_, _) => may_create(row),
         Request::Fork(_, _) => true,
     }
 }

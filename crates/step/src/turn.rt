@@ -153,9 +153,9 @@ pub fn sends(r: Request) -> bool
     }
 }
 
-// Whether the code that a request sends keeps within the row of its target.
-pub fn sent_within(code: [Instruction; 512], row: Row, r: Request) -> bool
-    ensures { λ x. ⌜ x ≡ sentWithin code row r ⌝ }
+// Whether the code that a request of the process p sends keeps within the row that the node y has for it.
+pub fn sent_within(code: [Instruction; 512], p: Process, y: Node, r: Request) -> bool
+    ensures { λ x. ⌜ x ≡ sentWithin code p y r ⌝ }
 {
     match r {
         Request::Lack => true,
@@ -163,7 +163,10 @@ pub fn sent_within(code: [Instruction; 512], row: Row, r: Request) -> bool
         Request::Out(_, _) => true,
         Request::In(_, _) => true,
         Request::Read(_, _) => true,
-        Request::Eval(l, sent, _) => keeps(code, sent, l, row),
+        Request::Eval(l, sent, _) => {
+            let row = y.row_for(p.copied_to(sent));
+            keeps(code, sent, l, row)
+        }
         Request::New(_, _) => true,
         Request::Fork(_, _) => true,
     }

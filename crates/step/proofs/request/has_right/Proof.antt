@@ -1,5 +1,5 @@
 -- `step::request::has_right` meets its contract. Assumes nothing.
-use Rattle.step.proofs.StepLaws.{by2, takes, reads, puts, sends, creates}
+use Rattle.step.proofs.StepLaws.{by2}
 use Rattle.step.specs.Request.{granted}
 use borrow.Author.Needs.{needs}
 use Rattle.step.proofs.request.has_right.Statement.{statement}
@@ -21,12 +21,13 @@ has-right-spec =
     (λ c. search needs)
     (λ c κs. search needs)
     (λ c. search needs)
+    (λ c κs. search needs)
     (λ c. search needs)
     (λ c. search (needs, by2 granted))
     (λ c. search (needs, by2 granted))
-    (λ c. search (needs, by2 granted, puts))
-    (λ c. search (needs, by2 granted, takes))
-    (λ c. search (needs, by2 granted, reads))
-    (λ c. search (needs, by2 granted, sends))
-    (λ c. search (needs, by2 granted, creates))
+    (λ c. search (needs, by2 granted))
+    (λ c. search (needs, by2 granted))
+    (λ c. search (needs, by2 granted))
+    (λ c. search (needs, by2 granted))
+    (λ c. search (needs, by2 granted))
     (λ c. search (needs, by2 granted)))

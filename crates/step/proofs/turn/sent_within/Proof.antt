@@ -1,5 +1,5 @@
 -- `step::turn::sent_within` meets its contract. Assumes nothing.
-use Rattle.step.proofs.StepLaws.{by3}
+use Rattle.step.proofs.StepLaws.{by4, within-as}
 use Rattle.step.specs.Plan.{sentWithin}
 use borrow.Author.Needs.{needs}
 use Rattle.step.proofs.turn.sent_within.Statement.{statement}
@@ -17,13 +17,15 @@ sent-within-spec =
     (λ c. search needs)
     (λ c. search needs)
     (λ c κs. search needs)
+    (λ c κs. search needs)
+    (λ c κs. search needs)
     (λ c. search needs)
     (λ c. search needs)
-    (λ c. search (needs, by3 sentWithin))
-    (λ c. search (needs, by3 sentWithin))
-    (λ c. search (needs, by3 sentWithin))
-    (λ c. search (needs, by3 sentWithin))
-    (λ c. search (needs, by3 sentWithin))
-    (λ c. search (needs, by3 sentWithin))
-    (λ c. search (needs, by3 sentWithin))
-    (λ c. search (needs, by3 sentWithin)))
+    (λ c. search (needs, by4 sentWithin, within-as))
+    (λ c. search (needs, by4 sentWithin, within-as))
+    (λ c. search (needs, by4 sentWithin, within-as))
+    (λ c. search (needs, by4 sentWithin, within-as))
+    (λ c. search (needs, by4 sentWithin, within-as))
+    (λ c. search (needs, by4 sentWithin, within-as))
+    (λ c. search (needs, by4 sentWithin, within-as))
+    (λ c. search (needs, by4 sentWithin, within-as)))
