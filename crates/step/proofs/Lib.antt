@@ -4,5 +4,4 @@ pub mod SoundChanges
 pub mod SoundFacts
 pub mod SoundKept
 pub mod SoundRequests
-pub mod StepLaws
 pub mod TurnLaws

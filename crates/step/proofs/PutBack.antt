@@ -21,13 +21,19 @@ use Rattle.net.proofs.Lowest.{first-cases}
 use Rattle.matching.proofs.MatchingPromise.{matchingPromise as matching}
 use Rattle.keeping.proofs.KeepingPromise.{keepingPromise as keeping}
 use Rattle.step.specs.Types.{Locality, Place, Value, Tuple, Rights, Row, Process, Node, Slot, Net, Evaluated, Found}
-use Rattle.step.specs.Answer.{Answer, Picked}
-use Rattle.step.specs.Request.{Request, granted, targets, isNew}
+use Rattle.step.specs.Types.{Answer, Picked}
+use Rattle.step.specs.Types.{Request}
+use Rattle.plans.specs.Request.{granted, targets, isNew}
 use Rattle.step.specs.Pick.{withHost, stopped, out, input, inFound, read, readFound, startedIn, eval, fork, create, created}
-use Rattle.step.specs.Pick.{createdAt, unused, carriedOut, acting, unchanged, performed, added, taken, tupleOf, opened, gaining}
-use Rattle.step.specs.Plan.{Plan, going, refusing, changing, stopPlan, outPlan, inPlan, readPlan, startPlan, evalPlan}
-use Rattle.step.specs.Plan.{opening, newPlan, grantedPlan, planOf, near, firstNear, targetIn, changes, hostAfter, countAfter, targeted}
-use Rattle.step.specs.Plan.{putBack, sentWithin}
+use Rattle.step.specs.Pick.{createdAt, unused, carriedOut, acting, unchanged, performed, added, taken, opened}
+use Rattle.plans.specs.Additions.{tupleOf, gaining}
+use Rattle.step.specs.Types.{Plan}
+use Rattle.plans.specs.Plan.{going, refusing, changing, stopPlan, outPlan, inPlan, readPlan, startPlan, evalPlan}
+use Rattle.plans.specs.Plan.{opening, newPlan, grantedPlan, planOf}
+use Rattle.step.specs.Turn.{near, firstNear, targetIn}
+use Rattle.step.specs.PutBack.{changes, hostAfter, countAfter, targeted}
+use Rattle.step.specs.PutBack.{putBack}
+use Rattle.step.specs.Turn.{sentWithin}
 
 -- the net and the answer of a plan put back
 abbrev pub back : Net → Locality → ℕ → Locality → Plan → Picked

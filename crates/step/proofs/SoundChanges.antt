@@ -24,7 +24,8 @@ use Rattle.matching.proofs.MatchingPromise.{matchingPromise as promise}
 use Rattle.net.proofs.FoldLaws.{fold-keeps}
 use Rattle.step.specs.Types.{Locality, Value, Variable, Tuple, Row, Process, Node, Place, Net}
 use Rattle.step.specs.Shape.{ShapedTuple, ShapedProcess}
-use Rattle.step.specs.Pick.{withHost, added, taken, gaining, opened, unused, createdAt, created}
+use Rattle.step.specs.Pick.{withHost, added, taken, opened, unused, createdAt, created}
+use Rattle.plans.specs.Additions.{gaining}
 use Rattle.step.proofs.SoundFacts.{Good, NodeOk, NetOk, node-apart, node-together, node-more, instruction-more}
 use Rattle.step.proofs.SoundFacts.{choose-e, pastRights, value-more}
 

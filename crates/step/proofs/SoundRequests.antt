@@ -22,8 +22,9 @@ use Rattle.matching.proofs.MatchingPromise.{matchingPromise as promise}
 use Rattle.net.proofs.FoldLaws.{fold-keeps}
 use Rattle.step.specs.Types.{Locality, Value, Item, Field, Tuple, Process, Target}
 use Rattle.step.specs.Types.{Action, Instruction, Want, Evaluated}
-use Rattle.step.specs.Request.{Aim, Request, aimOf, targetOf, at, spoken, asked, requestOf}
-use Rattle.step.specs.Pick.{itemOf, tupleOf}
+use Rattle.step.specs.Types.{Aim, Request}
+use Rattle.plans.specs.Request.{aimOf, targetOf, at, spoken, asked, requestOf}
+use Rattle.plans.specs.Additions.{itemOf, tupleOf}
 use Rattle.step.specs.Shape.{ShapedTuple}
 use Rattle.step.proofs.SoundFacts.{choose-or, Good, in-range-low, in-range-high}
 use Rattle.step.proofs.SoundChanges.{Running}

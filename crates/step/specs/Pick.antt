@@ -10,10 +10,10 @@ use Rattle.net.specs.Records.{zeroTuple, withField, addressOf}
 use Rattle.matching.specs.Matching.{evaluatedOf, matchedOf, wantAt}
 use Rattle.keeping.specs.Keeping.{keepsOf}
 use Rattle.sound.specs.Soundness.{soundOf}
-use Rattle.step.specs.Answer.{Answer, Picked}
-use Rattle.step.specs.Request.{Request, requestOf, granted}
+use Rattle.plans.specs.Request.{requestOf, granted}
+use Rattle.plans.specs.Additions.{tupleOf, gaining}
 use Rattle.step.specs.Types.{Locality, Place, Item, Tuple, Row, Process, Slot, Net, Instruction, Value}
-use Rattle.step.specs.Types.{Want, Evaluated, Found, Matched}
+use Rattle.step.specs.Types.{Evaluated, Found, Matched, Answer, Picked, Request}
 
 -- ---- what a pick's byte names: address (4 bits), slot (2 bits), 2 zero bits
 unfoldable pub hostOf : ℕ → Locality
@@ -31,15 +31,6 @@ unchanged answer s = record { answer = answer; net = s }
 
 unfoldable pub performed : Net → Picked
 performed s = record { answer = Answer.Performed; net = s }
-
--- ---- the tuple of an out: its field values. A formal, which a sound net's out does not have, counts as nought
-unfoldable pub itemOf : Want → Item
-itemOf (Want.Exactly x) = x
-itemOf (Want.AnyReading v) = Item.Reading (ℤ.pos 0)
-itemOf (Want.AnyAddress v) = Item.Reading (ℤ.pos 0)
-
-unfoldable pub tupleOf : Evaluated → Tuple
-tupleOf e = fold 4 (λ i t. choose (ltb i (e .count)) (withField t (record { item = itemOf (wantAt e i) })) t) zeroTuple
 
 -- ---- what each request does
 
@@ -96,9 +87,6 @@ fork s a k p q r = startedIn s a k a p r q (freeSlot (nodeAt s a))
 
 -- new: the lowest unused address l. Its row is a copy of the creator's as it stood, with every right on itself; the
 -- creator's row gains every right on it, and no other row changes
-unfoldable pub gaining : Row → Locality → Row
-gaining r l = withRights r l allRights
-
 unfoldable pub opened : Net → Net
 opened s = record { addresses = s .addresses + 1; length = s .length; nodes = s .nodes; code = s .code }
 

@@ -1,6 +1,6 @@
 -- `step::turn::sends` meets its contract. Assumes nothing.
 use Rattle.step.specs.Turn.{sendsCode}
-use Rattle.step.proofs.StepLaws.{by}
+use Rattle.plans.proofs.PlanLaws.{by}
 use borrow.Author.Needs.{needs}
 use Rattle.step.proofs.turn.sends.Statement.{statement}
 use Rattle.step.proofs.turn.sends.Tie as tie

@@ -1,8 +1,8 @@
 -- `step::turn::target_of` meets its contract. Assumes nothing.
-use Rattle.step.specs.Plan.{firstNear, targetIn}
-use Rattle.step.specs.Request.{targets, isNew}
+use Rattle.step.specs.Turn.{firstNear, targetIn}
+use Rattle.plans.specs.Request.{targets, isNew}
 use Rattle.net.specs.Choice.{choose}
-use Rattle.step.proofs.StepLaws.{by3}
+use Rattle.plans.proofs.PlanLaws.{by3}
 use borrow.Author.Needs.{needs}
 use Rattle.step.proofs.turn.target_of.Statement.{statement}
 use Rattle.step.proofs.turn.target_of.Tie as tie
