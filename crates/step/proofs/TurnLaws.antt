@@ -117,7 +117,7 @@ module _ (s : Net) (b : ℕ) where
       elim (decLt (hostOf b .0) 16) [
         | yes h ↦ h
         | no h ↦ never (ap (λ (x : Node). processAt x (slotOf b) .busy)
-          (sym (List·getD-eq-default (s .nodes) pastNode {n = hostOf b .0} (omega (arith, shaped .nodes-are)))) ∙ busy)
+            (sym (List·getD-eq-default (s .nodes) pastNode {n = hostOf b .0} (omega (arith, shaped .nodes-are)))) ∙ busy)
       ]
 
   standing : Shaped s → ready b (s .addresses) p ≡ true → Standing s (hostOf b) (slotOf b)
@@ -171,15 +171,16 @@ unfolding seatOf seated
 seat-as b n x k row i h r d = rw (r, d, h)
 
 pub turned-as :
-    (z : Seat) (c m : Instruction) (host target : Locality) (req : Request) (e : Evaluated)
+    (z : Seat) (c m : Instruction) (host target : Locality) (req : Request) (e : Evaluated) (x : Bool)
     → host ≡ hostOf (z .pick)
     → m ≡ met (z .pick) (z .addresses) (z .process) c
     → req ≡ requestOf host (z .process) m
     → e ≡ evaluatedOf host (z .process) m
     → target ≡ targetIn host (z .addresses) req
-    → _≡_ {A = Turn} (record { seat = z; request = req; template = e; target = target }) (turnOf z c)
+    → x ≡ sendsCode req
+    → _≡_ {A = Turn} (record { seat = z; request = req; template = e; target = target; sends = x }) (turnOf z c)
 unfolding turnOf asking
-turned-as z c m host target req e a d r t l = rw (l, t, r, a, d)
+turned-as z c m host target req e x a d r t l y = rw (y, l, t, r, a, d)
 
 pub slot-as : (x y : Node) (p : Process) (k j : ℕ) → k ≡ j → y ≡ withProcess x k p → y ≡ withProcess x j p
 slot-as x y p k j e h = h ∙ ap (λ (i : ℕ). withProcess x i p) e
@@ -203,6 +204,17 @@ turn-at s b a seat turn ha hs ht =
 pub within-as : (code : List Instruction) (p r : Process) (y : Node) (l : Locality) (sent : Place) (row : Row) (x : Bool)
     → r ≡ copiedTo p sent → row ≡ rowFor y r → x ≡ keepsOf code sent l row → x ≡ keepsOf code sent l (rowFor y (copiedTo p sent))
 within-as code p r y l sent row x a b d = d ∙ ap (keepsOf code sent l) (b ∙ ap (rowFor y) a)
+
+-- a turn that sends no code has the plan by which none is judged
+pub unsent-as :
+    (s : Net) (b : ℕ) (turn : Turn) (plan : Plan) → turn ≡ turnAt s b → turn .sends ≡ false
+    → plan ≡ turnPlan turn (nodeAt s (turn .target)) true → plan ≡ planAt s turn
+unfolding planAt planWith turnAt turnOf asking
+unsent-as s b turn plan e h d =
+    d
+    ∙ ap (turnPlan turn (nodeAt s (turn .target)))
+    (nothing-sent (s .code) (turn .seat .process) (nodeAt s (turn .target)) (turn .request) (turn .sends)
+    (rw e refl) h)
 
 pub drawn-as :
     (code : List Instruction) (turn : Turn) (y : Node) (within : Bool) (plan : Plan)

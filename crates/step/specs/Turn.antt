@@ -51,6 +51,17 @@ firstNear (l ∷ ls) a = near l a
 unfoldable pub targetIn : Locality → ℕ → Request → Locality
 targetIn a n r = choose (isNew r) (near (addressOf n) a) (firstNear (targets r) a)
 
+-- ---- the request sends code
+unfoldable pub sendsCode : Request → Bool
+sendsCode Request.Lack = false
+sendsCode Request.Stop = false
+sendsCode (Request.Out l q) = false
+sendsCode (Request.In l q) = false
+sendsCode (Request.Read l q) = false
+sendsCode (Request.Eval l sent q) = true
+sendsCode (Request.New v q) = false
+sendsCode (Request.Fork q q′) = false
+
 -- ---- what a pick asks for from its seat: m is the instruction that it meets, c the one at the seat's index
 unfoldable pub asking : Locality → Seat → Instruction → Turn
 asking a z m = record {
@@ -58,6 +69,7 @@ asking a z m = record {
   request = requestOf a (z .process) m;
   template = evaluatedOf a (z .process) m;
   target = targetIn a (z .addresses) (requestOf a (z .process) m);
+  sends = sendsCode (requestOf a (z .process) m);
 }
 
 unfoldable pub turnOf : Seat → Instruction → Turn
@@ -97,14 +109,3 @@ planWith code t y = turnPlan t y (sentWithin code (t .seat .process) y (t .reque
 -- in a net
 unfoldable pub planAt : Net → Turn → Plan
 planAt s t = planWith (s .code) t (nodeAt s (t .target))
-
--- the request sends code
-unfoldable pub sendsCode : Request → Bool
-sendsCode Request.Lack = false
-sendsCode Request.Stop = false
-sendsCode (Request.Out l q) = false
-sendsCode (Request.In l q) = false
-sendsCode (Request.Read l q) = false
-sendsCode (Request.Eval l sent q) = true
-sendsCode (Request.New v q) = false
-sendsCode (Request.Fork q q′) = false

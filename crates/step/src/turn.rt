@@ -32,13 +32,14 @@ pub struct Seat {
     pub index: usize,
 }
 
-// What a pick asks for from its seat, with its evaluated template, and the address that it concerns beside
-// its host.
+// What a pick asks for from its seat, with its evaluated template, the address that it concerns beside its
+// host, and whether it sends code.
 pub struct Turn {
     pub seat: Seat,
     pub request: Request,
     pub template: Evaluated,
     pub target: Locality,
+    pub sends: bool,
 }
 
 // The address that a pick names.
@@ -134,6 +135,22 @@ fn target_of(a: Locality, n: usize, r: Request) -> Locality
     }
 }
 
+// Whether a request sends code.
+fn sends_code(r: Request) -> bool
+    ensures { λ x. ⌜ x ≡ sendsCode r ⌝ }
+{
+    match r {
+        Request::Lack => false,
+        Request::Stop => false,
+        Request::Out(_, _) => false,
+        Request::In(_, _) => false,
+        Request::Read(_, _) => false,
+        Request::Eval(_, _, _) => true,
+        Request::New(_, _) => false,
+        Request::Fork(_, _) => false,
+    }
+}
+
 // What a pick finds at its host: n is the address count.
 pub fn seat_of(b: u8, n: usize, host: Node) -> Seat
     ensures { λ r. ⌜ (r ≡ seatOf b n host) × (r .index < 512) ⌝ }
@@ -162,27 +179,13 @@ pub fn turn_of(seat: Seat, c: Instruction) -> Turn
     let request = asked.request;
     let template = asked.template;
     let target = target_of(host, seat.addresses, request);
+    let sends = sends_code(request);
     Turn {
         seat,
         request,
         template,
         target,
-    }
-}
-
-// Whether a request sends code.
-pub fn sends(r: Request) -> bool
-    ensures { λ x. ⌜ x ≡ sendsCode r ⌝ }
-{
-    match r {
-        Request::Lack => false,
-        Request::Stop => false,
-        Request::Out(_, _) => false,
-        Request::In(_, _) => false,
-        Request::Read(_, _) => false,
-        Request::Eval(_, _, _) => true,
-        Request::New(_, _) => false,
-        Request::Fork(_, _) => false,
+        sends,
     }
 }
 

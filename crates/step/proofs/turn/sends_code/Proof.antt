@@ -1,13 +1,13 @@
--- `step::turn::sends` meets its contract. Assumes nothing.
+-- `step::turn::sends_code` meets its contract. Assumes nothing.
 use Rattle.step.specs.Turn.{sendsCode}
 use Rattle.plans.proofs.PlanLaws.{by}
 use borrow.Author.Needs.{needs}
-use Rattle.step.proofs.turn.sends.Statement.{statement}
-use Rattle.step.proofs.turn.sends.Tie as tie
+use Rattle.step.proofs.turn.sends_code.Statement.{statement}
+use Rattle.step.proofs.turn.sends_code.Tie as tie
 
-pub sends-spec : {M : Type 1} → statement M
+pub sends-code-spec : {M : Type 1} → statement M
 unfolding sendsCode
-sends-spec =
+sends-code-spec =
     tie.close
     (tie.spec
     (λ c. search needs)
