@@ -8,9 +8,9 @@ use files::read_file;
 use files::say;
 use image::reader::read_image;
 use net::network::Net;
+use plans::answer::Answer;
 use run::register::Registered;
 use run::register::register;
-use step::answer::Answer;
 use step::machine::Machine;
 ghost use Prim.Native.Nat.{_≤_};
 

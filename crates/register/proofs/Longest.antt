@@ -16,8 +16,8 @@ use Rattle.net.specs.declared.tuple.Tuple.{Tuple}
 use Rattle.net.specs.declared.node.Node.{Node}
 use Rattle.net.specs.declared.network.Net.{Net}
 use Rattle.image.specs.declared.reader.Fault.{Fault}
-use Rattle.step.specs.declared.answer.Answer.{Answer}
-use Rattle.step.specs.Answer.{numberOf}
+use Rattle.plans.specs.declared.answer.Answer.{Answer}
+use Rattle.plans.specs.Answer.{numberOf}
 use Rattle.step.specs.Pick.{hostOf, slotOf}
 use Rattle.run.specs.Run.{Ran, Outcome, refused, ran}
 use Rattle.run.specs.Run.{numbers}

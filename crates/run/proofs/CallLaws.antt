@@ -16,7 +16,7 @@ use Rattle.net.proofs.Laws.{choose-true, choose-false}
 use Rattle.image.specs.Image.{openedOf}
 use Rattle.image.specs.ImageClaims.{AcceptedIsSound}
 use Rattle.image.proofs.AcceptedSound.{accepted-is-sound}
-use Rattle.step.specs.Answer.{numberOf}
+use Rattle.plans.specs.Answer.{numberOf}
 use Rattle.step.specs.Shape.{Shaped}
 use Rattle.run.specs.Types.{Net, Fault, Opened, Verdict}
 use Rattle.run.specs.Run.{Outcome, refused, ran, answered, ranFrom, runIn, runOf}

@@ -42,12 +42,14 @@ pub(crate) fn make(start: Net, picks: &[u8], answers: &mut [u8]) -> Net
     let mut net = start;
     let mut i = 0;
     while i < picks.len() {
-        let b = picks[i];
+        let at = i;
+        let b = picks[at];
+        i += 1;
         let a = host_of(b);
         let host_at = a.0 as usize;
         let seat = seat_of(b, net.addresses, net.nodes[host_at]);
-        let at = seat.index;
-        let turn = turn_of(seat, net.code[at]);
+        let place = seat.index;
+        let turn = turn_of(seat, net.code[place]);
         let l = turn.target;
         let target_at = l.0 as usize;
         let plan = if turn.sends {
@@ -56,8 +58,7 @@ pub(crate) fn make(start: Net, picks: &[u8], answers: &mut [u8]) -> Net
             plan_of(turn, net.nodes[target_at], true)
         };
         let answer = plan.answer;
-        answers[i] = number_of(answer);
-        i += 1;
+        answers[at] = number_of(answer);
         if changes_net(answer) {
             let target = plan.target;
             net.nodes[target_at] = target;
