@@ -11,7 +11,7 @@ use image::reader::read_image;
 use net::network::Net;
 use registers::register::Registered;
 use registers::register::register;
-use step::answer::Answer;
+use plans::answer::Answer;
 use step::machine::Machine;
 ghost use Prim.Native.Nat.{_≤_};
 

@@ -1,6 +1,5 @@
 pub mod Admission
 pub mod AdmissionClaims
-pub mod Judged
 pub mod Keeping
 pub mod KeepingPromise
 pub mod Reaching

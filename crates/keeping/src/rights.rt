@@ -9,12 +9,11 @@ use net::policy::Rights;
 use net::policy::Row;
 ghost use mathlib.Core.Path.{_≡_};
 ghost use Rattle.net.specs.Choice.{implies};
-ghost use Rattle.keeping.specs.Judged.{Judged};
-ghost use Rattle.keeping.specs.Keeping.{permits, keepsOf};
+ghost use Rattle.keeping.specs.Keeping.{mayTake, mayRead, mayPut, maySend, mayCreate, atTarget, permits, keepsOf};
 ghost use Rattle.net.specs.Records.{rightsAt};
 
 // The rights that a row grants over an address; none past the last address.
-pub fn rights_over(row: Row, l: Locality) -> Rights
+fn rights_over(row: Row, l: Locality) -> Rights
     ensures { λ r. ⌜ r ≡ rightsAt row l ⌝ }
 {
     let at = l.0 as usize;
@@ -25,14 +24,86 @@ pub fn rights_over(row: Row, l: Locality) -> Rights
     }
 }
 
-// The rights at a target, as far as they are judged before the action runs: all of them at a variable.
-fn rights_at(row: Row, t: Target, a: Locality) -> Rights
-    ensures { λ r. ⌜ Judged row t a r ⌝ }
+// The right i of a row at an address.
+pub fn may_take(row: Row, l: Locality) -> bool
+    ensures { λ r. ⌜ r ≡ mayTake row l ⌝ }
+{
+    let held = rights_over(row, l);
+    held.take
+}
+
+// The right r.
+pub fn may_read(row: Row, l: Locality) -> bool
+    ensures { λ r. ⌜ r ≡ mayRead row l ⌝ }
+{
+    let held = rights_over(row, l);
+    held.read
+}
+
+// The right o.
+pub fn may_put(row: Row, l: Locality) -> bool
+    ensures { λ r. ⌜ r ≡ mayPut row l ⌝ }
+{
+    let held = rights_over(row, l);
+    held.put
+}
+
+// The right e.
+pub fn may_send(row: Row, l: Locality) -> bool
+    ensures { λ r. ⌜ r ≡ maySend row l ⌝ }
+{
+    let held = rights_over(row, l);
+    held.send
+}
+
+// The right n.
+pub fn may_create(row: Row) -> bool
+    ensures { λ r. ⌜ r ≡ mayCreate row ⌝ }
+{
+    row.create
+}
+
+// The right i at a target of address a, as far as it is judged before the action runs: a variable is not.
+fn may_take_at(row: Row, t: Target, a: Locality) -> bool
+    ensures { λ r. ⌜ r ≡ atTarget t a (mayTake row) ⌝ }
 {
     match t {
-        Target::Written(l) => rights_over(row, l),
-        Target::Own => rights_over(row, a),
-        Target::Held(_) => Rights::full(),
+        Target::Written(l) => may_take(row, l),
+        Target::Own => may_take(row, a),
+        Target::Held(_) => true,
+    }
+}
+
+// The right r there.
+fn may_read_at(row: Row, t: Target, a: Locality) -> bool
+    ensures { λ r. ⌜ r ≡ atTarget t a (mayRead row) ⌝ }
+{
+    match t {
+        Target::Written(l) => may_read(row, l),
+        Target::Own => may_read(row, a),
+        Target::Held(_) => true,
+    }
+}
+
+// The right o there.
+fn may_put_at(row: Row, t: Target, a: Locality) -> bool
+    ensures { λ r. ⌜ r ≡ atTarget t a (mayPut row) ⌝ }
+{
+    match t {
+        Target::Written(l) => may_put(row, l),
+        Target::Own => may_put(row, a),
+        Target::Held(_) => true,
+    }
+}
+
+// The right e there.
+fn may_send_at(row: Row, t: Target, a: Locality) -> bool
+    ensures { λ r. ⌜ r ≡ atTarget t a (maySend row) ⌝ }
+{
+    match t {
+        Target::Written(l) => may_send(row, l),
+        Target::Own => may_send(row, a),
+        Target::Held(_) => true,
     }
 }
 
@@ -42,23 +113,11 @@ fn permitted(row: Row, a: Locality, action: Action) -> bool
 {
     match action {
         Action::Stop => true,
-        Action::Out(t, _) => {
-            let held = rights_at(row, t, a);
-            held.put
-        }
-        Action::In(t, _) => {
-            let held = rights_at(row, t, a);
-            held.take
-        }
-        Action::Read(t, _) => {
-            let held = rights_at(row, t, a);
-            held.read
-        }
-        Action::Eval(t, _, _) => {
-            let held = rights_at(row, t, a);
-            held.send
-        }
-        Action::New(_, _) => row.create,
+        Action::Out(t, _) => may_put_at(row, t, a),
+        Action::In(t, _) => may_take_at(row, t, a),
+        Action::Read(t, _) => may_read_at(row, t, a),
+        Action::Eval(t, _, _) => may_send_at(row, t, a),
+        Action::New(_, _) => may_create(row),
         Action::Fork(_, _) => true,
     }
 }

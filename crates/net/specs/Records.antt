@@ -100,6 +100,10 @@ nodeAt s a =
 unfoldable pub instructionAt : List Instruction → Place → Instruction
 instructionAt code p = getD code (p .0) (record { action = Action.Stop; count = 0; template = [] })
 
+-- the row that a process of the node is judged by: the node's only one
+unfoldable pub rowFor : Node → Process → Row
+rowFor n p = n .row
+
 -- ---- replacing a part
 unfoldable pub withField : Tuple → Field → Tuple
 withField t f = choose (ltb (t .count) 4) (record { count = t .count + 1; fields = set (t .fields) (t .count) f }) t

@@ -6,7 +6,7 @@ ghost use Prim.Native.Nat.{_+_, _-_, _<_, _≤_};
 ghost use mathlib.Core.Path.{_≡_};
 ghost use lib.Dec.{ltb};
 ghost use Rattle.net.specs.Choice.{choose};
-ghost use Rattle.net.specs.Records.{zeroTuple, zeroNode, withRow, withProcess, withoutTuple, freeSlot};
+ghost use Rattle.net.specs.Records.{zeroTuple, zeroNode, rowFor, withRow, withProcess, withoutTuple, freeSlot};
 ghost use Rattle.net.specs.Records.{processCount, putIn, takenFrom, startedOn};
 
 // A node: its policy, its process slots and its tuple space, oldest tuple first.
@@ -108,6 +108,13 @@ impl Node {
             i += 1;
         }
         n
+    }
+
+    // The row that a process of the node is judged by: the node's only one.
+    pub fn row_for(self, p: Process) -> Row
+        ensures { λ r. ⌜ r ≡ rowFor self p ⌝ }
+    {
+        self.row
     }
 
     // The node with another row.

@@ -13,7 +13,7 @@ use Rattle.text.specs.Decimal.{digit, digits, decimal, signedDecimal}
 use Rattle.text.specs.Joined.{joined}
 use Rattle.net.specs.Records.{fieldAt, tupleAt, nodeAt, addressOf}
 use Rattle.net.proofs.Every.{chosen, chosen-lt}
-use Rattle.step.specs.Answer.{numberOf}
+use Rattle.plans.specs.Answer.{numberOf}
 use Rattle.step.specs.Pick.{hostOf, slotOf}
 use Rattle.run.specs.Run.{Ran, Outcome, refused, ran, numbers}
 use Rattle.registers.specs.Types.{Locality, Item, Tuple, Node, Net, Fault, Answer}

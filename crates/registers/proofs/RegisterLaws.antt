@@ -17,7 +17,7 @@ use Rattle.text.specs.Buffer.{over}
 use Rattle.text.specs.Writing.{Wrote}
 use Rattle.text.proofs.WritingLaws.{wrote-length, joined-same}
 use Rattle.image.specs.Image.{openedOf}
-use Rattle.step.specs.Answer.{numberOf}
+use Rattle.plans.specs.Answer.{numberOf}
 use Rattle.step.specs.Pick.{hostOf, slotOf}
 use Rattle.run.specs.Run.{Outcome, ran, ranFrom, runOf, numbers}
 use Rattle.run.specs.Making.{Made}

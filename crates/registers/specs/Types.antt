@@ -7,4 +7,4 @@ pub use Rattle.net.specs.declared.network.Net.{Net}
 pub use Rattle.readers.specs.declared.fault.Fault.{Fault}
 pub use Rattle.image.specs.declared.reader.Opened.{Opened}
 pub use Rattle.image.specs.declared.reader.Verdict.{Verdict}
-pub use Rattle.step.specs.declared.answer.Answer.{Answer}
+pub use Rattle.plans.specs.declared.answer.Answer.{Answer}

@@ -7,9 +7,9 @@ use dump::put_state;
 use files::print;
 use files::read_first;
 use net::network::Net;
+use plans::answer::Answer;
+use plans::answer::number_of;
 use restore::net_of;
-use step::answer::Answer;
-use step::answer::number_of;
 use step::machine::Machine;
 
 mod bytes;

@@ -9,8 +9,8 @@ use Rattle.net.specs.Choice.{choose}
 use Rattle.net.proofs.Every.{chosen}
 use Rattle.rules.specs.Types.{Locality, Action, Net}
 use Rattle.rules.specs.Types.{Answer, Picked}
-use Rattle.step.specs.Answer.{numberOf}
-use Rattle.step.specs.Request.{requestOf}
+use Rattle.plans.specs.Answer.{numberOf}
+use Rattle.plans.specs.Request.{requestOf}
 use Rattle.step.specs.Pick.{hostOf, slotOf, unchanged, performed, stopped, processStep, stepOf, slotStep, pickOf}
 use Rattle.rules.specs.Rules.{processIn, instructionIn, rowIn, Stands, Reduces, OUT, IN, READ, EVAL, NEW, FORK}
 use Rattle.rules.specs.DemandOne.{Held, out-held, in-held, read-held, eval-held, new-held, fork-held}
@@ -21,11 +21,11 @@ use Rattle.rules.proofs.Rules.{picked-step}
 -- ---- only with the right
 module _ (s : Net) (a : Locality) (k : ℕ) where
   held-at :
-      (x : Action) → Stands s a k x → Held (rowIn s a) a (processIn s a k) x
-      → Held (rowIn s a) a (processIn s a k) (instructionIn s a k .action)
+      (x : Action) → Stands s a k x → Held (rowIn s a k) a (processIn s a k) x
+      → Held (rowIn s a k) a (processIn s a k) (instructionIn s a k .action)
   held-at x h r = rw (h .acts) r
 
-  held : (after : Net) → Reduces s a k after → Held (rowIn s a) a (processIn s a k) (instructionIn s a k .action)
+  held : (after : Net) → Reduces s a k after → Held (rowIn s a k) a (processIn s a k) (instructionIn s a k .action)
   held _ (OUT h p d g room) = held-at _ h (out-held (p .points) g)
   held _ (IN h p d g o) = held-at _ h (in-held (p .points) g)
   held _ (READ h p d g o) = held-at _ h (read-held (p .points) g)

@@ -7,8 +7,8 @@ use Rattle.net.specs.Choice.{choose}
 use Rattle.net.proofs.Every.{chosen}
 use Rattle.rules.specs.Types.{Locality, Place, Process, Slot, Found, Action, Evaluated, Net}
 use Rattle.rules.specs.Types.{Answer, Picked, Aim, Request}
-use Rattle.step.specs.Answer.{numberOf}
-use Rattle.step.specs.Request.{at, spoken, asked}
+use Rattle.plans.specs.Answer.{numberOf}
+use Rattle.plans.specs.Request.{at, spoken, asked}
 use Rattle.step.specs.Pick.{unchanged, performed, stopped, out, input, inFound, read, readFound, startedIn, eval}
 use Rattle.step.specs.Pick.{fork, create, carriedOut, acting}
 

@@ -7,12 +7,12 @@ use mathlib.Core.Bool.{Bool, true, false}
 use native.Mathlib.Omega.{arith}
 use borrow.Author.Tests.{ltb-true, eqb-true}
 use Rattle.net.specs.Choice.{choose}
-use Rattle.net.specs.Records.{nodeAt, processAt, instructionAt}
+use Rattle.net.specs.Records.{nodeAt, processAt, instructionAt, rowFor}
 use Rattle.sound.specs.Soundness.{soundOf}
 use Rattle.rules.specs.Types.{Locality, Process, Evaluated, Net}
 use Rattle.rules.specs.Types.{Answer, Picked, Aim, Request}
-use Rattle.step.specs.Answer.{numberOf}
-use Rattle.step.specs.Request.{at, spoken, granted}
+use Rattle.plans.specs.Answer.{numberOf}
+use Rattle.plans.specs.Request.{at, spoken, granted}
 use Rattle.step.specs.Pick.{hostOf, slotOf, spareOf, unchanged, carriedOut, acting, processStep, slotStep}
 use Rattle.step.specs.Pick.{stepOf, pickOf}
 
@@ -63,10 +63,10 @@ module _ {w : Answer} {after : Net} (final : numberOf w ≤ 1) (s : Net) (a : Lo
 
   pub acted :
       (r : Request) → Gave w after (acting s a k p e r)
-      → Passed w after (granted (nodeAt s a .row) r) (carriedOut s a k p e r)
+      → Passed w after (granted (rowFor (nodeAt s a) p) r) (carriedOut s a k p e r)
   unfolding acting numberOf
   acted r h =
-      through final Answer.NoRight s (granted (nodeAt s a .row) r) _ (omega arith) h
+      through final Answer.NoRight s (granted (rowFor (nodeAt s a) p) r) _ (omega arith) h
 
   pub aimed :
       (aim : Aim) (f : Locality → Request) → Gave w after (acting s a k p e (at aim f))

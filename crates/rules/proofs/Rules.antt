@@ -16,8 +16,8 @@ use Rattle.matching.proofs.MatchingPromise.{matchingPromise as promise}
 use Rattle.net.proofs.Lowest.{Lowest, first-is, first-cases}
 use Rattle.rules.specs.Types.{Locality, Place, Process, Node, Slot, Target, Action, Evaluated, Net, Found, Matched}
 use Rattle.rules.specs.Types.{Answer, Picked, Aim, Request}
-use Rattle.step.specs.Answer.{numberOf}
-use Rattle.step.specs.Request.{targetOf, at, spoken, asked, requestOf, granted}
+use Rattle.plans.specs.Answer.{numberOf}
+use Rattle.plans.specs.Request.{targetOf, at, spoken, asked, requestOf, granted}
 use Rattle.step.specs.Pick.{hostOf, slotOf, spareOf, performed, unchanged, withHost, stopped, out, inFound, input}
 use Rattle.step.specs.Pick.{readFound, read, startedIn, eval, fork, create, carriedOut, acting, processStep}
 use Rattle.step.specs.Pick.{stepOf, slotStep, pickOf}
@@ -94,7 +94,7 @@ module _ (s : Net) (a : Locality) (k : ℕ) (after : Net) (seat : Seat s a k) wh
   record Reached (t : Target) (f : Locality → Request) : Type 0 where
     l : Locality
     to : Points s a k t l
-    right : granted (rowIn s a) (f l) ≡ true
+    right : granted (rowIn s a k) (f l) ≡ true
     rest : Gave Answer.Performed after (carriedOut s a k (processIn s a k) (templateIn s a k) (f l))
 
   reached :
@@ -218,7 +218,7 @@ module _ (s : Net) (a : Locality) (k : ℕ) where
   does :
       (x : Action) (r : Request) → Stands s a k x
       → asked a (processIn s a k) (templateIn s a k) x ≡ r
-      → granted (rowIn s a) r ≡ true
+      → granted (rowIn s a k) r ≡ true
       → Does (carriedOut s a k (processIn s a k) (templateIn s a k) r)
   unfolding Does processStep requestOf templateIn acting rowIn
   does x r h e g =

@@ -13,7 +13,7 @@ use Rattle.net.specs.Choice.{inRange}
 use Rattle.sound.specs.Soundness.{valueSound, processSound, tuplesSound, nodeSound, targetSound, actionSound}
 use Rattle.sound.specs.Soundness.{instructionSound, nodesSound, codeSound, soundOf}
 use Rattle.net.proofs.Laws.{both-l, both-r, all-e, choose-true}
-use Rattle.step.specs.Request.{aimOf, targetOf}
+use Rattle.plans.specs.Request.{aimOf, targetOf}
 use Rattle.rules.specs.Types.{Locality, Place, Value, Process, Node, Target, Action, Net}
 use Rattle.rules.specs.Types.{Aim}
 

@@ -4,10 +4,10 @@
 use Prim.Native.Nat.{ℕ, _<_}
 use mathlib.Core.Path.{_≡_}
 use mathlib.Core.Bool.{true}
-use Rattle.net.specs.Records.{processAt, nodeAt, instructionAt}
+use Rattle.net.specs.Records.{processAt, nodeAt, instructionAt, rowFor}
 use Rattle.keeping.specs.Keeping.{mayTake, mayRead, mayPut, maySend, mayCreate}
-use Rattle.step.specs.Answer.{numberOf}
-use Rattle.step.specs.Request.{targetOf}
+use Rattle.plans.specs.Answer.{numberOf}
+use Rattle.plans.specs.Request.{targetOf}
 use Rattle.step.specs.Pick.{hostOf, slotOf, pickOf}
 use Rattle.rules.specs.Types.{Locality, Place, Row, Process, Target, Action, Net}
 use Rattle.rules.specs.Types.{Aim}
@@ -51,7 +51,7 @@ unfoldable pub OnlyWithRight : Type 0
 OnlyWithRight =
     (s : Net) (b : ℕ)
     → numberOf (pickOf s b .answer) ≡ 0
-    → Held (nodeAt s (hostOf b) .row) (hostOf b) (pickedProcess s b) (pickedAction s b)
+    → Held (rowFor (nodeAt s (hostOf b)) (pickedProcess s b)) (hostOf b) (pickedProcess s b) (pickedAction s b)
 
 -- demand 1, "no pick answered with a number above 1 changes the net"
 unfoldable pub RefusedChangesNothing : Type 0

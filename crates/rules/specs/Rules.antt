@@ -8,14 +8,15 @@ use mathlib.Core.Path.{_≡_}
 use mathlib.Core.Logic.{_↔_}
 use mathlib.Core.Bool.{true, false}
 use mathlib.Core.List.{List}
-use Rattle.net.specs.Records.{processAt, tupleAt, nodeAt, instructionAt, movedTo, copiedTo, freeProcess}
+use Rattle.net.specs.Records.{processAt, tupleAt, nodeAt, instructionAt, rowFor, movedTo, copiedTo, freeProcess}
 use Rattle.matching.specs.Matching.{evaluatedOf, boundOf}
 use Rattle.keeping.specs.Reaching.{Reaches}
 use Rattle.keeping.specs.Keeping.{mayTake, mayRead, mayPut, maySend, mayCreate, permits}
 use Rattle.sound.specs.Soundness.{soundOf}
 use Rattle.matching.specs.MatchingPromise.{OldestThatFits}
-use Rattle.step.specs.Request.{targetOf}
-use Rattle.step.specs.Pick.{hostOf, slotOf, spareOf, pickOf, withHost, added, taken, created, tupleOf}
+use Rattle.plans.specs.Request.{targetOf}
+use Rattle.plans.specs.Additions.{tupleOf}
+use Rattle.step.specs.Pick.{hostOf, slotOf, spareOf, pickOf, withHost, added, taken, created}
 use Rattle.rules.specs.Types.{Locality, Place, Row, Process, Node, Target, Action, Instruction, Evaluated, Net}
 use Rattle.rules.specs.Types.{Answer, Aim}
 
@@ -31,9 +32,9 @@ instructionIn s a k = instructionAt (s .code) (processIn s a k .at)
 unfoldable pub templateIn : Net → Locality → ℕ → Evaluated
 templateIn s a k = evaluatedOf a (processIn s a k) (instructionIn s a k)
 
--- the row of the hosting node
-unfoldable pub rowIn : Net → Locality → Row
-rowIn s a = nodeAt s a .row
+-- the row of the hosting node for the process
+unfoldable pub rowIn : Net → Locality → ℕ → Row
+rowIn s a k = rowFor (nodeAt s a) (processIn s a k)
 
 -- ---- premises
 
@@ -67,7 +68,7 @@ pub data Reduces (s : Net) (a : Locality) (k : ℕ) : Net → Type 0 where
       → Stands s a k (Action.Out t q)
       → Points s a k t l
       → templateIn s a k .defined ≡ true
-      → mayPut (rowIn s a) l ≡ true
+      → mayPut (rowIn s a k) l ≡ true
       → nodeAt s l .stored < 16
       → Reduces s a k (added (withHost s a k (movedTo (processIn s a k) q)) l (tupleOf (templateIn s a k)))
   -- l :: in(T)@l′.P ∥ l′ :: ⟨et⟩ ↣ l :: Pσ ∥ l′ :: nil, where T evaluated matches et with the substitution σ.
@@ -77,7 +78,7 @@ pub data Reduces (s : Net) (a : Locality) (k : ℕ) : Net → Type 0 where
       → Stands s a k (Action.In t q)
       → Points s a k t l
       → templateIn s a k .defined ≡ true
-      → mayTake (rowIn s a) l ≡ true
+      → mayTake (rowIn s a k) l ≡ true
       → OldestThatFits (nodeAt s l) (templateIn s a k) i
       → Reduces s a k
       (taken
@@ -91,7 +92,7 @@ pub data Reduces (s : Net) (a : Locality) (k : ℕ) : Net → Type 0 where
       → Stands s a k (Action.Read t q)
       → Points s a k t l
       → templateIn s a k .defined ≡ true
-      → mayRead (rowIn s a) l ≡ true
+      → mayRead (rowIn s a k) l ≡ true
       → OldestThatFits (nodeAt s l) (templateIn s a k) i
       → Reduces s a k
       (withHost s a k
@@ -102,8 +103,8 @@ pub data Reduces (s : Net) (a : Locality) (k : ℕ) : Net → Type 0 where
       {t : Target} {sent q : Place} {l : Locality} {j : ℕ}
       → Stands s a k (Action.Eval t sent q)
       → Points s a k t l
-      → maySend (rowIn s a) l ≡ true
-      → KeepsWithin (s .code) sent l (nodeAt s l .row)
+      → maySend (rowIn s a k) l ≡ true
+      → KeepsWithin (s .code) sent l (rowFor (nodeAt s l) (copiedTo (processIn s a k) sent))
       → LowestFree (nodeAt s l) j
       → Reduces s a k
       (withHost (withHost s a k (movedTo (processIn s a k) q)) l j (copiedTo (processIn s a k) sent))
@@ -112,7 +113,7 @@ pub data Reduces (s : Net) (a : Locality) (k : ℕ) : Net → Type 0 where
   NEW :
       {v : ℕ} {q : Place}
       → Stands s a k (Action.New v q)
-      → mayCreate (rowIn s a) ≡ true
+      → mayCreate (rowIn s a k) ≡ true
       → s .addresses < 16
       → Reduces s a k (created s a k (processIn s a k) v q)
   -- l :: P₁ | P₂ ≡ l :: P₁ ∥ l :: P₂, the law (CLONE), from left to right.

@@ -13,7 +13,7 @@ pub use Rattle.net.specs.declared.network.Net.{Net}
 pub use Rattle.matching.specs.declared.template.Evaluated.{Evaluated}
 pub use Rattle.matching.specs.declared.template.Found.{Found}
 pub use Rattle.matching.specs.declared.template.Matched.{Matched}
-pub use Rattle.step.specs.declared.request.Aim.{Aim}
-pub use Rattle.step.specs.declared.request.Request.{Request}
-pub use Rattle.step.specs.declared.answer.Answer.{Answer}
-pub use Rattle.step.specs.declared.answer.Picked.{Picked}
+pub use Rattle.plans.specs.declared.request.Aim.{Aim}
+pub use Rattle.plans.specs.declared.request.Request.{Request}
+pub use Rattle.plans.specs.declared.answer.Answer.{Answer}
+pub use Rattle.step.specs.declared.machine.Picked.{Picked}

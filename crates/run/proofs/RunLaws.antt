@@ -10,7 +10,7 @@ use native.Mathlib.Numerals.{add-one}
 use lib.Seq.{drop-cons, drop-nil}
 use Rattle.sound.specs.Soundness.{soundOf}
 use Rattle.net.proofs.Laws.{choose-true}
-use Rattle.step.specs.Answer.{numberOf}
+use Rattle.plans.specs.Answer.{numberOf}
 use Rattle.step.specs.Pick.{pickOf, stepOf}
 use Rattle.net.specs.Shape.{Shaped}
 use Rattle.step.proofs.SoundKept.{step-sound-kept}

@@ -3,7 +3,7 @@
 use Prim.Native.Nat.{ℕ}
 use mathlib.Core.List.{List, [], _∷_, map}
 use Rattle.image.specs.Image.{openedOf}
-use Rattle.step.specs.Answer.{numberOf}
+use Rattle.plans.specs.Answer.{numberOf}
 use Rattle.step.specs.Pick.{pickOf}
 use Rattle.run.specs.Types.{Net, Fault, Verdict, Answer}
 

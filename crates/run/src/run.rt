@@ -3,16 +3,14 @@ use image::reader::Verdict;
 use image::reader::read_image;
 use net::network::Net;
 use readers::fault::Fault;
-use step::answer::number_of;
-use step::plan::host_after;
+use plans::answer::number_of;
 use step::turn::changes_net;
 use step::turn::count_after;
+use step::turn::host_after;
 use step::turn::host_of;
-use step::turn::index_of;
 use step::turn::plan_of;
-use step::turn::sends;
-use step::turn::sent_within;
-use step::turn::slot_of;
+use step::turn::plan_with;
+use step::turn::seat_of;
 use step::turn::turn_of;
 ghost use Prim.Native.Nat.{_≤_};
 ghost use mathlib.Core.Bool.{true};
@@ -46,35 +44,29 @@ pub fn make(start: Net, picks: &[u8], answers: &mut [u8]) -> Net
     let mut net = start;
     let mut i = 0;
     while i < picks.len() {
-        let b = picks[i];
+        let at = i;
+        let b = picks[at];
+        i += 1;
         let a = host_of(b);
-        let k = slot_of(b);
-        let n = net.addresses;
         let host_at = a.0 as usize;
-        let host = net.nodes[host_at];
-        let p = host.processes[k];
-        let at = index_of(p.at);
-        let turn = turn_of(b, n, p, net.code[at]);
+        let seat = seat_of(b, net.addresses, net.nodes[host_at]);
+        let place = seat.index;
+        let turn = turn_of(seat, net.code[place]);
         let l = turn.target;
         let target_at = l.0 as usize;
-        let y = net.nodes[target_at];
-        let request = turn.request;
-        let mut within = true;
-        if sends(request) {
-            let code = net.code;
-            within = sent_within(code, y.row, request);
-        }
-        let plan = plan_of(b, n, host.row, p, y, turn, within);
+        let plan = if turn.sends {
+            plan_with(net.code, turn, net.nodes[target_at])
+        } else {
+            plan_of(turn, net.nodes[target_at], true)
+        };
         let answer = plan.answer;
+        answers[at] = number_of(answer);
         if changes_net(answer) {
             let target = plan.target;
             net.nodes[target_at] = target;
-            let x = net.nodes[host_at];
-            net.nodes[host_at] = host_after(plan, k, l, x);
-            net.addresses = count_after(plan.opens, n);
+            net.nodes[host_at] = host_after(b, l, plan, net.nodes[host_at]);
+            net.addresses = count_after(plan.opens, net.addresses);
         }
-        answers[i] = number_of(answer);
-        i += 1;
     }
     net
 }

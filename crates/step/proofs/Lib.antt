@@ -3,5 +3,4 @@ pub mod PutBack
 pub mod SoundChanges
 pub mod SoundKept
 pub mod SoundRequests
-pub mod StepLaws
 pub mod TurnLaws

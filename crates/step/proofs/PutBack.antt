@@ -12,7 +12,7 @@ use lib.ListN.{length, getD, set, List·getD-eq-default}
 use lib.Seq.{set-getD, set-set, set-comm, getD-set-same, getD-set-other}
 use borrow.Author.Tests.{lt-ltb, le-ltb, ltb-true}
 use Rattle.net.specs.Choice.{choose, both}
-use Rattle.net.specs.Records.{processAt, nodeAt, rightsAt, withNode, withRow, withProcess, withTuple, withCounts, withoutTuple}
+use Rattle.net.specs.Records.{processAt, nodeAt, rightsAt, rowFor, withNode, withRow, withProcess, withTuple, withCounts, withoutTuple}
 use Rattle.net.specs.Records.{tupleAt, afterTaking, freeSlot, noRights, putIn, takenFrom, startedAtSlot, startedOn}
 use Rattle.net.specs.Records.{movedTo, copiedTo, freeProcess, zeroNode, withVariable}
 use Rattle.keeping.specs.Keeping.{keepsOf}
@@ -21,13 +21,19 @@ use Rattle.net.proofs.Lowest.{first-cases}
 use Rattle.matching.proofs.MatchingPromise.{matchingPromise as matching}
 use Rattle.keeping.proofs.KeepingPromise.{keepingPromise as keeping}
 use Rattle.step.specs.Types.{Locality, Place, Value, Tuple, Rights, Row, Process, Node, Slot, Net, Evaluated, Found}
-use Rattle.step.specs.Answer.{Answer, Picked}
-use Rattle.step.specs.Request.{Request, granted}
+use Rattle.step.specs.Types.{Answer, Picked}
+use Rattle.step.specs.Types.{Request}
+use Rattle.plans.specs.Request.{granted, targets, isNew}
 use Rattle.step.specs.Pick.{withHost, stopped, out, input, inFound, read, readFound, startedIn, eval, fork, create, created}
-use Rattle.step.specs.Pick.{createdAt, unused, carriedOut, acting, unchanged, performed, added, taken, tupleOf, opened, gaining}
-use Rattle.step.specs.Plan.{Plan, going, refusing, changing, stopPlan, outPlan, inPlan, readPlan, startPlan, evalPlan}
-use Rattle.step.specs.Plan.{opening, newPlan, grantedPlan, planOf, near, targetIn, changes, hostAfter, countAfter, targeted}
-use Rattle.step.specs.Plan.{putBack, sentWithin}
+use Rattle.step.specs.Pick.{createdAt, unused, carriedOut, acting, unchanged, performed, added, taken, opened}
+use Rattle.plans.specs.Additions.{tupleOf, gaining}
+use Rattle.step.specs.Types.{Plan}
+use Rattle.plans.specs.Plan.{going, refusing, changing, stopPlan, outPlan, inPlan, readPlan, startPlan, evalPlan}
+use Rattle.plans.specs.Plan.{opening, newPlan, grantedPlan, planOf}
+use Rattle.step.specs.Turn.{near, firstNear, targetIn}
+use Rattle.step.specs.PutBack.{changes, hostAfter, countAfter, targeted}
+use Rattle.step.specs.PutBack.{putBack}
+use Rattle.step.specs.Turn.{sentWithin}
 
 -- the net and the answer of a plan put back
 abbrev pub back : Net → Locality → ℕ → Locality → Plan → Picked
@@ -210,12 +216,10 @@ module _ (s : Net) (a : Locality) (k : ℕ) (size : length (s .nodes) ≡ 16) (l
       unfolding startPlan startedOn
       start-back = started-back (freeSlot (nodeAt s l)) refl
 
-      eval-back : (row : Row) → row ≡ nodeAt s l .row
-          → back s a k l (evalPlan p (nodeAt s l) sent q (keepsOf (s .code) sent l row)) ≡ eval s a k p l sent q
+      eval-back : back s a k l (evalPlan p (nodeAt s l) sent q (keepsOf (s .code) sent l (rowFor (nodeAt s l) (copiedTo p sent)))) ≡ eval s a k p l sent q
       unfolding evalPlan eval changes
-      eval-back row e =
-          ap (λ (r : Row). back s a k l (evalPlan p (nodeAt s l) sent q (keepsOf (s .code) sent l r))) e
-          ∙ chosen (back s a k l) (keepsOf (s .code) sent l (nodeAt s l .row)) _ _ _ _ start-back
+      eval-back =
+          chosen (back s a k l) (keepsOf (s .code) sent l (rowFor (nodeAt s l) (copiedTo p sent))) _ _ _ _ start-back
           (refusing-back l Answer.NotWithin _ refl)
 
   -- a new address is not the host's
@@ -229,8 +233,8 @@ module _ (s : Net) (a : Locality) (k : ℕ) (size : length (s .nodes) ≡ 16) (l
         (λ x. withRow (withProcess x k (movedTo (withVariable p v (Value.Address (unused s))) q)) (gaining (x .row) (unused s)))
         (omega arith) (λ e. absurd (omega arith))))
 
-    new-back : back s a k (near (unused s) a) (newPlan (nodeAt s a .row) p (nodeAt s (near (unused s) a)) v q (s .addresses)) ≡ create s a k p v q
-    unfolding newPlan create changes unused
+    new-back : back s a k (near (unused s) a) (newPlan (rowFor (nodeAt s a) p) p (nodeAt s (near (unused s) a)) v q (s .addresses)) ≡ create s a k p v q
+    unfolding newPlan create changes unused rowFor
     new-back =
         chosen-if (back s a k (near (unused s) a)) (ltb (s .addresses) 16) _ _ _ _
         (λ h. rw (near-is (unused s) a (ltb-true _ _ h)) (open-back (ltb-true _ _ h)))
@@ -251,18 +255,18 @@ module _ (s : Net) (a : Locality) (k : ℕ) (seat : Standing s a k) (p : Process
   -- the plan of a request in the net
   unfoldable pub planIn : Request → Plan
   planIn req =
-      planOf (nodeAt s a .row) p (nodeAt s (target req)) e (s .addresses)
-      (sentWithin (s .code) (nodeAt s (target req) .row) req) req
+      planOf (rowFor (nodeAt s a) p) p (nodeAt s (target req)) e (s .addresses)
+      (sentWithin (s .code) p (nodeAt s (target req)) req) req
 
   here : (l : Locality) (f : Rights → Bool) → f noRights ≡ false → f (rightsAt (nodeAt s a .row) l) ≡ true → near l a ≡ l
   here l f z h = near-is l a (over (nodeAt s a .row) l f (seat .rights) z h)
 
-  granted-back : (req : Request) → granted (nodeAt s a .row) req ≡ true
+  granted-back : (req : Request) → granted (rowFor (nodeAt s a) p) req ≡ true
       → back s a k (target req)
-      (grantedPlan (nodeAt s a .row) p (nodeAt s (target req)) e (s .addresses)
-      (sentWithin (s .code) (nodeAt s (target req) .row) req) req)
+      (grantedPlan (rowFor (nodeAt s a) p) p (nodeAt s (target req)) e (s .addresses)
+      (sentWithin (s .code) p (nodeAt s (target req)) req) req)
       ≡ carriedOut s a k p e req
-  unfolding granted target targetIn grantedPlan sentWithin carriedOut input read fork noRights changes unused
+  unfolding granted target targetIn firstNear targets isNew choose grantedPlan sentWithin carriedOut input read fork noRights changes unused rowFor
   granted-back Request.Lack g = refusing-back s a k (seat .size) (seat .low) a Answer.NotSet _ refl
   granted-back Request.Stop g = stop-back s a k (seat .size) (seat .low) a
   granted-back (Request.Out l q) g =
@@ -274,12 +278,12 @@ module _ (s : Net) (a : Locality) (k : ℕ) (seat : Standing s a k) (p : Process
       rw (here l (λ r. r .read) refl (sym (keeping .reads _ l) ∙ g)) (read-back s a k (seat .size) (seat .low) l _ q _)
   granted-back (Request.Eval l sent q) g =
       rw (here l (λ r. r .send) refl (sym (keeping .sends _ l) ∙ g))
-      (eval-back s a k (seat .size) (seat .low) l (seat .busy) p sent q _ refl)
+      (eval-back s a k (seat .size) (seat .low) l (seat .busy) p sent q)
   granted-back (Request.New v q) g = new-back s a k (seat .size) (seat .low) (seat .used) p v q
   granted-back (Request.Fork q q′) g = start-back s a k (seat .size) (seat .low) a (seat .busy) p q′ q
 
   pub put-back-is : (req : Request) → back s a k (target req) (planIn req) ≡ acting s a k p e req
   unfolding planIn planOf acting changes
   put-back-is req =
-      chosen-if (back s a k (target req)) (granted (nodeAt s a .row) req) _ _ _ _ (granted-back req)
+      chosen-if (back s a k (target req)) (granted (rowFor (nodeAt s a) p) req) _ _ _ _ (granted-back req)
       (λ g. refusing-back s a k (seat .size) (seat .low) (target req) Answer.NoRight _ refl)

@@ -22,7 +22,8 @@ use Rattle.sound.proofs.MoreAddresses.{running-more, node-more, instruction-mor
 use Rattle.sound.proofs.NetFacts.{NetOk}
 use Rattle.sound.proofs.NetChanges.{node-at, with-node}
 use Rattle.step.specs.Types.{Locality, Value, Tuple, Row, Process, Node, Place, Net}
-use Rattle.step.specs.Pick.{withHost, added, taken, gaining, opened, unused, createdAt, created}
+use Rattle.step.specs.Pick.{withHost, added, taken, opened, unused, createdAt, created}
+use Rattle.plans.specs.Additions.{gaining}
 
 -- an array set anew at each place
 set-each :

@@ -16,8 +16,8 @@ use Rattle.net.proofs.Laws.{choose-true}
 use Rattle.net.proofs.Every.{chosen, chosen-lt}
 use Rattle.matching.proofs.MatchingPromise.{matchingPromise as promise}
 use Rattle.step.specs.Types.{Locality, Place, Tuple, Process, Slot, Instruction, Net, Evaluated, Found}
-use Rattle.step.specs.Answer.{Answer, Picked}
-use Rattle.step.specs.Request.{Request}
+use Rattle.step.specs.Types.{Answer, Picked}
+use Rattle.step.specs.Types.{Request}
 use Rattle.step.specs.Pick.{hostOf, slotOf, unchanged, performed, withHost, stopped, out, inFound, input}
 use Rattle.step.specs.Pick.{readFound, read, startedIn, eval, fork, create, carriedOut, acting, processStep}
 use Rattle.step.specs.Pick.{slotStep, stepOf, pickOf}

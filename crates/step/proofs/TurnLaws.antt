@@ -1,7 +1,7 @@
--- One pick on the few records that it concerns (`specs/Turn.antt`) is the pick of the definition (`stepOf`).
--- Assumes nothing.
+-- One pick on the few records that it concerns (`specs/Turn.antt`, `specs/PutBack.antt`) is the pick of the definition
+-- (`stepOf`). Assumes nothing.
 use Prim.Native.Nat.{ℕ, _<_, _≤_}
-use mathlib.Core.Path.{_≡_, refl, sym, ap, subst₂, _∙_}
+use mathlib.Core.Path.{_≡_, refl, sym, ap, _∙_}
 use mathlib.Core.Bool.{Bool, true, false}
 use mathlib.Core.List.{List, []}
 use native.Mathlib.Omega.{arith}
@@ -10,51 +10,50 @@ use lib.Dec.{eqb, ltb}
 use lib.ListN.{length, getD, set, List·getD-eq-default}
 use borrow.Author.Tests.{ltb-true, lt-ltb, le-ltb}
 use Rattle.net.specs.Choice.{choose, both}
-use Rattle.net.specs.Records.{nodeAt, processAt, instructionAt, withNode, withCounts, zeroInstruction}
+use Rattle.net.specs.Records.{nodeAt, processAt, instructionAt, rowFor, withProcess, withNode, withCounts, copiedTo, zeroInstruction, placeOf}
 use Rattle.matching.specs.Matching.{evaluatedOf}
+use Rattle.keeping.specs.Keeping.{keepsOf}
+use Rattle.plans.specs.Request.{requestOf, asked, granted}
+use Rattle.plans.specs.Plan.{refusing}
 use Rattle.net.proofs.Laws.{choose-true, choose-false, both-l, both-r}
-use Rattle.step.specs.Types.{Locality, Action, Row, Process, Node, Instruction, Net, Evaluated}
-use Rattle.step.specs.Answer.{Answer, Picked}
-use Rattle.step.specs.Request.{Request, requestOf, asked, granted}
+use Rattle.net.proofs.ReadingLaws.{never}
+use Rattle.step.specs.Types.{Locality, Place, Action, Row, Process, Node, Instruction, Net, Evaluated, Answer, Request, Plan, Picked}
 use Rattle.step.specs.Pick.{hostOf, slotOf, spareOf, stepOf, slotStep, processStep, acting, carriedOut, unchanged}
-use Rattle.step.specs.Plan.{Plan, planOf, refusing, changes, putBack, hostAfter, countAfter, targeted}
-use Rattle.step.specs.Plan.{targetIn, sentWithin}
-use Rattle.step.specs.Turn.{Turn, ready, refusal, met, turnPlan, planAt, Indexed, Turned, sendsCode}
+use Rattle.step.specs.PutBack.{changes, putBack, hostAfter, countAfter, targeted}
+use Rattle.step.specs.Turn.{Seat, Turn, ready, refusal, met, indexIn, seated, seatOf, seatAt, targetIn, asking, turnOf, turnAt}
+use Rattle.step.specs.Turn.{sentWithin, seatPlan, turnPlan, planWith, planAt, sendsCode}
 use Rattle.net.specs.Shape.{Shaped}
-use Rattle.net.proofs.Past.{pastNode, pastInstruction}
+use Rattle.net.proofs.Past.{pastNode}
 use Rattle.step.proofs.PutBack.{back, Standing, planIn, target, put-back-is}
 
 pub refusing-as : (x y : Answer) (z : Node) (plan : Plan) → x ≡ y → plan ≡ refusing x z → plan ≡ refusing y z
 refusing-as x y z plan e h = h ∙ ap (λ (w : Answer). refusing w z) e
 
-true-not-false : true ≡ false → ⊥
-true-not-false e = let z : _≡_ {A = ℕ} 0 1 = cc in omega arith
-
 -- no code is sent, so none can go beyond a row
 pub nothing-sent :
-    (code : List Instruction) (r : Row) (req : Request) (x : Bool) → x ≡ sendsCode req → x ≡ false
-    → true ≡ sentWithin code r req
+    (code : List Instruction) (p : Process) (y : Node) (req : Request) (x : Bool) → x ≡ sendsCode req → x ≡ false
+    → true ≡ sentWithin code p y req
 unfolding sendsCode sentWithin
-nothing-sent code r Request.Lack x e h = refl
-nothing-sent code r Request.Stop x e h = refl
-nothing-sent code r (Request.Out l q) x e h = refl
-nothing-sent code r (Request.In l q) x e h = refl
-nothing-sent code r (Request.Read l q) x e h = refl
-nothing-sent code r (Request.Eval l sent q) x e h = absurd (true-not-false (sym e ∙ h))
-nothing-sent code r (Request.New v q) x e h = refl
-nothing-sent code r (Request.Fork q q′) x e h = refl
+nothing-sent code p y Request.Lack x e h = refl
+nothing-sent code p y Request.Stop x e h = refl
+nothing-sent code p y (Request.Out l q) x e h = refl
+nothing-sent code p y (Request.In l q) x e h = refl
+nothing-sent code p y (Request.Read l q) x e h = refl
+nothing-sent code p y (Request.Eval l sent q) x e h = never (sym h ∙ e)
+nothing-sent code p y (Request.New v q) x e h = refl
+nothing-sent code p y (Request.Fork q q′) x e h = refl
 
 -- ---- a plan put back, node by node
-module _ (s : Net) (a : Locality) (k : ℕ) (l : Locality) (plan : Plan) (x : Bool) where
-  pub put-is : (host : Node) (n : ℕ) → x ≡ true → x ≡ changes (plan .answer)
-      → host ≡ hostAfter plan k l (getD (set (s .nodes) (l .0) (plan .target)) (a .0) pastNode)
+module _ (s : Net) (b : ℕ) (l : Locality) (plan : Plan) (x : Bool) where
+  pub put-is : (a : Locality) (host : Node) (n : ℕ) → a ≡ hostOf b → x ≡ true → x ≡ changes (plan .answer)
+      → host ≡ hostAfter plan (slotOf b) l (getD (set (s .nodes) (l .0) (plan .target)) (a .0) pastNode)
       → n ≡ countAfter (plan .opens) (s .addresses)
       → _≡_ {A = Net} (record { addresses = n; length = s .length; nodes = set (set (s .nodes) (l .0) (plan .target)) (a .0) host; code = s .code })
-      (putBack s a k l plan)
+      (putBack s (hostOf b) (slotOf b) l plan)
   unfolding putBack targeted withNode withCounts nodeAt
-  put-is host n t c h m = rw (h, m) (sym (choose-true _ _ _ (sym c ∙ t)))
+  put-is a host n e t c h m = rw (h, m, e) (sym (choose-true _ _ _ (sym c ∙ t)))
 
-  pub put-nothing : x ≡ false → x ≡ changes (plan .answer) → s ≡ putBack s a k l plan
+  pub put-nothing : x ≡ false → x ≡ changes (plan .answer) → s ≡ putBack s (hostOf b) (slotOf b) l plan
   unfolding putBack
   put-nothing f c = sym (choose-false _ _ _ (sym c ∙ f))
 
@@ -65,30 +64,31 @@ unfolding instructionAt processStep requestOf asked acting granted carriedOut ch
 past-code s a k p l h =
     ap (processStep s a k p) (sym (List·getD-eq-default (s .code) (record { action = Action.Stop; count = 0; template = [] }) {n = p .at .0} (omega arith)))
 
-meets : (s : Net) (a : Locality) (k b n at : ℕ) (p : Process) → length (s .code) ≡ 512 → ready b n p ≡ true → Indexed (p .at) at
-    → processStep s a k p (met b n p (getD (s .code) at pastInstruction)) ≡ processStep s a k p (instructionAt (s .code) (p .at))
-unfolding met instructionAt choose both
-meets s a k b n at p l r index =
+meets : (s : Net) (a : Locality) (k b n : ℕ) (p : Process) → length (s .code) ≡ 512 → ready b n p ≡ true
+    → processStep s a k p (met b n p (instructionAt (s .code) (placeOf (indexIn (p .at)))))
+    ≡ processStep s a k p (instructionAt (s .code) (p .at))
+unfolding met indexIn instructionAt choose both
+meets s a k b n p l r =
     elim (decLt (p .at .0) 512) [
-      | yes h ↦ rw (r, lt-ltb (p .at .0) 512 h, index .is h)
+      | yes h ↦ rw (r, lt-ltb (p .at .0) 512 h)
       | no h ↦ rw (r, le-ltb (p .at .0) 512 (omega arith)) (past-code s a k p l (omega arith))
     ]
 
 -- ---- a pick that is not ready
-module _ (s : Net) (a : Locality) (k : ℕ) (l : Locality) (y : Node) where
-  refused-back : (x : Answer) → changes x ≡ false → back s a k l (refusing x y) ≡ unchanged x s
+module _ (s : Net) (b : ℕ) (l : Locality) (y : Node) where
+  refused-back : (x : Answer) → changes x ≡ false → back s (hostOf b) (slotOf b) l (refusing x y) ≡ unchanged x s
   unfolding refusing unchanged
   refused-back x e =
       ap {B = Picked} (λ (z : Net). record { answer = x; net = z })
-      (sym (put-nothing s a k l (refusing x y) false refl (sym e)))
+      (sym (put-nothing s b l (refusing x y) false refl (sym e)))
 
   in-order :
       (x w z : Bool) (next : Picked) → both x (both w z) ≡ false
-      → back s a k l (refusing (choose x (choose w Answer.FreeSlot Answer.NotInUse) Answer.Malformed) y)
+      → back s (hostOf b) (slotOf b) l (refusing (choose x (choose w Answer.FreeSlot Answer.NotInUse) Answer.Malformed) y)
       ≡ choose x (choose w (choose z next (unchanged Answer.FreeSlot s)) (unchanged Answer.NotInUse s))
       (unchanged Answer.Malformed s)
   unfolding choose both changes
-  in-order true true true next e = absurd (true-not-false e)
+  in-order true true true next e = never (sym e)
   in-order true true false next e = refused-back Answer.FreeSlot refl
   in-order true false z next e = refused-back Answer.NotInUse refl
   in-order false w z next e = refused-back Answer.Malformed refl
@@ -101,106 +101,123 @@ ready-step :
     (unchanged Answer.Malformed s)
 unfolding choose both
 ready-step true true true next s e = refl
-ready-step true true false next s e = absurd (true-not-false (sym e))
-ready-step true false z next s e = absurd (true-not-false (sym e))
-ready-step false y z next s e = absurd (true-not-false (sym e))
-
--- ---- the plan, by the calls that draw it
-pub drawn-is :
-    (s : Net) (b : ℕ) (a : Locality) (p : Process) (turn : Turn) (within : Bool) (plan : Plan)
-    → within ≡ sentWithin (s .code) (nodeAt s (turn .target) .row) (turn .request)
-    → plan ≡ turnPlan b (s .addresses) (nodeAt s a .row) p (nodeAt s (turn .target)) (turn .template) within (turn .request)
-    → plan ≡ planAt s b a p turn
-unfolding planAt
-drawn-is s b a p turn within plan hw hp =
-    hp
-    ∙ ap (λ (w : Bool). turnPlan b (s .addresses) (nodeAt s a .row) p (nodeAt s (turn .target)) (turn .template) w (turn .request)) hw
+ready-step true true false next s e = never e
+ready-step true false z next s e = never e
+ready-step false y z next s e = never e
 
 -- ---- the pick
-module _ (s : Net) (b at : ℕ) (turn : Turn) where
-  Made : Locality → ℕ → Type 0
-  Made a k =
-      Shaped s
-      → a .0 < 16
-      → Indexed (processAt (nodeAt s a) k .at) at
-      → Turned b (s .addresses) (processAt (nodeAt s a) k) (getD (s .code) at pastInstruction) turn
-      → back s a k (turn .target) (planAt s b a (processAt (nodeAt s a) k) turn) ≡ stepOf s b
-
-  a : Locality
-  a = hostOf b
-
-  k : ℕ
-  k = slotOf b
-
+module _ (s : Net) (b : ℕ) where
   p : Process
-  p = processAt (nodeAt s a) k
+  p = processAt (nodeAt s (hostOf b)) (slotOf b)
 
-  standing : Shaped s → a .0 < 16 → ready b (s .addresses) p ≡ true → Standing s a k
-  unfolding ready a k p
-  standing shaped low r =
+  -- past the last address no slot is busy
+  low : Shaped s → p .busy ≡ true → hostOf b .0 < 16
+  unfolding p nodeAt processAt
+  low shaped busy =
+      elim (decLt (hostOf b .0) 16) [
+        | yes h ↦ h
+        | no h ↦ never (ap (λ (x : Node). processAt x (slotOf b) .busy)
+            (sym (List·getD-eq-default (s .nodes) pastNode {n = hostOf b .0} (omega (arith, shaped .nodes-are)))) ∙ busy)
+      ]
+
+  standing : Shaped s → ready b (s .addresses) p ≡ true → Standing s (hostOf b) (slotOf b)
+  unfolding ready p
+  standing shaped r =
       let rest = both-r (eqb (spareOf b) 0) _ r in
+      let busy = both-r (ltb (hostOf b .0) (s .addresses)) _ rest in
       record {
         size = shaped .nodes-are;
-        rights = shaped .each-node (hostOf b) low .rights-are;
-        low = low;
+        rights = shaped .each-node (hostOf b) (low shaped busy) .rights-are;
+        low = low shaped busy;
         used = ltb-true _ _ (both-l _ _ rest);
-        busy = both-r (ltb (hostOf b .0) (s .addresses)) _ rest;
+        busy = busy;
       }
 
-  made-by : (x : Bool) → x ≡ ready b (s .addresses) p → Made a k
-  unfolding Made ready turnPlan planAt refusal stepOf slotStep planIn target processStep a k p
-  made-by true q shaped low index ht =
-      let r = sym q in
-      let n = s .addresses in
-      let row = nodeAt s (hostOf b) .row in
-      let e = turn .template in
-      let req = turn .request in
-      let m = met b n p (getD (s .code) at pastInstruction) in
-      let F : Locality → Picked =
-      λ l. back s (hostOf b) (slotOf b) l (planOf row p (nodeAt s l) e n (sentWithin (s .code) (nodeAt s l .row) req) req) in
-      ap (back s (hostOf b) (slotOf b) (turn .target)) (choose-true _ _ _ r)
-      ∙ ap F (ht .target-is)
-      ∙ put-back-is s (hostOf b) (slotOf b) (standing shaped low r) p e req
-      ∙ ap (λ (x : Evaluated). acting s (hostOf b) (slotOf b) p x req) (ht .template-is)
-      ∙ ap (acting s (hostOf b) (slotOf b) p (evaluatedOf (hostOf b) p m)) (ht .request-is)
-      ∙ meets s (hostOf b) (slotOf b) b n at p (shaped .code-is) r index
-      ∙ ready-step _ _ _ _ s r
-  made-by false q shaped low index ht =
-      ap (back s (hostOf b) (slotOf b) (turn .target)) (choose-false _ _ _ (sym q))
-      ∙ in-order s (hostOf b) (slotOf b) (turn .target) _ _ _ _ _ (sym q)
+  Made : Type 0
+  Made = back s (hostOf b) (slotOf b) (turnAt s b .target) (planAt s (turnAt s b)) ≡ stepOf s b
 
--- the same of the records that the code looks at: the host's address is a, the slot is k
-pub turn-is :
-    (s : Net) (b at : ℕ) (turn : Turn) (a : Locality) (k : ℕ) (plan : Plan) (after : Net)
-    → Shaped s
-    → a ≡ hostOf b
+  made-by : (x : Bool) → x ≡ ready b (s .addresses) p → Shaped s → Made
+  unfolding Made ready refusal stepOf slotStep planIn target processStep p
+      planAt planWith turnPlan seatPlan turnAt turnOf asking seatAt seatOf seated
+  made-by true q shaped =
+      ap (back s (hostOf b) (slotOf b) (turnAt s b .target)) (choose-true _ _ _ (sym q))
+      ∙ put-back-is s (hostOf b) (slotOf b) (standing shaped (sym q)) p (turnAt s b .template) (turnAt s b .request)
+      ∙ meets s (hostOf b) (slotOf b) b (s .addresses) p (shaped .code-is) (sym q)
+      ∙ ready-step _ _ _ _ s (sym q)
+  made-by false q shaped =
+      ap (back s (hostOf b) (slotOf b) (turnAt s b .target)) (choose-false _ _ _ (sym q))
+      ∙ in-order s b (turnAt s b .target) _ _ _ _ _ (sym q)
+
+  -- the same of the turn, the plan and the net that the code has
+  pub turn-is :
+      (turn : Turn) (plan : Plan) (after : Net) → Shaped s → turn ≡ turnAt s b → plan ≡ planAt s turn
+      → after ≡ putBack s (hostOf b) (slotOf b) (turn .target) plan
+      → _≡_ {A = Picked} (record { answer = plan .answer; net = after }) (stepOf s b)
+  unfolding Made
+  turn-is turn plan after shaped ht hp hn =
+      ap {B = Picked} (λ (z : Net). record { answer = plan .answer; net = z }) hn
+      ∙ ap (back s (hostOf b) (slotOf b) (turn .target)) hp
+      ∙ ap (λ (t : Turn). back s (hostOf b) (slotOf b) (t .target) (planAt s t)) ht
+      ∙ made-by _ refl shaped
+
+-- ---- straight lines: each value is what its call promises
+pub seat-as :
+    (b n : ℕ) (x : Node) (k : ℕ) (row : Row) (i : ℕ)
     → k ≡ slotOf b
-    → a .0 < 16
-    → Indexed (processAt (nodeAt s a) k .at) at
-    → Turned b (s .addresses) (processAt (nodeAt s a) k) (getD (s .code) at pastInstruction) turn
-    → plan ≡ planAt s b a (processAt (nodeAt s a) k) turn
-    → after ≡ putBack s a k (turn .target) plan
-    → _≡_ {A = Picked} (record { answer = plan .answer; net = after }) (stepOf s b)
-unfolding Made a k
-turn-is s b at turn a k plan after shaped ha hk low index ht hp hn =
-    ap {B = Picked} (λ (z : Net). record { answer = plan .answer; net = z }) hn
-    ∙ ap (back s a k (turn .target)) hp
-    ∙ subst₂ (Made s b at turn) (sym ha) (sym hk) (made-by s b at turn _ refl) shaped low index ht
+    → row ≡ rowFor x (processAt x k)
+    → i ≡ indexIn (processAt x k .at)
+    → _≡_ {A = Seat} (record { pick = b; addresses = n; process = processAt x k; row = row; index = i }) (seatOf b n x)
+unfolding seatOf seated
+seat-as b n x k row i h r d = rw (r, d, h)
 
--- what a pick asks for, by the calls that find it
 pub turned-as :
-    (b n : ℕ) (p : Process) (c m : Instruction) (host target : Locality) (req : Request) (e : Evaluated)
-    → host ≡ hostOf b
-    → host .0 < 16
-    → m ≡ met b n p c
-    → req ≡ requestOf host p m
-    → e ≡ evaluatedOf host p m
-    → target ≡ targetIn host n req
-    → (host .0 < 16 → target .0 < 16)
-    → Turned b n p c (record { request = req; template = e; target = target })
-turned-as b n p c m host target req e a low d r t l f = record {
-  request-is = r ∙ ap (λ (h : Locality). requestOf h p m) a ∙ ap (requestOf (hostOf b) p) d;
-  template-is = t ∙ ap (λ (h : Locality). evaluatedOf h p m) a ∙ ap (evaluatedOf (hostOf b) p) d;
-  target-is = l ∙ ap (λ (h : Locality). targetIn h n req) a;
-  target-low = f low;
-}
+    (z : Seat) (c m : Instruction) (host target : Locality) (req : Request) (e : Evaluated) (x : Bool)
+    → host ≡ hostOf (z .pick)
+    → m ≡ met (z .pick) (z .addresses) (z .process) c
+    → req ≡ requestOf host (z .process) m
+    → e ≡ evaluatedOf host (z .process) m
+    → target ≡ targetIn host (z .addresses) req
+    → x ≡ sendsCode req
+    → _≡_ {A = Turn} (record { seat = z; request = req; template = e; target = target; sends = x }) (turnOf z c)
+unfolding turnOf asking
+turned-as z c m host target req e x a d r t l y = rw (y, l, t, r, a, d)
+
+pub slot-as : (x y : Node) (p : Process) (k j : ℕ) → k ≡ j → y ≡ withProcess x k p → y ≡ withProcess x j p
+slot-as x y p k j e h = h ∙ ap (λ (i : ℕ). withProcess x i p) e
+
+pub low-as : (a l : Locality) → a .0 < 16 → (a .0 < 16 → l .0 < 16) → l .0 < 16
+low-as a l h f = f h
+
+pub turn-at :
+    (s : Net) (b : ℕ) (a : Locality) (seat : Seat) (turn : Turn)
+    → a ≡ hostOf b
+    → seat ≡ seatOf b (s .addresses) (nodeAt s a)
+    → turn ≡ turnOf seat (instructionAt (s .code) (placeOf (seat .index)))
+    → turn ≡ turnAt s b
+unfolding turnAt seatAt
+turn-at s b a seat turn ha hs ht =
+    ht
+    ∙ ap (λ (z : Seat). turnOf z (instructionAt (s .code) (placeOf (z .index))))
+    (hs ∙ ap (λ (x : Locality). seatOf b (s .addresses) (nodeAt s x)) ha)
+
+-- sent code, judged by the row of the process that would start
+pub within-as : (code : List Instruction) (p r : Process) (y : Node) (l : Locality) (sent : Place) (row : Row) (x : Bool)
+    → r ≡ copiedTo p sent → row ≡ rowFor y r → x ≡ keepsOf code sent l row → x ≡ keepsOf code sent l (rowFor y (copiedTo p sent))
+within-as code p r y l sent row x a b d = d ∙ ap (keepsOf code sent l) (b ∙ ap (rowFor y) a)
+
+-- a turn that sends no code has the plan by which none is judged
+pub unsent-as :
+    (s : Net) (b : ℕ) (turn : Turn) (plan : Plan) → turn ≡ turnAt s b → turn .sends ≡ false
+    → plan ≡ turnPlan turn (nodeAt s (turn .target)) true → plan ≡ planAt s turn
+unfolding planAt planWith turnAt turnOf asking
+unsent-as s b turn plan e h d =
+    d
+    ∙ ap (turnPlan turn (nodeAt s (turn .target)))
+    (nothing-sent (s .code) (turn .seat .process) (nodeAt s (turn .target)) (turn .request) (turn .sends)
+    (rw e refl) h)
+
+pub drawn-as :
+    (code : List Instruction) (turn : Turn) (y : Node) (within : Bool) (plan : Plan)
+    → within ≡ sentWithin code (turn .seat .process) y (turn .request) → plan ≡ turnPlan turn y within → plan ≡ planWith code turn y
+unfolding planWith
+drawn-as code turn y within plan w d = d ∙ ap (turnPlan turn y) w

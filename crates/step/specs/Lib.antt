@@ -1,7 +1,5 @@
-pub mod Answer
 pub mod Pick
-pub mod Plan
-pub mod Request
+pub mod PutBack
 pub mod SoundKept
 pub mod Turn
 pub mod Types

@@ -4,16 +4,16 @@ use Prim.Native.Nat.{ℕ, _+_, _/_, _%_}
 use lib.Dec.{eqb, ltb}
 use lib.IntN.{ℤ}
 use Rattle.net.specs.Choice.{choose, fold}
-use Rattle.net.specs.Records.{processAt, nodeAt, instructionAt, withProcess, withTuple, withNode, withRow, withRights}
+use Rattle.net.specs.Records.{processAt, nodeAt, instructionAt, rowFor, withProcess, withTuple, withNode, withRow, withRights}
 use Rattle.net.specs.Records.{withVariable, movedTo, copiedTo, withoutTuple, freeSlot, freeProcess, allRights, zeroNode}
 use Rattle.net.specs.Records.{zeroTuple, withField, addressOf}
 use Rattle.matching.specs.Matching.{evaluatedOf, matchedOf, wantAt}
 use Rattle.keeping.specs.Keeping.{keepsOf}
 use Rattle.sound.specs.Soundness.{soundOf}
-use Rattle.step.specs.Answer.{Answer, Picked}
-use Rattle.step.specs.Request.{Request, requestOf, granted}
+use Rattle.plans.specs.Request.{requestOf, granted}
+use Rattle.plans.specs.Additions.{tupleOf, gaining}
 use Rattle.step.specs.Types.{Locality, Place, Item, Tuple, Row, Process, Slot, Net, Instruction, Value}
-use Rattle.step.specs.Types.{Want, Evaluated, Found, Matched}
+use Rattle.step.specs.Types.{Evaluated, Found, Matched, Answer, Picked, Request}
 
 -- ---- what a pick's byte names: address (4 bits), slot (2 bits), 2 zero bits
 unfoldable pub hostOf : ℕ → Locality
@@ -31,15 +31,6 @@ unchanged answer s = record { answer = answer; net = s }
 
 unfoldable pub performed : Net → Picked
 performed s = record { answer = Answer.Performed; net = s }
-
--- ---- the tuple of an out: its field values. A formal, which a sound net's out does not have, counts as nought
-unfoldable pub itemOf : Want → Item
-itemOf (Want.Exactly x) = x
-itemOf (Want.AnyReading v) = Item.Reading (ℤ.pos 0)
-itemOf (Want.AnyAddress v) = Item.Reading (ℤ.pos 0)
-
-unfoldable pub tupleOf : Evaluated → Tuple
-tupleOf e = fold 4 (λ i t. choose (ltb i (e .count)) (withField t (record { item = itemOf (wantAt e i) })) t) zeroTuple
 
 -- ---- what each request does
 
@@ -83,10 +74,10 @@ startedIn s a k l p sent q (Slot.Number j) =
     performed (withHost (withHost s a k (movedTo p q)) l j (copiedTo p sent))
 startedIn s a k l p sent q Slot.Full = unchanged Answer.NoRoom s
 
--- eval: the sent code has to keep within the target's row, where self means the target
+-- eval: the sent code has to keep within the target's row for the process that would start, where self means the target
 unfoldable pub eval : Net → Locality → ℕ → Process → Locality → Place → Place → Picked
 eval s a k p l sent q =
-    choose (keepsOf (s .code) sent l (nodeAt s l .row))
+    choose (keepsOf (s .code) sent l (rowFor (nodeAt s l) (copiedTo p sent)))
     (startedIn s a k l p sent q (freeSlot (nodeAt s l)))
     (unchanged Answer.NotWithin s)
 
@@ -96,9 +87,6 @@ fork s a k p q r = startedIn s a k a p r q (freeSlot (nodeAt s a))
 
 -- new: the lowest unused address l. Its row is a copy of the creator's as it stood, with every right on itself; the
 -- creator's row gains every right on it, and no other row changes
-unfoldable pub gaining : Row → Locality → Row
-gaining r l = withRights r l allRights
-
 unfoldable pub opened : Net → Net
 opened s = record { addresses = s .addresses + 1; length = s .length; nodes = s .nodes; code = s .code }
 
@@ -135,7 +123,7 @@ carriedOut s a k p e (Request.Fork q r) = fork s a k p q r
 
 -- the process p hosted at a in slot k makes its step. A lack and a stop need no right, so 6 and 1 come before 4
 unfoldable pub acting : Net → Locality → ℕ → Process → Evaluated → Request → Picked
-acting s a k p e r = choose (granted (nodeAt s a .row) r) (carriedOut s a k p e r) (unchanged Answer.NoRight s)
+acting s a k p e r = choose (granted (rowFor (nodeAt s a) p) r) (carriedOut s a k p e r) (unchanged Answer.NoRight s)
 
 unfoldable pub processStep : Net → Locality → ℕ → Process → Instruction → Picked
 processStep s a k p c = acting s a k p (evaluatedOf a p c) (requestOf a p c)

@@ -1,19 +1,20 @@
 -- Describes the code, and is no part of what a reader has to believe: how a pick is made without handing a net on. The few
--- records that it concerns are looked at, a plan is drawn from them and put back. One pick and the loop over many both go
--- this way; `proofs/TurnLaws.antt` shows that it is `stepOf` of `Pick.antt`.
+-- records that it concerns are looked at one after another, and a plan is drawn from them. One pick and the loop over many
+-- both go this way; `proofs/TurnLaws.antt` shows that the plan put back is `stepOf` of `Pick.antt`.
+pub use Rattle.step.specs.declared.turn.Seat.{Seat}
 pub use Rattle.step.specs.declared.turn.Turn.{Turn}
-use Prim.Native.Nat.{ℕ, _<_}
+use Prim.Native.Nat.{ℕ}
 use mathlib.Core.Bool.{Bool, true, false}
-use mathlib.Core.Path.{_≡_}
+use mathlib.Core.List.{List, [], _∷_}
 use lib.Dec.{eqb, ltb}
 use Rattle.net.specs.Choice.{choose, both}
-use Rattle.net.specs.Records.{zeroInstruction, nodeAt}
+use Rattle.net.specs.Records.{zeroInstruction, processAt, nodeAt, instructionAt, rowFor, copiedTo, addressOf, placeOf}
 use Rattle.matching.specs.Matching.{evaluatedOf}
-use Rattle.step.specs.Types.{Locality, Place, Row, Process, Node, Instruction, Net, Evaluated}
-use Rattle.step.specs.Answer.{Answer}
-use Rattle.step.specs.Request.{Request, requestOf}
-use Rattle.step.specs.Pick.{hostOf, spareOf}
-use Rattle.step.specs.Plan.{Plan, planOf, refusing, targetIn, sentWithin}
+use Rattle.keeping.specs.Keeping.{keepsOf}
+use Rattle.plans.specs.Request.{requestOf, targets, isNew}
+use Rattle.plans.specs.Plan.{planOf, refusing}
+use Rattle.step.specs.Types.{Locality, Place, Process, Node, Instruction, Net, Evaluated, Answer, Request, Plan}
+use Rattle.step.specs.Pick.{hostOf, slotOf, spareOf}
 
 -- the pick is well formed, its address in use and its slot busy: 9, 8 and 7 are absent
 unfoldable pub ready : ℕ → ℕ → Process → Bool
@@ -27,29 +28,30 @@ refusal b n = choose (eqb (spareOf b) 0) (choose (ltb (hostOf b .0) n) Answer.Fr
 unfoldable pub met : ℕ → ℕ → Process → Instruction → Instruction
 met b n p c = choose (ready b n p) (choose (ltb (p .at .0) 512) c zeroInstruction) zeroInstruction
 
--- an index into the code: the place itself, where it is one
-pub record Indexed (place : Place) (i : ℕ) : Type 0 where
-  pub below : i < 512
-  pub is : place .0 < 512 → i ≡ place .0
+-- ---- what a pick finds at its host x, n being the address count
 
--- what a pick asks for, and of which address
-pub record Turned (b n : ℕ) (p : Process) (c : Instruction) (turn : Turn) : Type 0 where
-  pub request-is : turn .request ≡ requestOf (hostOf b) p (met b n p c)
-  pub template-is : turn .template ≡ evaluatedOf (hostOf b) p (met b n p c)
-  pub target-is : turn .target ≡ targetIn (hostOf b) n (turn .request)
-  pub target-low : turn .target .0 < 16
+-- the index of a place in the code: the place itself, where it is one
+unfoldable pub indexIn : Place → ℕ
+indexIn p = choose (ltb (p .0) 512) (p .0) 0
 
-unfoldable pub turnPlan : ℕ → ℕ → Row → Process → Node → Evaluated → Bool → Request → Plan
-turnPlan b n r p y e within req = choose (ready b n p) (planOf r p y e n within req) (refusing (refusal b n) y)
+unfoldable pub seated : ℕ → ℕ → Node → Process → Seat
+seated b n x p = record { pick = b; addresses = n; process = p; row = rowFor x p; index = indexIn (p .at) }
 
--- the plan of a pick in a net, drawn for the process p at a
-unfoldable pub planAt : Net → ℕ → Locality → Process → Turn → Plan
-planAt s b a p turn =
-    turnPlan b (s .addresses) (nodeAt s a .row) p (nodeAt s (turn .target)) (turn .template)
-    (sentWithin (s .code) (nodeAt s (turn .target) .row) (turn .request))
-    (turn .request)
+unfoldable pub seatOf : ℕ → ℕ → Node → Seat
+seatOf b n x = seated b n x (processAt x (slotOf b))
 
--- the request sends code
+-- ---- the address that a request concerns beside its host a, n being the address count; a itself where no node has it
+unfoldable pub near : Locality → Locality → Locality
+near l a = choose (ltb (l .0) 16) l a
+
+unfoldable pub firstNear : List Locality → Locality → Locality
+firstNear [] a = a
+firstNear (l ∷ ls) a = near l a
+
+unfoldable pub targetIn : Locality → ℕ → Request → Locality
+targetIn a n r = choose (isNew r) (near (addressOf n) a) (firstNear (targets r) a)
+
+-- ---- the request sends code
 unfoldable pub sendsCode : Request → Bool
 sendsCode Request.Lack = false
 sendsCode Request.Stop = false
@@ -59,3 +61,51 @@ sendsCode (Request.Read l q) = false
 sendsCode (Request.Eval l sent q) = true
 sendsCode (Request.New v q) = false
 sendsCode (Request.Fork q q′) = false
+
+-- ---- what a pick asks for from its seat: m is the instruction that it meets, c the one at the seat's index
+unfoldable pub asking : Locality → Seat → Instruction → Turn
+asking a z m = record {
+  seat = z;
+  request = requestOf a (z .process) m;
+  template = evaluatedOf a (z .process) m;
+  target = targetIn a (z .addresses) (requestOf a (z .process) m);
+  sends = sendsCode (requestOf a (z .process) m);
+}
+
+unfoldable pub turnOf : Seat → Instruction → Turn
+turnOf z c = asking (hostOf (z .pick)) z (met (z .pick) (z .addresses) (z .process) c)
+
+-- of a pick in a net
+unfoldable pub seatAt : Net → ℕ → Seat
+seatAt s b = seatOf b (s .addresses) (nodeAt s (hostOf b))
+
+unfoldable pub turnAt : Net → ℕ → Turn
+turnAt s b = turnOf (seatAt s b) (instructionAt (s .code) (placeOf (seatAt s b .index)))
+
+-- ---- whether the code that a request of the process p sends keeps within the row that the node y has for it
+unfoldable pub sentWithin : List Instruction → Process → Node → Request → Bool
+sentWithin code p y Request.Lack = true
+sentWithin code p y Request.Stop = true
+sentWithin code p y (Request.Out l q) = true
+sentWithin code p y (Request.In l q) = true
+sentWithin code p y (Request.Read l q) = true
+sentWithin code p y (Request.Eval l sent q) = keepsOf code sent l (rowFor y (copiedTo p sent))
+sentWithin code p y (Request.New v q) = true
+sentWithin code p y (Request.Fork q q′) = true
+
+-- ---- the plan of a turn: y is the node at its target, `within` whether sent code keeps within y's row for it
+unfoldable pub seatPlan : Seat → Evaluated → Request → Node → Bool → Plan
+seatPlan z e req y within =
+    choose (ready (z .pick) (z .addresses) (z .process))
+    (planOf (z .row) (z .process) y e (z .addresses) within req)
+    (refusing (refusal (z .pick) (z .addresses)) y)
+
+unfoldable pub turnPlan : Turn → Node → Bool → Plan
+turnPlan t y within = seatPlan (t .seat) (t .template) (t .request) y within
+
+unfoldable pub planWith : List Instruction → Turn → Node → Plan
+planWith code t y = turnPlan t y (sentWithin code (t .seat .process) y (t .request))
+
+-- in a net
+unfoldable pub planAt : Net → Turn → Plan
+planAt s t = planWith (s .code) t (nodeAt s (t .target))

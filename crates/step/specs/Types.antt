@@ -1,4 +1,4 @@
--- The types of the crate `net` that the definitions of this crate speak of.
+-- The types that the definitions of this crate speak of.
 pub use Rattle.net.specs.declared.locality.Locality.{Locality}
 pub use Rattle.net.specs.declared.locality.Place.{Place}
 pub use Rattle.net.specs.declared.tuple.Value.{Value}
@@ -23,3 +23,8 @@ pub use Rattle.matching.specs.declared.template.Wanted.{Wanted}
 pub use Rattle.matching.specs.declared.template.Evaluated.{Evaluated}
 pub use Rattle.matching.specs.declared.template.Found.{Found}
 pub use Rattle.matching.specs.declared.template.Matched.{Matched}
+pub use Rattle.plans.specs.declared.answer.Answer.{Answer}
+pub use Rattle.plans.specs.declared.request.Aim.{Aim}
+pub use Rattle.plans.specs.declared.request.Request.{Request}
+pub use Rattle.plans.specs.declared.plan.Plan.{Plan}
+pub use Rattle.step.specs.declared.machine.Picked.{Picked}

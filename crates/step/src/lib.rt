@@ -1,6 +1,3 @@
-// One pick (document 01, "One pick"), above the crate `net`.
-pub mod answer;
+// One pick (document 01, "One pick").
 pub mod machine;
-pub mod plan;
-mod request;
 pub mod turn;

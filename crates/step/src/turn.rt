@@ -1,10 +1,4 @@
 // One pick on the few records that it concerns: one pick and the loop over many both go by these functions.
-use crate::answer::Answer;
-use crate::plan::Plan;
-use crate::plan::plan_for;
-use crate::plan::refused;
-use crate::request::Request;
-use crate::request::ask;
 use keeping::rights::keeps;
 use matching::template::Evaluated;
 use net::instruction::Instruction;
@@ -13,18 +7,39 @@ use net::locality::Place;
 use net::node::Node;
 use net::policy::Row;
 use net::process::Process;
+use plans::answer::Answer;
+use plans::plan::Plan;
+use plans::plan::gained;
+use plans::plan::plan_for;
+use plans::plan::refused;
+use plans::request::Request;
+use plans::request::ask;
 ghost use Prim.Native.Nat.{_<_};
 ghost use mathlib.Core.Path.{_≡_};
 ghost use Rattle.net.specs.Records.{addressOf};
 ghost use Rattle.step.specs.Pick.{hostOf, slotOf};
-ghost use Rattle.step.specs.Plan.{near, targetIn, sentWithin, changes, countAfter};
-ghost use Rattle.step.specs.Turn.{ready, refusal, met, turnPlan, Indexed, Turned, sendsCode};
+ghost use Rattle.step.specs.PutBack.{changes, hostAfter, countAfter};
+ghost use Rattle.step.specs.Turn.{ready, refusal, met, indexIn, seatOf, near, targetIn, turnOf};
+ghost use Rattle.step.specs.Turn.{sentWithin, seatPlan, turnPlan, planWith, sendsCode};
 
-// What a pick asks for, with its evaluated template, and the address that it concerns beside its host.
+// What a pick finds at its host: the process that it names, with the row that it is judged by and the index
+// of its instruction. `pick` is the pick itself, `addresses` the address count.
+pub struct Seat {
+    pub pick: u8,
+    pub addresses: usize,
+    pub process: Process,
+    pub row: Row,
+    pub index: usize,
+}
+
+// What a pick asks for from its seat, with its evaluated template, the address that it concerns beside its
+// host, and whether it sends code.
 pub struct Turn {
+    pub seat: Seat,
     pub request: Request,
     pub template: Evaluated,
     pub target: Locality,
+    pub sends: bool,
 }
 
 // The address that a pick names.
@@ -42,8 +57,8 @@ pub fn slot_of(b: u8) -> usize
 }
 
 // The index of a place in the code; 0 past its end.
-pub fn index_of(at: Place) -> usize
-    ensures { λ r. ⌜ Indexed at r ⌝ }
+fn index_of(at: Place) -> usize
+    ensures { λ r. ⌜ (r ≡ indexIn at) × (r < 512) ⌝ }
 {
     let i = at.0 as usize;
     if i < 512 { i } else { 0 }
@@ -120,25 +135,8 @@ fn target_of(a: Locality, n: usize, r: Request) -> Locality
     }
 }
 
-// What a pick asks for: n is the address count, p the process that it names, c the instruction at p's place.
-pub fn turn_of(b: u8, n: usize, p: Process, c: Instruction) -> Turn
-    ensures { λ r. ⌜ Turned b n p c r ⌝ }
-{
-    let host = host_of(b);
-    let instruction = met_by(b, n, p, c);
-    let asked = ask(host, p, instruction);
-    let request = asked.request;
-    let template = asked.template;
-    let target = target_of(host, n, request);
-    Turn {
-        request,
-        template,
-        target,
-    }
-}
-
 // Whether a request sends code.
-pub fn sends(r: Request) -> bool
+fn sends_code(r: Request) -> bool
     ensures { λ x. ⌜ x ≡ sendsCode r ⌝ }
 {
     match r {
@@ -153,9 +151,47 @@ pub fn sends(r: Request) -> bool
     }
 }
 
-// Whether the code that a request sends keeps within the row of its target.
-pub fn sent_within(code: [Instruction; 512], row: Row, r: Request) -> bool
-    ensures { λ x. ⌜ x ≡ sentWithin code row r ⌝ }
+// What a pick finds at its host: n is the address count.
+pub fn seat_of(b: u8, n: usize, host: Node) -> Seat
+    ensures { λ r. ⌜ (r ≡ seatOf b n host) × (r .index < 512) ⌝ }
+{
+    let k = slot_of(b);
+    let process = host.processes[k];
+    let row = host.row_for(process);
+    let index = index_of(process.at);
+    Seat {
+        pick: b,
+        addresses: n,
+        process,
+        row,
+        index,
+    }
+}
+
+// What a pick asks for from its seat, c being the instruction at the seat's index.
+pub fn turn_of(seat: Seat, c: Instruction) -> Turn
+    ensures { λ r. ⌜ (r ≡ turnOf seat c) × (r .target .0 < 16) ⌝ }
+{
+    let host = host_of(seat.pick);
+    let process = seat.process;
+    let instruction = met_by(seat.pick, seat.addresses, process, c);
+    let asked = ask(host, process, instruction);
+    let request = asked.request;
+    let template = asked.template;
+    let target = target_of(host, seat.addresses, request);
+    let sends = sends_code(request);
+    Turn {
+        seat,
+        request,
+        template,
+        target,
+        sends,
+    }
+}
+
+// Whether the code that a request of the process p sends keeps within the row that the node y has for it.
+fn sent_within(code: [Instruction; 512], p: Process, y: Node, r: Request) -> bool
+    ensures { λ x. ⌜ x ≡ sentWithin code p y r ⌝ }
 {
     match r {
         Request::Lack => true,
@@ -163,24 +199,52 @@ pub fn sent_within(code: [Instruction; 512], row: Row, r: Request) -> bool
         Request::Out(_, _) => true,
         Request::In(_, _) => true,
         Request::Read(_, _) => true,
-        Request::Eval(l, sent, _) => keeps(code, sent, l, row),
+        Request::Eval(l, sent, _) => {
+            let row = y.row_for(p.copied_to(sent));
+            keeps(code, sent, l, row)
+        }
         Request::New(_, _) => true,
         Request::Fork(_, _) => true,
     }
 }
 
-// The plan of a pick: y is the node at its target, `within` whether sent code keeps within y's row.
-pub fn plan_of(b: u8, n: usize, row: Row, p: Process, y: Node, turn: Turn, within: bool) -> Plan
-    ensures { λ x. ⌜ x ≡ turnPlan b n row p y (turn .template) within (turn .request) ⌝ }
+// The plan from a seat: y is the node at the target, `within` whether sent code keeps within y's row for it.
+fn seat_plan(seat: Seat, template: Evaluated, request: Request, y: Node, within: bool) -> Plan
+    ensures { λ x. ⌜ x ≡ seatPlan seat template request y within ⌝ }
 {
-    if is_ready(b, n, p) {
-        let template = turn.template;
-        let request = turn.request;
-        plan_for(row, p, y, template, n, within, request)
+    let process = seat.process;
+    if is_ready(seat.pick, seat.addresses, process) {
+        plan_for(
+            seat.row,
+            process,
+            y,
+            template,
+            seat.addresses,
+            within,
+            request,
+        )
     } else {
-        let answer = refused_with(b, n);
+        let answer = refused_with(seat.pick, seat.addresses);
         refused(answer, y)
     }
+}
+
+// The plan of a turn.
+pub fn plan_of(turn: Turn, y: Node, within: bool) -> Plan
+    ensures { λ x. ⌜ x ≡ turnPlan turn y within ⌝ }
+{
+    let request = turn.request;
+    seat_plan(turn.seat, turn.template, request, y, within)
+}
+
+// The plan of a turn, with the code that it may send.
+pub fn plan_with(code: [Instruction; 512], turn: Turn, y: Node) -> Plan
+    ensures { λ x. ⌜ x ≡ planWith code turn y ⌝ }
+{
+    let seat = turn.seat;
+    let request = turn.request;
+    let within = sent_within(code, seat.process, y, request);
+    plan_of(turn, y, within)
 }
 
 // Whether an answer changes the net.
@@ -199,6 +263,22 @@ pub fn changes_net(answer: Answer) -> bool
         Answer::NotInUse => false,
         Answer::Malformed => false,
         Answer::Unsound => false,
+    }
+}
+
+// The host x after a plan for the target l: its process in the slot of the pick, and every right on l where the
+// step opens it.
+pub fn host_after(b: u8, l: Locality, plan: Plan, x: Node) -> Node
+    ensures { λ r. ⌜ r ≡ hostAfter plan (slotOf b) l x ⌝ }
+{
+    let k = slot_of(b);
+    let process = plan.process;
+    let moved = x.with_process(k, process);
+    if plan.opens {
+        let row = gained(x.row, l);
+        moved.with_row(row)
+    } else {
+        moved
     }
 }
 

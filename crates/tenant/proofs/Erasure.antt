@@ -4,10 +4,10 @@
 use Prim.Native.Nat.{ℕ}
 use mathlib.Core.Path.{_≡_, refl, ap, _∙_}
 use mathlib.Core.Bool.{Bool, true, false}
-use Rattle.net.specs.Records.{nodeAt, rightsAt, noRights}
+use Rattle.net.specs.Records.{nodeAt, rightsAt, rowFor, noRights}
 use Rattle.keeping.specs.Keeping.{mayTake, mayRead, mayPut, maySend, mayCreate}
 use Rattle.net.proofs.Every.{chosen}
-use Rattle.step.specs.Request.{granted}
+use Rattle.plans.specs.Request.{granted}
 use Rattle.step.specs.Pick.{hostOf, unchanged, performed, withHost, stopped, added, out, taken, inFound, input}
 use Rattle.step.specs.Pick.{readFound, read, startedIn, eval, fork, unused, createdAt, created, create, carriedOut, acting}
 use Rattle.step.specs.Pick.{processStep, slotStep, stepOf}
@@ -88,9 +88,9 @@ module _ (tenant : Locality → Bool) where
     stopped-out = simp outward
 
     done-out :
-        (p : Process) (e : Evaluated) (r : Request) → granted (nodeAt s a .row) r ≡ true
+        (p : Process) (e : Evaluated) (r : Request) → granted (rowFor (nodeAt s a) p) r ≡ true
         → seen tenant (carriedOut s a k p e r) ≡ carriedOut (view tenant s) a k p e r
-    unfolding carriedOut granted out input read eval create fork mayTake mayRead mayPut maySend noRights
+    unfolding carriedOut granted out input read eval create fork rowFor mayTake mayRead mayPut maySend noRights
     done-out p e Request.Lack h = simp outward
     done-out p e Request.Stop h = stopped-out
     done-out p e (Request.Out l q) h =
@@ -169,8 +169,8 @@ module _ (tenant : Locality → Bool) where
     started-in l p sent q Slot.Full h = unseen-unchanged s _
 
     done-in :
-        (p : Process) (e : Evaluated) (r : Request) → granted (nodeAt s a .row) r ≡ true → Unseen s (carriedOut s a k p e r)
-    unfolding carriedOut granted stopped out input read eval create fork mayTake mayRead mayPut maySend mayCreate
+        (p : Process) (e : Evaluated) (r : Request) → granted (rowFor (nodeAt s a) p) r ≡ true → Unseen s (carriedOut s a k p e r)
+    unfolding carriedOut granted stopped out input read eval create fork rowFor mayTake mayRead mayPut maySend mayCreate
     done-in p e Request.Lack h = unseen-unchanged s _
     done-in p e Request.Stop h = record { same = host-in s a k _ o }
     done-in p e (Request.Out l q) h =

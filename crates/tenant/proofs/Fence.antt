@@ -8,13 +8,14 @@ use native.Mathlib.Omega.{arith}
 use lib.ListN.{getD, set}
 use lib.Seq.{getD-set-other}
 use Rattle.net.specs.Choice.{choose}
-use Rattle.net.specs.Records.{nodeAt, rightsAt, noRights, addressOf}
+use Rattle.net.specs.Records.{nodeAt, rightsAt, rowFor, noRights, addressOf}
 use Rattle.net.specs.Records.{withNode, withProcess, withTuple, withoutTuple, withRow, withRights}
 use Rattle.keeping.specs.Keeping.{mayCreate}
 use Rattle.net.proofs.Every.{chosen}
-use Rattle.step.specs.Request.{granted}
+use Rattle.plans.specs.Request.{granted}
 use Rattle.step.specs.Pick.{unchanged, performed, withHost, stopped, added, out, taken, inFound, input}
-use Rattle.step.specs.Pick.{readFound, read, startedIn, eval, fork, gaining, opened, unused, createdAt, created, create, carriedOut, acting}
+use Rattle.plans.specs.Additions.{gaining}
+use Rattle.step.specs.Pick.{readFound, read, startedIn, eval, fork, opened, unused, createdAt, created, create, carriedOut, acting}
 use Rattle.step.specs.Pick.{processStep, slotStep, stepOf}
 use Rattle.tenant.specs.Types.{Locality, Place, Tuple, Process, Row, Node, Slot, Net, Evaluated, Found, Request, Answer}
 use Rattle.tenant.specs.Types.{Picked}
@@ -141,8 +142,8 @@ module _ (tenant : Locality → Bool) where
     started-kept l p sent q Slot.Full = same-kept s _ f
 
     done-kept :
-        (p : Process) (e : Evaluated) (r : Request) → granted (nodeAt s a .row) r ≡ true → Kept (carriedOut s a k p e r)
-    unfolding carriedOut granted stopped out input read eval create fork mayCreate
+        (p : Process) (e : Evaluated) (r : Request) → granted (rowFor (nodeAt s a) p) r ≡ true → Kept (carriedOut s a k p e r)
+    unfolding carriedOut granted stopped out input read eval create fork rowFor mayCreate
     done-kept p e Request.Lack h = same-kept s _ f
     done-kept p e Request.Stop h = record { fenced = with-host s a k _ f }
     done-kept p e (Request.Out l q) h =

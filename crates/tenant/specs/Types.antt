@@ -13,6 +13,6 @@ pub use Rattle.net.specs.declared.network.Net.{Net}
 pub use Rattle.matching.specs.declared.template.Evaluated.{Evaluated}
 pub use Rattle.matching.specs.declared.template.Found.{Found}
 pub use Rattle.image.specs.declared.reader.Verdict.{Verdict}
-pub use Rattle.step.specs.declared.request.Request.{Request}
-pub use Rattle.step.specs.declared.answer.Answer.{Answer}
-pub use Rattle.step.specs.declared.answer.Picked.{Picked}
+pub use Rattle.plans.specs.declared.request.Request.{Request}
+pub use Rattle.plans.specs.declared.answer.Answer.{Answer}
+pub use Rattle.step.specs.declared.machine.Picked.{Picked}

@@ -1,5 +1,5 @@
 -- `exports::number_of` meets its contract. Assumes nothing.
-use Rattle.step.proofs.StepLaws.{by}
+use Rattle.plans.proofs.PlanLaws.{by}
 use Rattle.run.specs.Calls.{finishNumber}
 use borrow.Author.Needs.{needs}
 use Rattle.exports.proofs.number_of.Statement.{statement}

@@ -1,10 +1,11 @@
--- `run::run::make` meets its contract. Assumes nothing.
+-- `run::run::make` meets its contract: in what follows n is what is known after the call of `number_of`, t after that of
+-- `turn_of`, h after that of `host_of`, and test after the loop's test. Assumes nothing.
 use Prim.Native.Nat.{_-_, _≤_}
 use lib.ListN.{length}
 use mathlib.Core.Path.{_≡_, _∙_}
-use Rattle.net.specs.Records.{nodeAt, processAt}
-use Rattle.step.specs.Plan.{sentWithin, putBack}
-use Rattle.step.proofs.TurnLaws.{nothing-sent, put-is, put-nothing, drawn-is, turn-is}
+use Rattle.net.specs.Records.{nodeAt, instructionAt}
+use Rattle.step.specs.Turn.{planAt}
+use Rattle.step.proofs.TurnLaws.{turn-is, turn-at, put-is, put-nothing, unsent-as}
 use Rattle.run.specs.Making.{Making}
 use Rattle.run.proofs.RunLaws.{either, making-begin, making-turn, making-end}
 use borrow.Author.Needs.{needs}
@@ -18,7 +19,7 @@ abbrev μ-loop : tie.MeasureT-loop
 μ-loop picks answers₀ net₀ i₀ answers net i = length picks - i
 
 pub make-spec : {M : Type 1} → statement M
-unfolding nodeAt processAt
+unfolding nodeAt instructionAt planAt
 make-spec =
     tie.close
     (tie.spec
@@ -26,10 +27,8 @@ make-spec =
     μ-loop
     (λ c. search (needs, making-begin))
     (λ c. search needs)
-    (λ c κs. search needs)
-    (λ c κs. search needs)
     (λ c. search needs)
-    (λ c. search needs)
+    (λ c κs. search needs)
     (λ c. search needs)
     (λ c. search needs)
     (λ c. search needs)
@@ -41,38 +40,61 @@ make-spec =
     (λ c. search needs)
     (λ c. search needs)
     (λ c κs. search needs)
-    (λ c κs. search needs)
-    (λ c κs. search needs)
-    (λ c κs. search needs)
     (λ c. search needs)
     (λ c. search needs)
-    (λ c. let g = c .before .before .before .before .before .before .before .before .before .before .before .before .before .before .before .before .before .host-of .ensures in search needs)
-    (λ c. let g = c .before .before .before .before .before .before .before .before .before .before .before .before .before .before .before .before .before .host-of .ensures in search needs)
-    (λ c κs. search needs)
-    (λ c. let g = c .before .before .before .before .before .before .before .before .before .before .before .before .before .before .before .before .before .before .before .host-of .ensures in search needs)
-    (λ c. let g = c .before .before .before .before .before .before .before .before .before .before .before .before .before .before .before .before .before .before .before .host-of .ensures in search needs)
     (λ c κs. search needs)
     (λ c κs. search needs)
-    (λ c. let inv = c .before .before .before .before .before .before .before .before .before .before .before .before .before .before .before .before .before .before .before .before .loop .inv in let taken = c .before .before .before .before .before .before .before .before .before .before .before .before .before .before .before .before .before .before .before .loop-test .taken in let long = inv .0 .long in search needs)
-    (λ c. let inv = c .before .before .before .before .before .before .before .before .before .before .before .before .before .before .before .before .before .before .before .before .loop .inv in let taken = c .before .before .before .before .before .before .before .before .before .before .before .before .before .before .before .before .before .before .before .loop-test .taken in let good = c .before .before .before .before .before .before .before .before .before .before .before .before .before .before .before .before .before .before .before .before .before .before .before .good in search needs)
-    (λ c. let taken = c .before .before .before .before .before .before .before .before .before .before .before .before .before .before .before .before .before .before .before .loop-test .taken in search needs)
     (λ c.
-    let net = c .before .before .before .before .before .before .before .before .before .before .before .before .before .before .before .before .before .before .before .before .loop .net in
-    let inv = c .before .before .before .before .before .before .before .before .before .before .before .before .before .before .before .before .before .before .before .before .loop .inv in
-    let taken = c .before .before .before .before .before .before .before .before .before .before .before .before .before .before .before .before .before .before .before .loop-test .taken in
-    let host = c .before .before .before .before .before .before .before .before .before .before .before .before .before .before .before .before .before .host-of .ensures in
-    let slot = c .before .before .before .before .before .before .before .before .before .before .before .before .before .before .before .before .slot-of .ensures in
-    let index = c .before .before .before .before .before .before .before .before .before .before .before .before .index-of .ensures in
-    let turned = c .before .before .before .before .before .before .before .before .before .before .turn-of .ensures in
-    let turn = c .before .before .before .before .before .before .before .before .before .before .turn-of .result in
-    let sends = c .before .before .before .before .before .before .sends .ensures in
-    let within : c .before .before .before .before .before .if1 .within ≡ sentWithin (net .code) (nodeAt net (turn .target) .row) (turn .request) =
-    either (λ t. t .3 ∙ t .2 .ensures) (λ f. f .1 ∙ nothing-sent _ _ _ _ sends (f .0 .left)) (c .before .before .before .before .before .if1 .came) in
-    let changes = c .before .before .changes-net .ensures in
-    let after : c .before .if2 .net ≡ putBack net (c .before .before .before .before .before .before .before .before .before .before .before .before .before .before .before .before .before .host-of .result) (c .before .before .before .before .before .before .before .before .before .before .before .before .before .before .before .before .slot-of .result) (turn .target) (c .before .before .before .plan-of .result) =
-    either (λ t. t .5 ∙ put-is _ _ _ _ _ _ _ _ (t .0 .taken) changes (t .3 .ensures) (t .4 .ensures)) (λ f. f .1 ∙ put-nothing _ _ _ _ _ _ (f .0 .left) changes) (c .before .if2 .came) in
-    let made = turn-is _ _ _ _ _ _ _ _ (inv .0 .startable .shaped) (host .0) (slot .0) (host .1) index turned
-    (drawn-is _ _ _ _ _ _ _ within (c .before .before .before .plan-of .ensures)) after in
-    (making-turn _ _ _ _ _ _ _ _ _ (inv .0) taken made (c .number-of .ensures), inv .1))
+    let t = c .before .before .before .before in
+    let h = t .before .before .before .before .before in
+    let test = h .before .before in
+    search (needs, test .loop-test .taken, test .before .loop .inv .0 .long, test .before .loop .inv .1))
+    (λ c κs. search needs)
+    (λ c. search needs)
+    (λ c. search needs)
+    (λ c. search needs)
+    (λ c. search needs)
+    (λ c κs. search needs)
+    (λ c. search needs)
+    (λ c. search needs)
+    (λ c κs. search needs)
+    (λ c.
+    let n = c .before .before .before .before .before .before in
+    let t = n .before .before .before .before in
+    let h = t .before .before .before .before .before in
+    let test = h .before .before in
+    search (needs, test .loop-test .taken))
+    (λ c.
+    let n = c .before .before .before .before .before .before in
+    let t = n .before .before .before .before in
+    let h = t .before .before .before .before .before in
+    let test = h .before .before in
+    let net = test .before .loop .net in
+    let inv = test .before .loop .inv in
+    let turn = turn-at net _ _ _ _ (h .host-of .ensures .0) (t .before .before .seat-of .ensures .0) (t .turn-of .ensures .0) in
+    let plan : n .before .if1 .plan ≡ planAt net (t .turn-of .result) =
+    either (λ x. x .4 ∙ x .3 .ensures) (λ x. unsent-as net _ _ _ turn (x .0 .left) (x .3 ∙ x .2 .ensures)) (n .before .if1 .came) in
+    let after = put-is _ _ _ _ _ _ _ _ (h .host-of .ensures .0) (c .before .before .before .before .if2 .taken) (c .before .before .before .before .before .changes-net .ensures) (c .before .host-after .ensures) (c .count-after .ensures) in
+    let made = turn-is _ _ _ _ _ (inv .0 .startable .shaped) turn plan after in
+    (making-turn _ _ _ _ _ _ _ _ _ (inv .0) (test .loop-test .taken) made (n .number-of .ensures), inv .1))
+    (λ c.
+    let n = c .before .before in
+    let t = n .before .before .before .before in
+    let h = t .before .before .before .before .before in
+    let test = h .before .before in
+    search (needs, test .loop-test .taken))
+    (λ c.
+    let n = c .before .before in
+    let t = n .before .before .before .before in
+    let h = t .before .before .before .before .before in
+    let test = h .before .before in
+    let net = test .before .loop .net in
+    let inv = test .before .loop .inv in
+    let turn = turn-at net _ _ _ _ (h .host-of .ensures .0) (t .before .before .seat-of .ensures .0) (t .turn-of .ensures .0) in
+    let plan : n .before .if1 .plan ≡ planAt net (t .turn-of .result) =
+    either (λ x. x .4 ∙ x .3 .ensures) (λ x. unsent-as net _ _ _ turn (x .0 .left) (x .3 ∙ x .2 .ensures)) (n .before .if1 .came) in
+    let after = put-nothing _ _ _ _ _ (c .if2 .left) (c .before .changes-net .ensures) in
+    let made = turn-is _ _ _ _ _ (inv .0 .startable .shaped) turn plan after in
+    (making-turn _ _ _ _ _ _ _ _ _ (inv .0) (test .loop-test .taken) made (n .number-of .ensures), inv .1))
     (λ c. search needs)
     (λ c. search (needs, making-end)))

@@ -1,6 +1,6 @@
 -- `step::turn::changes_net` meets its contract. Assumes nothing.
-use Rattle.step.proofs.StepLaws.{by}
-use Rattle.step.specs.Plan.{changes}
+use Rattle.plans.proofs.PlanLaws.{by}
+use Rattle.step.specs.PutBack.{changes}
 use borrow.Author.Needs.{needs}
 use Rattle.step.proofs.turn.changes_net.Statement.{statement}
 use Rattle.step.proofs.turn.changes_net.Tie as tie

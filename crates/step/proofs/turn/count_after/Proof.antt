@@ -1,6 +1,6 @@
 -- `step::turn::count_after` meets its contract. Assumes nothing.
 use Rattle.net.proofs.Laws.{branches}
-use Rattle.step.specs.Plan.{countAfter}
+use Rattle.step.specs.PutBack.{countAfter}
 use borrow.Author.Needs.{needs}
 use Rattle.step.proofs.turn.count_after.Statement.{statement}
 use Rattle.step.proofs.turn.count_after.Tie as tie

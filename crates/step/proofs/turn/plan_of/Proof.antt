@@ -1,6 +1,4 @@
 -- `step::turn::plan_of` meets its contract. Assumes nothing.
-use Rattle.net.proofs.Laws.{if-call, if-not-call}
-use Rattle.step.proofs.TurnLaws.{refusing-as}
 use Rattle.step.specs.Turn.{turnPlan}
 use borrow.Author.Needs.{needs}
 use Rattle.step.proofs.turn.plan_of.Statement.{statement}
@@ -12,8 +10,4 @@ plan-of-spec =
     tie.close
     (tie.spec
     (λ c κs. search needs)
-    (λ c κs. search needs)
-    (λ c κs. search needs)
-    (λ c κs. search needs)
-    (λ c. search (needs, if-call, if-not-call, refusing-as))
-    (λ c. search (needs, if-call, if-not-call, refusing-as)))
+    (λ c. search needs))

@@ -1,6 +1,7 @@
 -- `step::turn::sent_within` meets its contract. Assumes nothing.
-use Rattle.step.proofs.StepLaws.{by3}
-use Rattle.step.specs.Plan.{sentWithin}
+use Rattle.plans.proofs.PlanLaws.{by4}
+use Rattle.step.proofs.TurnLaws.{within-as}
+use Rattle.step.specs.Turn.{sentWithin}
 use borrow.Author.Needs.{needs}
 use Rattle.step.proofs.turn.sent_within.Statement.{statement}
 use Rattle.step.proofs.turn.sent_within.Tie as tie
@@ -17,13 +18,15 @@ sent-within-spec =
     (λ c. search needs)
     (λ c. search needs)
     (λ c κs. search needs)
+    (λ c κs. search needs)
+    (λ c κs. search needs)
     (λ c. search needs)
     (λ c. search needs)
-    (λ c. search (needs, by3 sentWithin))
-    (λ c. search (needs, by3 sentWithin))
-    (λ c. search (needs, by3 sentWithin))
-    (λ c. search (needs, by3 sentWithin))
-    (λ c. search (needs, by3 sentWithin))
-    (λ c. search (needs, by3 sentWithin))
-    (λ c. search (needs, by3 sentWithin))
-    (λ c. search (needs, by3 sentWithin)))
+    (λ c. search (needs, by4 sentWithin, within-as))
+    (λ c. search (needs, by4 sentWithin, within-as))
+    (λ c. search (needs, by4 sentWithin, within-as))
+    (λ c. search (needs, by4 sentWithin, within-as))
+    (λ c. search (needs, by4 sentWithin, within-as))
+    (λ c. search (needs, by4 sentWithin, within-as))
+    (λ c. search (needs, by4 sentWithin, within-as))
+    (λ c. search (needs, by4 sentWithin, within-as)))

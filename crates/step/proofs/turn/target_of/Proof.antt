@@ -1,12 +1,14 @@
 -- `step::turn::target_of` meets its contract. Assumes nothing.
-use Rattle.step.specs.Plan.{targetIn}
-use Rattle.step.proofs.StepLaws.{by3}
+use Rattle.step.specs.Turn.{firstNear, targetIn}
+use Rattle.plans.specs.Request.{targets, isNew}
+use Rattle.net.specs.Choice.{choose}
+use Rattle.plans.proofs.PlanLaws.{by3}
 use borrow.Author.Needs.{needs}
 use Rattle.step.proofs.turn.target_of.Statement.{statement}
 use Rattle.step.proofs.turn.target_of.Tie as tie
 
 pub target-of-spec : {M : Type 1} → statement M
-unfolding targetIn
+unfolding targetIn firstNear targets isNew choose
 target-of-spec =
     tie.close
     (tie.spec

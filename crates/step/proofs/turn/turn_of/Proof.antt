@@ -1,5 +1,5 @@
 -- `step::turn::turn_of` meets its contract. Assumes nothing.
-use Rattle.step.proofs.TurnLaws.{turned-as}
+use Rattle.step.proofs.TurnLaws.{turned-as, low-as}
 use borrow.Author.Needs.{needs}
 use Rattle.step.proofs.turn.turn_of.Statement.{statement}
 use Rattle.step.proofs.turn.turn_of.Tie as tie
@@ -12,4 +12,5 @@ turn-of-spec =
     (λ c κs. search needs)
     (λ c κs. search needs)
     (λ c κs. search needs)
-    (λ c. search (needs, turned-as)))
+    (λ c κs. search needs)
+    (λ c. search (needs, turned-as, low-as)))

@@ -1,6 +1,6 @@
 -- `step::turn::unused_or` meets its contract. Assumes nothing.
 use Rattle.net.proofs.Laws.{branches}
-use Rattle.step.specs.Plan.{near}
+use Rattle.step.specs.Turn.{near}
 use borrow.Author.Needs.{needs}
 use Rattle.step.proofs.turn.unused_or.Statement.{statement}
 use Rattle.step.proofs.turn.unused_or.Tie as tie

@@ -1,0 +1,110 @@
+-- Laws by which the code of requests and plans meets its definitions. Assumes nothing.
+use Prim.Native.Nat.{ℕ}
+use mathlib.Core.Path.{_≡_, refl, sym, ap, _∙_}
+use mathlib.Core.Bool.{Bool, true, false}
+use lib.ListN.{getD}
+use lib.IntN.{ℤ}
+use Rattle.net.specs.Choice.{choose}
+use Rattle.net.specs.Records.{withField, withRights, withRow, withVariable, movedTo, copiedTo, putIn, startedOn, zeroNode}
+use Rattle.matching.specs.Matching.{wantAt}
+use Rattle.net.proofs.Laws.{choose-true, choose-false}
+use Rattle.matching.proofs.MatchingPromise.{matchingPromise as matching}
+use Rattle.plans.specs.Types.{Locality, Place, Value, Item, Tuple, Rights, Row, Process, Node, Changed, Want, Evaluated, Found, Matched}
+use Rattle.plans.specs.Answer.{Answer}
+use Rattle.plans.specs.Plan.{Plan, going, changing, opening}
+use Rattle.plans.specs.Additions.{itemOf, gaining}
+use Rattle.plans.specs.Request.{Aim, Request, at, spoken}
+
+-- ---- matches: the pattern y of an arm stands for the value x
+module _ {A R : Type 0} (f : A → R) where
+  pub by : (x y : A) (r : R) → x ≡ y → r ≡ f y → r ≡ f x
+  by x y r p q = rw p q
+
+-- ---- an out, an in or a read: its target counts where its template is defined
+pub spoken-at : (e : Evaluated) (aim x : Aim) (f : Locality → Request) (r : Request) → x ≡ choose (e .defined) aim Aim.Nowhere → r ≡ at x f
+    → r ≡ spoken e aim f
+unfolding spoken at
+spoken-at e aim x f r p q = q ∙ ap (λ (z : Aim). at z f) p ∙ go (e .defined)
+  where
+    go : (b : Bool) → at (choose b aim Aim.Nowhere) f ≡ choose b (at aim f) Request.Lack
+    go true = ap (λ (z : Aim). at z f) (choose-true true aim Aim.Nowhere refl) ∙ sym (choose-true true (at aim f) Request.Lack refl)
+    go false = ap (λ (z : Aim). at z f) (choose-false false aim Aim.Nowhere refl) ∙ sym (choose-false false (at aim f) Request.Lack refl)
+
+module _ {A B R : Type 0} (f : B → A → R) where
+  pub by2 : (b : B) (x y : A) (r : R) → x ≡ y → r ≡ f b y → r ≡ f b x
+  by2 b x y r p q = rw p q
+
+module _ {A B R : Type 0} (f : A → B → R) where
+  pub by-first : (x y : A) (b : B) (r : R) → x ≡ y → r ≡ f y b → r ≡ f x b
+  by-first x y b r p q = rw p q
+
+module _ {A B C R : Type 0} (f : B → C → A → R) where
+  pub by3 : (b : B) (c : C) (x y : A) (r : R) → x ≡ y → r ≡ f b c y → r ≡ f b c x
+  by3 b c x y r p q = rw p q
+
+module _ {A B C D R : Type 0} (f : B → C → D → A → R) where
+  pub by4 : (b : B) (c : C) (d : D) (x y : A) (r : R) → x ≡ y → r ≡ f b c d y → r ≡ f b c d x
+  by4 b c d x y r p q = rw p q
+
+module _ {A B C D R : Type 0} (f : B → C → A → D → R) where
+  pub by-third : (b : B) (c : C) (x y : A) (d : D) (r : R) → x ≡ y → r ≡ f b c y d → r ≡ f b c x d
+  by-third b c x y d r p q = rw p q
+
+module _ {A B C D E F G R : Type 0} (f : B → C → D → E → F → G → A → R) where
+  pub by7 : (b : B) (c : C) (d : D) (e : E) (g : F) (h : G) (x y : A) (r : R) → x ≡ y → r ≡ f b c d e g h y → r ≡ f b c d e g h x
+  by7 b c d e g h x y r p q = rw p q
+
+-- ---- requests
+pub at-as : (x y : Aim) (f : Locality → Request) (r : Request) → x ≡ y → r ≡ at x f → r ≡ at y f
+at-as x y f r p q = q ∙ ap (λ (z : Aim). at z f) p
+
+-- ---- plans
+-- a field of an out, read from its place in the template
+pub value-as :
+    (t u : Tuple) (e : Evaluated) (i : ℕ) (x : Item)
+    → x ≡ itemOf (getD (e .wants) i (record { want = Want.Exactly (Item.Reading (ℤ.pos 0)) }) .want)
+    → u ≡ withField t (record { item = x })
+    → u ≡ withField t (record { item = itemOf (wantAt e i) })
+value-as t u e i x p q =
+    q ∙ ap (λ (z : Item). withField t (record { item = z })) (p ∙ ap itemOf (sym (matching .reads e i)))
+
+-- what comes of a change at the target
+module _ (p p′ : Process) (refusal : Answer) (c c′ : Changed) (x : Plan) where
+  pub changing-as : p ≡ p′ → c ≡ c′ → x ≡ changing p refusal c → x ≡ changing p′ refusal c′
+  changing-as a b d = rw (← a, ← b) d
+
+pub going-as : (p p′ : Process) (y : Node) (x : Plan) → p ≡ p′ → x ≡ going p y → x ≡ going p′ y
+going-as p p′ y x a d = rw (← a) d
+
+module _ (f : Process → Node → Place → Found → Plan) where
+  pub matched-as : (y : Node) (q : Place) (m n : Matched) (x : Plan) → m ≡ n → x ≡ f (m .process) y q (m .found) → x ≡ f (n .process) y q (n .found)
+  matched-as y q m n x e d = d ∙ ap (λ (z : Matched). f (z .process) y q (z .found)) e
+
+module _ {A B C R : Type 0} (f : A → B → C → R) where
+  pub by-first3 : (x y : A) (b : B) (c : C) (r : R) → x ≡ y → r ≡ f y b c → r ≡ f x b c
+  by-first3 x y b c r p q = rw p q
+
+-- ---- straight lines: each value is what its call promises
+pub put-as : (p p′ : Process) (q : Place) (y : Node) (t u : Tuple) (c : Changed) (x : Plan)
+    → t ≡ u → c ≡ putIn y t → p′ ≡ movedTo p q → x ≡ changing p′ Answer.NoRoom c → x ≡ changing (movedTo p q) Answer.NoRoom (putIn y u)
+put-as p p′ q y t u c x a b d e = e ∙ ap (λ (z : Process). changing z Answer.NoRoom c) d ∙ ap (changing (movedTo p q) Answer.NoRoom) (b ∙ ap (putIn y) a)
+
+pub start-as : (p p′ r : Process) (sent q : Place) (y : Node) (c : Changed) (x : Plan)
+    → r ≡ copiedTo p sent → c ≡ startedOn y r → p′ ≡ movedTo p q → x ≡ changing p′ Answer.NoRoom c
+    → x ≡ changing (movedTo p q) Answer.NoRoom (startedOn y (copiedTo p sent))
+start-as p p′ r sent q y c x a b d e = e ∙ ap (λ (z : Process). changing z Answer.NoRoom c) d ∙ ap (changing (movedTo p q) Answer.NoRoom) (b ∙ ap (startedOn y) a)
+
+pub rights-as : (row x : Row) (l : Locality) (r s : Rights) → r ≡ s → x ≡ withRights row l r → x ≡ withRights row l s
+rights-as row x l r s a d = d ∙ ap (withRights row l) a
+
+pub moved-as : (p r x : Process) (q : Place) → p ≡ r → x ≡ movedTo p q → x ≡ movedTo r q
+moved-as p r x q a d = d ∙ ap (λ (z : Process). movedTo z q) a
+
+pub row-as : (x y z : Node) (r s : Row) → x ≡ y → r ≡ s → z ≡ withRow x r → z ≡ withRow y s
+row-as x y z r s a b d = d ∙ ap (λ (w : Node). withRow w r) a ∙ ap (withRow y) b
+
+pub opening-as : (row : Row) (p r : Process) (v : ℕ) (q : Place) (l : Locality) (y : Node)
+    → r ≡ movedTo (withVariable p v (Value.Address l)) q → y ≡ withRow zeroNode (gaining row l)
+    → _≡_ {A = Plan} (record { answer = Answer.Performed; process = r; target = y; opens = true }) (opening row p v q l)
+unfolding opening
+opening-as row p r v q l y a b = rw (a, b)

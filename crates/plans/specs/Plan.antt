@@ -1,0 +1,75 @@
+-- Describes the code, and is no part of what a reader has to believe: a step as a plan that is drawn from the few records
+-- that it concerns. The crate `step` shows that a plan put back into the net is the step of its `Pick.antt`.
+pub use Rattle.plans.specs.declared.plan.Plan.{Plan}
+use Prim.Native.Nat.{ℕ}
+use mathlib.Core.Bool.{Bool, true, false}
+use lib.Dec.{ltb}
+use Rattle.net.specs.Choice.{choose}
+use Rattle.net.specs.Records.{withRow, withVariable, movedTo, copiedTo}
+use Rattle.net.specs.Records.{putIn, takenFrom, startedOn, freeProcess, zeroNode, addressOf}
+use Rattle.matching.specs.Matching.{matchedOf}
+use Rattle.plans.specs.Types.{Locality, Place, Value, Tuple, Row, Process, Node, Changed, Evaluated, Found}
+use Rattle.plans.specs.Answer.{Answer}
+use Rattle.plans.specs.Request.{Request, granted}
+use Rattle.plans.specs.Additions.{tupleOf, gaining}
+
+-- ---- plans: in what follows p is the host's process, y the node at the target
+
+-- the process goes on, and y is the target's node
+unfoldable pub going : Process → Node → Plan
+going p y = record { answer = Answer.Performed; process = p; target = y; opens = false }
+
+-- nothing changes
+unfoldable pub refusing : Answer → Node → Plan
+refusing answer y = record { answer = answer; process = freeProcess; target = y; opens = false }
+
+-- what comes of a change at the target: the process goes on, or the change could not be made
+unfoldable pub changing : Process → Answer → Changed → Plan
+changing p refusal c = choose (c .done) (going p (c .node)) (refusing refusal (c .node))
+
+unfoldable pub stopPlan : Node → Plan
+stopPlan y = record { answer = Answer.Ended; process = freeProcess; target = y; opens = false }
+
+unfoldable pub outPlan : Process → Node → Place → Tuple → Plan
+outPlan p y q t = changing (movedTo p q) Answer.NoRoom (putIn y t)
+
+unfoldable pub inPlan : Process → Node → Place → Found → Plan
+inPlan p y q (Found.At i) = changing (movedTo p q) Answer.NoTuple (takenFrom y i)
+inPlan p y q Found.Nothing = refusing Answer.NoTuple y
+
+unfoldable pub readPlan : Process → Node → Place → Found → Plan
+readPlan p y q (Found.At i) = going (movedTo p q) y
+readPlan p y q Found.Nothing = refusing Answer.NoTuple y
+
+unfoldable pub startPlan : Process → Node → Place → Place → Plan
+startPlan p y sent q = changing (movedTo p q) Answer.NoRoom (startedOn y (copiedTo p sent))
+
+unfoldable pub evalPlan : Process → Node → Place → Place → Bool → Plan
+evalPlan p y sent q within = choose within (startPlan p y sent q) (refusing Answer.NotWithin y)
+
+-- a new address l, opened by a process under a row
+unfoldable pub opening : Row → Process → ℕ → Place → Locality → Plan
+opening row p v q l = record {
+  answer = Answer.Performed;
+  process = movedTo (withVariable p v (Value.Address l)) q;
+  target = withRow zeroNode (gaining row l);
+  opens = true;
+}
+
+unfoldable pub newPlan : Row → Process → Node → ℕ → Place → ℕ → Plan
+newPlan row p y v q n = choose (ltb n 16) (opening row p v q (addressOf n)) (refusing Answer.NoRoom y)
+
+-- the plan of a request: n is the address count, `within` whether sent code keeps within y's row
+unfoldable pub grantedPlan : Row → Process → Node → Evaluated → ℕ → Bool → Request → Plan
+grantedPlan row p y e n within Request.Lack = refusing Answer.NotSet y
+grantedPlan row p y e n within Request.Stop = stopPlan y
+grantedPlan row p y e n within (Request.Out l q) = outPlan p y q (tupleOf e)
+grantedPlan row p y e n within (Request.In l q) = inPlan (matchedOf p y e .process) y q (matchedOf p y e .found)
+grantedPlan row p y e n within (Request.Read l q) = readPlan (matchedOf p y e .process) y q (matchedOf p y e .found)
+grantedPlan row p y e n within (Request.Eval l sent q) = evalPlan p y sent q within
+grantedPlan row p y e n within (Request.New v q) = newPlan row p y v q n
+grantedPlan row p y e n within (Request.Fork q q′) = startPlan p y q′ q
+
+unfoldable pub planOf : Row → Process → Node → Evaluated → ℕ → Bool → Request → Plan
+planOf row p y e n within req =
+    choose (granted row req) (grantedPlan row p y e n within req) (refusing Answer.NoRight y)
