@@ -6,7 +6,7 @@ use mathlib.Core.Bool.{Bool, true, false}
 use mathlib.Core.List.{List, _++_}
 use native.Mathlib.Omega.{arith}
 use lib.ListN.{length, replicate, length-append, length-replicate, getD-replicate}
-use borrow.Author.Tests.{eq-eqb, lt-ltb}
+use borrow.Author.Tests.{eq-eqb}
 use Rattle.net.specs.Choice.{choose, both, implies, all, fold}
 use Rattle.net.specs.Records.{startingAt, zeroField, unsetVariable, allRights, zeroTemplateField, addressOf, placeOf}
 use Rattle.net.specs.Records.{fieldAt, variableAt, rightsAt, processAt, tupleAt, patternAt, nodeAt, instructionAt}
@@ -25,7 +25,7 @@ use Rattle.written.specs.ImageOf.{codeBits, netBits, imageOf}
 use Rattle.written.specs.Fresh.{readingFits, itemFits, patternFits, tupleFits, processFits, nodeFits, instructionFits}
 use Rattle.written.specs.Fresh.{netFits, slotStarts, nodeStarts, freshOf}
 use Rattle.written.specs.WrittenClaims.{Bytes, LongestIsReached}
-use Rattle.net.proofs.Laws.{both-i, implies-i, choose-true, all-i}
+use Rattle.net.proofs.Laws.{both-i, implies-i, all-i}
 use Rattle.net.proofs.Every.{every-replicate}
 use Rattle.sound.proofs.NodeFacts.{node-apart}
 use Rattle.sound.proofs.CodeFacts.{instruction-apart}
