@@ -2,12 +2,10 @@
 -- a field judged by rules 26 and 27 when it is read keeps them, since no later field changes what stands before it.
 -- Assumes nothing.
 use Prim.Native.Nat.{ℕ, suc, _+_, _<_, _≤_}
-use mathlib.Core.Path.{_≡_, refl, sym, ap, subst}
+use mathlib.Core.Path.{_≡_, refl, ap}
 use mathlib.Core.Bool.{Bool, true, false, not}
-use mathlib.Core.Logic.{_⊎_, inl, inr}
 use native.Mathlib.Omega.{arith}
-use lib.ListN.{length, set}
-use lib.Seq.{getD-set-same, getD-set-other}
+use lib.ListN.{length}
 use lib.Dec.{ltb}
 use borrow.Author.Tests.{ltb-true, lt-ltb}
 use Rattle.net.specs.Choice.{implies}
@@ -20,7 +18,7 @@ use Rattle.instructions.specs.Instruction.{communication, evaluation, creation,
 use Rattle.net.proofs.Laws.{implies-e, split}
 use Rattle.net.proofs.Every.{chosen-lt, every-replicate, filled-add}
 use Rattle.net.proofs.Past.{pastTemplate}
-use Rattle.sound.proofs.FormalLaws.{anew-as}
+use Rattle.sound.proofs.FormalLaws.{anew-as, each-put, anew-put}
 use Rattle.sound.proofs.CodeFacts.{PatternsOk, TemplateOk, AtEach, Acts, InstructionOk}
 use Rattle.accepted.proofs.Gives.{Gives, gives-pure, gives-weaken, gives-then, gives-and, gives-each, gives-last}
 use Rattle.accepted.proofs.Gives.{gives-first, gives-require, gives-field, gives-bits}
@@ -114,48 +112,19 @@ no-pattern formals n = record {
   anew = λ j l. absurd (omega arith);
 }
 
--- a field is added at the count: what was so of each field stays so
-added : Instruction → TemplateField → Instruction
-added c f = record { action = c .action; count = c .count + 1; template = set (c .template) (c .count) f }
-
-module _ (c : Instruction) (f : TemplateField) (room : c .count < length (c .template)) where
-  below-added : (j : ℕ) → j < c .count → patternAt c j ≡ patternAt (added c f) j
-  unfolding added patternAt
-  below-added j h =
-      ap (λ (t : TemplateField). t .pattern)
-      (sym (getD-set-other (c .template) (c .count) j f pastTemplate (omega arith)))
-
-  at-added : f .pattern ≡ patternAt (added c f) (c .count)
-  unfolding added patternAt
-  at-added = ap (λ (t : TemplateField). t .pattern) (sym (getD-set-same (c .template) (c .count) f pastTemplate room))
-
-  each-added : (P : ℕ → Pattern → Type 0) → AtEach P c → P (c .count) (f .pattern) → AtEach P (added c f)
-  unfolding added
-  each-added P h p j l = go j (split j (c .count) (omega arith))
-    where
-      go : (j : ℕ) → (j < c .count) ⊎ (j ≡ c .count) → P j (patternAt (added c f) j)
-      go j (inl g) = subst (P j) (below-added j g) (h j g)
-      go j (inr e) = subst (λ (i : ℕ). P i (patternAt (added c f) i)) (sym e) (subst (P (c .count)) at-added p)
-
-  anew-added :
-      AtEach (λ j x. bindsAnew c j x ≡ true) c → bindsAnew c (c .count) (f .pattern) ≡ true
-      → AtEach (λ j x. bindsAnew (added c f) j x ≡ true) (added c f)
-  unfolding added
-  anew-added h p j l =
-      anew-as c (added c f) j (λ i g. below-added i (omega arith)) _ (each-added (λ i x. bindsAnew c i x ≡ true) h p j l)
-
 module _ (formals : Bool) (n i : ℕ) (c : Instruction) where
   next-pattern :
       (f : TemplateField) → i < 4 → Drafted formals n i c → SuitsNext formals n c (f .pattern)
       → Drafted formals n (suc i) (withPattern c f)
-  unfolding withPattern added
+  unfolding withPattern
   next-pattern f h ok s =
       chosen-lt (Drafted formals n (suc i)) (c .count) 4 _ _
       (λ l. let room : c .count < length (c .template) = omega (arith, ok .patterns-ok .size-is) in record {
         count-is = omega (arith, ok .count-is);
         patterns-ok = filled-add f (s .pattern-sound) (ok .patterns-ok);
-        actual = λ e. each-added c f room (λ j x. isActual x ≡ true) (ok .actual e) (s .actual e);
-        anew = anew-added c f room (ok .anew) (s .anew);
+        actual = λ e j g.
+            each-put c (c .count) _ f room (λ m x. isActual x ≡ true) (ok .actual e) (s .actual e) j (omega arith);
+        anew = λ j g. anew-put c (c .count) _ f room (ok .anew) (s .anew) j (omega arith);
       })
       (λ l. absurd (omega (arith, ok .count-is)))
 
@@ -208,15 +177,15 @@ module _ (n k : ℕ) where
 
   out-ok : Communicates Action.Out false
   unfolding Communicates withAction Acts
-  out-ok t p c e h ok = (e, h, record { template-ok = ok .template-ok; actual = ok .actual refl })
+  out-ok t p c e h ok = (e, h, record { template-ok = ok .template-ok; each = ok .actual refl })
 
   in-ok : Communicates Action.In true
   unfolding Communicates withAction Acts
-  in-ok t p c e h ok = (e, h, record { template-ok = ok .template-ok; anew = ok .anew })
+  in-ok t p c e h ok = (e, h, record { template-ok = ok .template-ok; each = ok .anew })
 
   read-ok : Communicates Action.Read true
   unfolding Communicates withAction Acts
-  read-ok t p c e h ok = (e, h, record { template-ok = ok .template-ok; anew = ok .anew })
+  read-ok t p c e h ok = (e, h, record { template-ok = ok .template-ok; each = ok .anew })
 
   gives-communication :
       (make : Target → Place → Action) (formals : Bool) → Communicates make formals

@@ -3,11 +3,11 @@
 -- Assumes nothing.
 use Prim.Native.Nat.{ℕ, _<_, _≤_}
 use mathlib.Core.Path.{_≡_, refl}
-use mathlib.Core.Bool.{true}
+use mathlib.Core.Bool.{Bool, true}
 use native.Mathlib.Omega.{arith}
 use lib.Dec.{ltb}
 use borrow.Author.Tests.{ltb-true, lt-ltb}
-use Rattle.net.specs.Choice.{both, inRange}
+use Rattle.net.specs.Choice.{both, implies, inRange, all}
 use Rattle.net.specs.Records.{zeroTemplateField, zeroInstruction, patternAt, withAction}
 use Rattle.net.specs.Shape.{ShapedInstruction}
 use Rattle.sound.specs.Types.{Pattern, Action, Instruction}
@@ -36,14 +36,17 @@ pub record TemplateOk (n : ℕ) (c : Instruction) : Type 0 where
 abbrev pub AtEach : (ℕ → Pattern → Type 0) → Instruction → Type 0
 AtEach P c = (i : ℕ) → i < c .count → P i (patternAt c i)
 
--- rule 26, and rule 27
-pub record OutTemplate (n : ℕ) (c : Instruction) : Type 0 where
+-- with a test that each field passes
+pub record Tested (test : ℕ → Pattern → Bool) (n : ℕ) (c : Instruction) : Type 0 where
   pub template-ok : TemplateOk n c
-  pub actual : AtEach (λ i x. isActual x ≡ true) c
+  pub each : AtEach (λ i x. test i x ≡ true) c
 
-pub record InTemplate (n : ℕ) (c : Instruction) : Type 0 where
-  pub template-ok : TemplateOk n c
-  pub anew : AtEach (λ i x. bindsAnew c i x ≡ true) c
+-- rule 26, and rule 27
+abbrev pub OutTemplate : ℕ → Instruction → Type 0
+OutTemplate n c = Tested (λ i. isActual) n c
+
+abbrev pub InTemplate : ℕ → Instruction → Type 0
+InTemplate n c = Tested (bindsAnew c) n c
 
 -- no template: the instruction is its action
 abbrev pub Bare : Instruction → Type 0
@@ -67,39 +70,26 @@ module _ (n : ℕ) (c : Instruction) where
       (filled-all (λ f. patternSound n (f .pattern)) (λ f. isZeroPattern (f .pattern)) (ok .patterns-ok) (λ f e. e)
       (λ f. zeroIsZero .templateField f .1))
 
-  out-apart : ShapedInstruction c → both (templateSound n c) (actualsOnly c) ≡ true → OutTemplate n c
-  unfolding actualsOnly
-  out-apart shape h =
-      let ok = template-apart shape (both-l _ _ h) in
-      record {
-        template-ok = ok;
-        actual = λ i l.
-            implies-e (ltb i (c .count)) _ (all-e 4 _ (both-r (templateSound n c) _ h) i (omega (arith, ok .most)))
-            (lt-ltb i (c .count) l);
-      }
+  module _ (test : ℕ → Pattern → Bool) where
+    tested-apart :
+        ShapedInstruction c
+        → both (templateSound n c) (all 4 (λ i. implies (ltb i (c .count)) (test i (patternAt c i)))) ≡ true
+        → Tested test n c
+    tested-apart shape h =
+        let ok = template-apart shape (both-l _ _ h) in
+        record {
+          template-ok = ok;
+          each = λ i l.
+              implies-e (ltb i (c .count)) _ (all-e 4 _ (both-r (templateSound n c) _ h) i (omega (arith, ok .most)))
+              (lt-ltb i (c .count) l);
+        }
 
-  out-sound : OutTemplate n c → both (templateSound n c) (actualsOnly c) ≡ true
-  unfolding actualsOnly
-  out-sound ok =
-      both-i _ _ (template-sound (ok .template-ok))
-      (all-i 4 _ (λ i h. implies-i (ltb i (c .count)) _ (λ e. ok .actual i (ltb-true i (c .count) e))))
-
-  in-apart : ShapedInstruction c → both (templateSound n c) (formalsApart c) ≡ true → InTemplate n c
-  unfolding formalsApart
-  in-apart shape h =
-      let ok = template-apart shape (both-l _ _ h) in
-      record {
-        template-ok = ok;
-        anew = λ i l.
-            implies-e (ltb i (c .count)) _ (all-e 4 _ (both-r (templateSound n c) _ h) i (omega (arith, ok .most)))
-            (lt-ltb i (c .count) l);
-      }
-
-  in-sound : InTemplate n c → both (templateSound n c) (formalsApart c) ≡ true
-  unfolding formalsApart
-  in-sound ok =
-      both-i _ _ (template-sound (ok .template-ok))
-      (all-i 4 _ (λ i h. implies-i (ltb i (c .count)) _ (λ e. ok .anew i (ltb-true i (c .count) e))))
+    tested-sound :
+        Tested test n c
+        → both (templateSound n c) (all 4 (λ i. implies (ltb i (c .count)) (test i (patternAt c i)))) ≡ true
+    tested-sound ok =
+        both-i _ _ (template-sound (ok .template-ok))
+        (all-i 4 _ (λ i h. implies-i (ltb i (c .count)) _ (λ e. ok .each i (ltb-true i (c .count) e))))
 
 -- ---- an action, and the template that goes with it
 unfoldable pub Acts : ℕ → ℕ → Action → Instruction → Type 0
@@ -117,14 +107,14 @@ InstructionOk n k c = Acts n k (c .action) c
 module _ (n k : ℕ) (c : Instruction) where
   acts-apart :
       (a : Action) → ShapedInstruction c → actionSound n k a ≡ true → templateFor n a c ≡ true → Acts n k a c
-  unfolding actionSound templateFor Acts
+  unfolding actionSound templateFor actualsOnly formalsApart Acts
   acts-apart Action.Stop shape h t = zeroIsZero .template c shape .0 t
   acts-apart (Action.Out to p) shape h t =
-      (both-l _ _ h, ltb-true _ _ (both-r (targetSound n to) _ h), out-apart n c shape t)
+      (both-l _ _ h, ltb-true _ _ (both-r (targetSound n to) _ h), tested-apart n c (λ i. isActual) shape t)
   acts-apart (Action.In to p) shape h t =
-      (both-l _ _ h, ltb-true _ _ (both-r (targetSound n to) _ h), in-apart n c shape t)
+      (both-l _ _ h, ltb-true _ _ (both-r (targetSound n to) _ h), tested-apart n c (bindsAnew c) shape t)
   acts-apart (Action.Read to p) shape h t =
-      (both-l _ _ h, ltb-true _ _ (both-r (targetSound n to) _ h), in-apart n c shape t)
+      (both-l _ _ h, ltb-true _ _ (both-r (targetSound n to) _ h), tested-apart n c (bindsAnew c) shape t)
   acts-apart (Action.Eval to sent p) shape h t =
       let g = both-r (targetSound n to) _ h in (
         both-l _ _ h,
@@ -141,11 +131,11 @@ module _ (n k : ℕ) (c : Instruction) where
   bare-sound e = of-zero (λ b. noTemplate b ≡ true) (no-template-passes (c .action)) c e
 
   acts-sound : (a : Action) → Acts n k a c → both (actionSound n k a) (templateFor n a c) ≡ true
-  unfolding actionSound templateFor Acts
+  unfolding actionSound templateFor actualsOnly formalsApart Acts
   acts-sound Action.Stop b = both-i _ _ refl (bare-sound b)
-  acts-sound (Action.Out to p) (t, h, ok) = both-i _ _ (both-i _ _ t (lt-ltb _ _ h)) (out-sound n c ok)
-  acts-sound (Action.In to p) (t, h, ok) = both-i _ _ (both-i _ _ t (lt-ltb _ _ h)) (in-sound n c ok)
-  acts-sound (Action.Read to p) (t, h, ok) = both-i _ _ (both-i _ _ t (lt-ltb _ _ h)) (in-sound n c ok)
+  acts-sound (Action.Out to p) (t, h, ok) = both-i _ _ (both-i _ _ t (lt-ltb _ _ h)) (tested-sound n c (λ i. isActual) ok)
+  acts-sound (Action.In to p) (t, h, ok) = both-i _ _ (both-i _ _ t (lt-ltb _ _ h)) (tested-sound n c (bindsAnew c) ok)
+  acts-sound (Action.Read to p) (t, h, ok) = both-i _ _ (both-i _ _ t (lt-ltb _ _ h)) (tested-sound n c (bindsAnew c) ok)
   acts-sound (Action.Eval to sent p) (t, g, h, b) =
       both-i _ _ (both-i _ _ t (both-i _ _ (lt-ltb _ _ g) (lt-ltb _ _ h))) (bare-sound b)
   acts-sound (Action.New v p) (g, h, b) = both-i _ _ (both-i _ _ (lt-ltb _ _ g) (lt-ltb _ _ h)) (bare-sound b)

@@ -2,7 +2,7 @@
 -- Assumes nothing.
 use Prim.Native.Nat.{ℕ, _≤_}
 use mathlib.Core.Path.{_≡_, refl}
-use mathlib.Core.Bool.{true}
+use mathlib.Core.Bool.{Bool, true}
 use native.Mathlib.Omega.{arith}
 use lib.Dec.{ltb}
 use borrow.Author.Tests.{ltb-true, lt-ltb}
@@ -10,7 +10,7 @@ use Rattle.sound.specs.Types.{Value, Item, Tuple, Process, Node, Target,
 use Rattle.sound.specs.Soundness.{itemSound, valueSound, targetSound, patternSound}
 use Rattle.net.proofs.Every.{every-weaken, filled-map}
 use Rattle.sound.proofs.NodeFacts.{TupleOk, Running, ProcessOk, NodeOk}
-use Rattle.sound.proofs.CodeFacts.{TemplateOk, OutTemplate, InTemplate, Acts, InstructionOk}
+use Rattle.sound.proofs.CodeFacts.{TemplateOk, Tested, Acts, InstructionOk}
 
 module _ (m n : ℕ) (l : m ≤ n) where
   below-more : (a : ℕ) → ltb a m ≡ true → ltb a n ≡ true
@@ -76,18 +76,15 @@ module _ (m n : ℕ) (l : m ≤ n) where
     patterns-ok = filled-map (λ f. pattern-more (f .pattern)) (λ f e. e) (ok .patterns-ok);
   }
 
-  out-more : (c : Instruction) → OutTemplate m c → OutTemplate n c
-  out-more c ok = record { template-ok = template-more c (ok .template-ok); actual = ok .actual }
-
-  in-more : (c : Instruction) → InTemplate m c → InTemplate n c
-  in-more c ok = record { template-ok = template-more c (ok .template-ok); anew = ok .anew }
+  tested-more : (test : ℕ → Pattern → Bool) (c : Instruction) → Tested test m c → Tested test n c
+  tested-more test c ok = record { template-ok = template-more c (ok .template-ok); each = ok .each }
 
   acts-more : (k : ℕ) (c : Instruction) (a : Action) → Acts m k a c → Acts n k a c
   unfolding Acts
   acts-more k c Action.Stop b = b
-  acts-more k c (Action.Out t p) (e, h, ok) = (target-more t e, h, out-more c ok)
-  acts-more k c (Action.In t p) (e, h, ok) = (target-more t e, h, in-more c ok)
-  acts-more k c (Action.Read t p) (e, h, ok) = (target-more t e, h, in-more c ok)
+  acts-more k c (Action.Out t p) (e, h, ok) = (target-more t e, h, tested-more _ c ok)
+  acts-more k c (Action.In t p) (e, h, ok) = (target-more t e, h, tested-more _ c ok)
+  acts-more k c (Action.Read t p) (e, h, ok) = (target-more t e, h, tested-more _ c ok)
   acts-more k c (Action.Eval t sent p) (e, g, h, b) = (target-more t e, g, h, b)
   acts-more k c (Action.New v p) ok = ok
   acts-more k c (Action.Fork p q) ok = ok

@@ -1,7 +1,7 @@
 -- What keeps a net sound (`NetFacts.antt`): a node or an instruction set anew, of a net that begins as the empty net.
 -- Assumes nothing.
 use Prim.Native.Nat.{ℕ, _<_, _≤_}
-use mathlib.Core.Path.{_≡_, refl}
+use mathlib.Core.Path.{refl}
 use native.Mathlib.Omega.{arith}
 use Rattle.net.specs.Records.{zeroNode, zeroInstruction, emptyNet, nodeAt, instructionAt, withAction}
 use Rattle.net.specs.Records.{withNode, withInstruction, withCounts}

@@ -7,7 +7,7 @@ use mathlib.Core.Path.{_≡_, refl, sym, subst}
 use mathlib.Core.Bool.{Bool, true, false}
 use lib.Dec.{leb, ltb}
 use borrow.Author.Tests.{ltb-true, leb-true, lt-ltb, le-leb}
-use Rattle.net.specs.Choice.{both, inRange, all}
+use Rattle.net.specs.Choice.{inRange, all}
 use Rattle.net.specs.Records.{fieldAt, variableAt, rightsAt, processAt, tupleAt}
 use Rattle.net.specs.Records.{zeroField, zeroTuple, freeProcess, noRights}
 use Rattle.net.specs.Shape.{ShapedTuple, ShapedProcess, ShapedNode}

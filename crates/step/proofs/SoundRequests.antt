@@ -19,7 +19,8 @@ use Rattle.sound.proofs.NodeChanges.{Filling, no-field, next-field, all-fields}
 use Rattle.sound.proofs.CodeFacts.{TemplateOk, template-sound, Acts, InstructionOk}
 use Rattle.step.specs.Types.{Locality, Value, Item, Field, Tuple, Process, Target}
 use Rattle.step.specs.Types.{Action, Instruction, Want, Evaluated}
-use Rattle.plans.specs.Request.{Aim, Request, aimOf, targetOf, at, spoken, asked, requestOf}
+use Rattle.step.specs.Types.{Aim, Request}
+use Rattle.plans.specs.Request.{aimOf, targetOf, at, spoken, asked, requestOf}
 use Rattle.plans.specs.Additions.{itemOf, tupleOf}
 
 -- ---- items and values

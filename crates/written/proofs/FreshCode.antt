@@ -1,7 +1,7 @@
 -- A sound instruction (`CodeFacts.antt` of `sound`) that passes the tests of `specs/Fresh.antt` is one that an image can
 -- write (`WrittenCode.antt`).
 -- Assumes nothing.
-use Prim.Native.Nat.{ℕ, _<_}
+use Prim.Native.Nat.{ℕ}
 use mathlib.Core.Path.{_≡_, refl, sym, ap, _∙_}
 use mathlib.Core.Bool.{Bool, true, false, not}
 use native.Mathlib.Omega.{arith}
@@ -45,11 +45,11 @@ module _ (n k : ℕ) (c : Instruction) (f : instructionFits c ≡ true) where
   out-template : sound.OutTemplate n c → TemplateOk false n (withAction c Action.Stop)
   unfolding implies
   out-template ok =
-      template-ok false (ok .template-ok) (ok .actual) (λ i l. actual-anew c i (patternAt c i) (ok .actual i l))
+      template-ok false (ok .template-ok) (ok .each) (λ i l. actual-anew c i (patternAt c i) (ok .each i l))
 
   in-template : sound.InTemplate n c → TemplateOk true n (withAction c Action.Stop)
   unfolding implies
-  in-template ok = template-ok true (ok .template-ok) (λ i l. refl) (ok .anew)
+  in-template ok = template-ok true (ok .template-ok) (λ i l. refl) (ok .each)
 
   -- an instruction is its template with its action, and one without a template its action
   remade : (a : Action) → c .action ≡ a → withAction (withAction c Action.Stop) a ≡ c

@@ -4,13 +4,11 @@ use Prim.Native.Nat.{ℕ, suc, _+_, _-_, _<_, _≤_}
 use mathlib.Core.Path.{_≡_, refl, sym, ap, subst, _∙_}
 use mathlib.Core.Bool.{Bool, true}
 use mathlib.Core.List.{List, _++_}
-use mathlib.Core.Logic.{_⊎_, inl, inr}
 use native.Mathlib.Omega.{arith}
 use lib.ListN.{length, getD, set, replicate, length-replicate, getD-replicate}
-use lib.Seq.{getD-set-same, getD-set-other, set-getD, set-set}
-use lib.Dec.{ltb}
-use borrow.Author.Tests.{ltb-true, lt-ltb}
-use Rattle.written.specs.Types.{Pattern, TemplateField, Action, Instruction}
+use lib.Seq.{set-getD, set-set}
+use borrow.Author.Tests.{lt-ltb}
+use Rattle.written.specs.Types.{TemplateField, Action, Instruction}
 use Rattle.net.specs.Records.{zeroTemplateField, zeroInstruction, patternAt, withPattern}
 use Rattle.sound.specs.Soundness.{bindsAnew}
 use Rattle.instructions.specs.Instruction.{templateField, template}
@@ -19,7 +17,7 @@ use Rattle.text.specs.Joined.{joined}
 use Rattle.net.proofs.Laws.{choose-true, split}
 use Rattle.net.proofs.Every.{Every, Filled}
 use Rattle.net.proofs.Past.{pastTemplate}
-use Rattle.sound.proofs.FormalLaws.{anew-as}
+use Rattle.sound.proofs.FormalLaws.{anew-below, anew-cut, anew-put}
 use Rattle.written.proofs.ReadsWrites.{Reads, reads-then, reads-bits}
 use Rattle.written.proofs.ReadsCells.{Arrayed, Through, Filling, reads-turn, reads-cells, rewritten-filled, filled-rewritten}
 use Rattle.written.proofs.WrittenPatterns.{PatternOk, reads-pattern}
@@ -60,48 +58,25 @@ put-pattern c i f h e =
     ∙ ap (λ (k : ℕ). record { action = c .action; count = suc i; template = set (c .template) k f }) (sym e)
 
 module _ (c : Instruction) (i : ℕ) (f : TemplateField) where
-  other-pattern : (k j : ℕ) → j < i
-      → patternAt c j ≡ patternAt (record { action = c .action; count = k; template = set (c .template) i f }) j
-  unfolding patternAt
-  other-pattern k j l =
-      ap (λ (y : TemplateField). y .pattern) (sym (getD-set-other (c .template) i j f pastTemplate (λ e. omega arith)))
-
-  this-pattern : i < length (c .template) → f .pattern ≡ patternAt (longer i c f) i
-  unfolding patternAt longer
-  this-pattern l = ap (λ (y : TemplateField). y .pattern) (sym (getD-set-same (c .template) i f pastTemplate l))
-
-  -- what held of an earlier field still holds, with i or i + 1 fields
-  anew-kept : (k j : ℕ) → j < i → bindsAnew c j (patternAt c j) ≡ true
-      → (b : Instruction) → b ≡ record { action = c .action; count = k; template = set (c .template) i f }
-      → bindsAnew b j (patternAt b j) ≡ true
-  anew-kept k j l h b q =
-      let same : (m : ℕ) → m < i → patternAt c m ≡ patternAt b m =
-      λ m g. other-pattern k m g ∙ ap (λ (y : Instruction). patternAt y m) (sym q) in
-      anew-as c b j (λ m g. same m (omega arith)) (patternAt b j)
-      (ap (bindsAnew c j) (sym (same j l)) ∙ h)
-
   longer-drafted : i < length (c .template) → Drafted i c → bindsAnew c i (f .pattern) ≡ true → Drafted (suc i) (longer i c f)
   unfolding longer
-  longer-drafted h d x = record { action-is = d .action-is; count-is = refl; anew = λ j l. go j (split j i l) }
-    where
-      go : (j : ℕ) → (j < i) ⊎ (j ≡ i) → bindsAnew (longer i c f) j (patternAt (longer i c f) j) ≡ true
-      go j (inl l) = anew-kept (suc i) j l (d .anew j l) (longer i c f) refl
-      go j (inr e) =
-          subst (λ (m : ℕ). bindsAnew (longer i c f) m (patternAt (longer i c f) m) ≡ true) (sym e)
-          (anew-as c (longer i c f) i (λ m g. other-pattern (suc i) m g) _
-          (ap (bindsAnew c i) (sym (this-pattern h)) ∙ x))
+  longer-drafted h d x = record {
+    action-is = d .action-is;
+    count-is = refl;
+    anew = λ j l. anew-put c i (suc i) f h (d .anew) x j (omega arith);
+  }
 
   cut-drafted : Drafted (suc i) c → Drafted i (cutPattern i c f)
   unfolding cutPattern
   cut-drafted d = record {
     action-is = d .action-is;
     count-is = refl;
-    anew = λ j l. anew-kept i j l (d .anew j (omega arith)) (cutPattern i c f) refl;
+    anew = λ j l. anew-cut c i i f j l (d .anew j (omega arith));
   }
 
   cut-anew : Drafted (suc i) c → bindsAnew (cutPattern i c f) i (patternAt c i) ≡ true
   unfolding cutPattern
-  cut-anew d = anew-as c (cutPattern i c f) i (λ j l. other-pattern i j l) (patternAt c i) (d .anew i (omega arith))
+  cut-anew d = anew-below c i i f i (patternAt c i) (omega arith) (d .anew i (omega arith))
 
   pattern-cut : i < 4 → Drafted (suc i) c → withPattern (cutPattern i c f) (getD (c .template) i pastTemplate) ≡ c
   unfolding cutPattern longer
