@@ -9,9 +9,9 @@ use files::say;
 use image::reader::LONGEST_IMAGE;
 use image::reader::read_image;
 use net::network::Net;
+use plans::answer::Answer;
 use registers::register::Registered;
 use registers::register::register;
-use plans::answer::Answer;
 use step::machine::Machine;
 ghost use Prim.Native.Nat.{_≤_};
 

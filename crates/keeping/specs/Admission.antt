@@ -4,17 +4,17 @@ use mathlib.Core.Bool.{Bool}
 use mathlib.Core.List.{List}
 use lib.Dec.{ltb}
 use Rattle.net.specs.Choice.{implies, all}
-use Rattle.net.specs.Records.{processAt, nodeAt, addressOf}
-use Rattle.keeping.specs.Types.{Locality, Row, Instruction, Process, Node, Net}
+use Rattle.net.specs.Records.{processAt, rowFor, nodeAt, addressOf}
+use Rattle.keeping.specs.Types.{Locality, Instruction, Process, Node, Net}
 use Rattle.keeping.specs.Keeping.{keepsOf}
 
--- a process of address a keeps within its row r
-unfoldable pub admitsProcess : List Instruction → Row → Locality → Process → Bool
-admitsProcess code r a p = implies (p .busy) (keepsOf code (p .at) a r)
+-- a process of the node x at address a keeps within its row
+unfoldable pub admitsProcess : List Instruction → Node → Locality → Process → Bool
+admitsProcess code x a p = implies (p .busy) (keepsOf code (p .at) a (rowFor x p))
 
 -- so does each process of a node
 unfoldable pub admitsNode : List Instruction → Locality → Node → Bool
-admitsNode code a x = all 4 (λ i. admitsProcess code (x .row) a (processAt x i))
+admitsNode code a x = all 4 (λ i. admitsProcess code x a (processAt x i))
 
 -- the same at an address, where it is in use
 unfoldable pub admitsAt : Net → Locality → Bool

@@ -4,17 +4,17 @@ use net::instruction::Instruction;
 use net::locality::Locality;
 use net::network::Net;
 use net::node::Node;
-use net::policy::Row;
 use net::process::Process;
 ghost use Prim.Native.Nat.{_<_};
 ghost use mathlib.Core.Path.{_≡_};
 ghost use Rattle.keeping.specs.Admission.{admitsProcess, admitsNode, admitsAt, admits};
 
-// Whether a process of address a keeps within its row.
-fn admits_process(code: [Instruction; 512], row: Row, a: Locality, p: Process) -> bool
-    ensures { λ r. ⌜ r ≡ admitsProcess code row a p ⌝ }
+// Whether a process of the node x at address a keeps within its row.
+fn admits_process(code: [Instruction; 512], x: Node, a: Locality, p: Process) -> bool
+    ensures { λ r. ⌜ r ≡ admitsProcess code x a p ⌝ }
 {
     let at = p.at;
+    let row = x.row_for(p);
     if p.busy {
         keeps(code, at, a, row)
     } else {
@@ -26,12 +26,11 @@ fn admits_process(code: [Instruction; 512], row: Row, a: Locality, p: Process) -
 fn admits_node(code: [Instruction; 512], a: Locality, x: Node) -> bool
     ensures { λ r. ⌜ r ≡ admitsNode code a x ⌝ }
 {
-    let row = x.row;
     let mut ok = true;
     let mut i = 0;
     while i < 4 {
         let p = x.processes[i];
-        let good = admits_process(code, row, a, p);
+        let good = admits_process(code, x, a, p);
         ok = ok & good;
         i += 1;
     }

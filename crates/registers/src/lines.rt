@@ -2,11 +2,11 @@
 use crate::words::put_item;
 use crate::words::put_number;
 use crate::words::put_two;
-use readers::fault::Fault;
 use net::locality::Locality;
 use net::network::Net;
 use net::node::Node;
 use net::tuple::Tuple;
+use readers::fault::Fault;
 use step::turn::host_of;
 use step::turn::slot_of;
 use text::writing::put;

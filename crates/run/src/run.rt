@@ -2,8 +2,8 @@
 use image::reader::Verdict;
 use image::reader::read_image;
 use net::network::Net;
-use readers::fault::Fault;
 use plans::answer::number_of;
+use readers::fault::Fault;
 use step::turn::changes_net;
 use step::turn::count_after;
 use step::turn::host_after;

@@ -10,10 +10,10 @@ use Rattle.keeping.proofs.admission.admits_node.Statement.{statement}
 use Rattle.keeping.proofs.admission.admits_node.Tie as tie
 
 abbrev Inv-loop : tie.InvT-loop
-Inv-loop code a x row ok₀ i₀ ok i = (i ≤ 4) × (ok ≡ all i (λ j. admitsProcess code row a (processAt x j)))
+Inv-loop code a x ok₀ i₀ ok i = (i ≤ 4) × (ok ≡ all i (λ j. admitsProcess code x a (processAt x j)))
 
 abbrev μ-loop : tie.MeasureT-loop
-μ-loop code a x row ok₀ i₀ ok i = 4 - i
+μ-loop code a x ok₀ i₀ ok i = 4 - i
 
 pub admits-node-spec : {M : Type 1} → statement M
 unfolding processAt admitsNode
