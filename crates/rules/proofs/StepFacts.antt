@@ -1,28 +1,19 @@
 -- What a step may rest on in a sound net: counts in range, places below the code length, and targets that exist.
 -- Assumes nothing.
 use Prim.Native.Nat.{ℕ, _<_, _≤_}
-use mathlib.Core.Path.{_≡_, sym, _∙_}
-use mathlib.Core.Bool.{Bool, true}
+use mathlib.Core.Path.{_≡_}
+use mathlib.Core.Bool.{true}
 use native.Mathlib.Omega.{arith}
-use lib.Dec.{ltb}
 use borrow.Author.Tests.{ltb-true, leb-true, lt-ltb}
-use Rattle.net.specs.Choice.{choose}
 use Rattle.net.specs.Records.{variableAt, processAt, nodeAt, instructionAt}
 use Rattle.keeping.specs.Reaching.{Follows, out-next, in-next, read-next, eval-next, new-next, fork-first, fork-second}
-use Rattle.net.specs.Choice.{inRange}
 use Rattle.sound.specs.Soundness.{valueSound, processSound, tuplesSound, nodeSound, targetSound, actionSound}
 use Rattle.sound.specs.Soundness.{instructionSound, nodesSound, codeSound, soundOf}
 use Rattle.net.proofs.Laws.{both-l, both-r, all-e, choose-true}
 use Rattle.plans.specs.Request.{aimOf, targetOf}
+use Rattle.net.proofs.Laws.{choose-e, in-range-high}
 use Rattle.rules.specs.Types.{Locality, Place, Value, Process, Node, Target, Action, Net}
 use Rattle.rules.specs.Types.{Aim}
-
-high : (low x top : ℕ) → inRange low x top ≡ true → x ≤ top
-unfolding inRange
-high low x top h = leb-true x top (both-r _ _ h)
-
-used : (a b : ℕ) (x y : Bool) → choose (ltb a b) x y ≡ true → a < b → x ≡ true
-used a b x y h l = sym (choose-true _ x y (lt-ltb a b l)) ∙ h
 
 -- ---- the net
 pub record Facts (s : Net) : Type 0 where
@@ -35,13 +26,14 @@ pub record Facts (s : Net) : Type 0 where
 pub facts : (s : Net) → soundOf s ≡ true → Facts s
 unfolding soundOf nodesSound codeSound instructionSound
 facts s h =
-    let few : s .addresses ≤ 16 = high 1 _ 16 (both-l _ _ (both-l _ _ h)) in
-    let short : s .length ≤ 512 = high 1 _ 512 (both-r _ _ (both-l _ _ h)) in
+    let few : s .addresses ≤ 16 = in-range-high 1 _ 16 (both-l _ _ (both-l _ _ h)) in
+    let short : s .length ≤ 512 = in-range-high 1 _ 512 (both-r _ _ (both-l _ _ h)) in
     record {
       few = few;
       short = short;
-      nodes = λ a l. used (a .0) _ _ _ (all-e 16 _ (both-l _ _ (both-r _ _ h)) (a .0) (omega arith)) l;
-      actions = λ p l. both-l _ _ (used (p .0) _ _ _ (all-e 512 _ (both-r _ _ (both-r _ _ h)) (p .0) (omega arith)) l);
+      nodes = λ a l. choose-e _ _ _ (all-e 16 _ (both-l _ _ (both-r _ _ h)) (a .0) (omega arith)) (lt-ltb (a .0) _ l);
+      actions = λ p l.
+          both-l _ _ (choose-e _ _ _ (all-e 512 _ (both-r _ _ (both-r _ _ h)) (p .0) (omega arith)) (lt-ltb (p .0) _ l));
     }
 
 -- ---- a node
@@ -59,7 +51,7 @@ pub running :
 unfolding nodeSound processSound
 running n k x i h l b =
     let sound : processSound n k (processAt x i) ≡ true = all-e 4 _ (both-l _ _ (both-r _ _ h)) i l in
-    let full = sym (choose-true _ _ _ b) ∙ sound in
+    let full = choose-e _ _ _ sound b in
     record {
       placed = ltb-true _ _ (both-l _ _ full);
       values = all-e 8 _ (both-r _ _ full);

@@ -9,7 +9,7 @@ use lib.ListN.{length, replicate, length-append, length-replicate, getD-replicat
 use borrow.Author.Tests.{eq-eqb}
 use Rattle.net.specs.Choice.{choose, both, implies, all, fold}
 use Rattle.net.specs.Records.{startingAt, zeroField, unsetVariable, allRights, zeroTemplateField, addressOf, placeOf, processCount}
-use Rattle.net.specs.Records.{fieldAt, variableAt, rightsAt, processAt, tupleAt, patternAt, nodeAt, instructionAt}
+use Rattle.net.specs.Records.{fieldAt, variableAt, rightsAt, processAt, tupleAt, patternAt, nodeAt, instructionAt, rowFor}
 use Rattle.written.specs.Types.{Locality, Place, Tuple, Node, Target, Action, Instruction, Net}
 use Rattle.net.specs.Choice.{inRange}
 use Rattle.sound.specs.Soundness.{itemSound, tupleSound, tuplesSound, rowSound, isUnset, allUnset, valueSound}
@@ -143,7 +143,7 @@ kept p a =
     ap (λ (c : Instruction). permits (fullNode .row) a (c .action)) (code-is-full (placeOf q) h) ∙ permitted a))
 
 net-admitted : admits fullNet ≡ true
-unfolding admits admitsAt admitsNode admitsProcess
+unfolding admits admitsAt admitsNode admitsProcess rowFor
 net-admitted =
     all-i 16 _ (λ a h. implies-i _ _ (λ _.
     ap (admitsNode (fullNet .code) (addressOf a)) (node-is-full (addressOf a) h)
