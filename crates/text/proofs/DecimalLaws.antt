@@ -36,12 +36,12 @@ digits-more (suc k) n h =
     alike n _ _ _ (λ l. ap (λ (ds : List ℕ). ds ++ digit (n % 10) ∷ []) (digits-more k (n / 10) (omega (arith, power))))
 
 -- a number below 10 is its digit
-pub decimal-digit : (n : ℕ) → n < 10 → digit n ∷ [] ≡ decimal n
+decimal-digit : (n : ℕ) → n < 10 → digit n ∷ [] ≡ decimal n
 unfolding decimal digits
 decimal-digit n h = sym (choose-true _ _ _ (lt-ltb n 10 h))
 
 -- any other ends with a digit
-pub decimal-more : (n : ℕ) → 10 ≤ n → n < 2 ^ 64 → decimal (n / 10) ++ digit (n % 10) ∷ [] ≡ decimal n
+decimal-more : (n : ℕ) → 10 ≤ n → n < 2 ^ 64 → decimal (n / 10) ++ digit (n % 10) ∷ [] ≡ decimal n
 unfolding decimal digits
 decimal-more n h l =
     ap (λ (ds : List ℕ). ds ++ digit (n % 10) ∷ []) (sym (digits-more 18 (n / 10) (omega arith)))

@@ -127,13 +127,6 @@ module _ {A : Type 0} (xs : List A) (at : ℕ) (f : ℕ → List A) where
       let e : i ≡ n = omega arith in
       subst (λ (j : ℕ). Wrote xs at (joined j f) ys r) e w
 
-  -- up to a count that a callee gave
-  pub joined-upto :
-      (i n count : ℕ) (ys : List A) (r : ℕ) → Wrote xs at (joined i f) ys r → i ≤ n → n ≤ i → n ≡ count
-      → Wrote xs at (joined count f) ys r
-  joined-upto i n count ys r w h g e =
-      subst (λ (j : ℕ). Wrote xs at (joined j f) ys r) e (joined-end i n ys r w h g)
-
 -- parts that agree give the same
 pub joined-same :
     {A : Type 0} (n : ℕ) (f g : ℕ → List A) → ((i : ℕ) → i < n → f i ≡ g i) → joined n f ≡ joined n g

@@ -27,7 +27,7 @@ pub fn put_decimal(out: &mut [u8], at: usize, n: usize) -> usize
     }
 }
 
-// A number after a mark, as the minus.
+// A number after a mark, as a minus or a space.
 pub fn put_marked(out: &mut [u8], at: usize, mark: u8, n: usize) -> usize
     ensures { λ r. ⌜ Wrote (now (out .entry)) at (mark ∷ decimal n) (now (out .exit)) r ⌝ }
 {
