@@ -1,4 +1,4 @@
--- A plan put back into the net is the step (`specs/Plan.antt`, `specs/Pick.antt`): the code changes the target first and
+-- A plan put back into the net is the step (`specs/PutBack.antt`, `specs/Pick.antt`): the code changes the target first and
 -- then the host, the definition the host first, and the two changes may be exchanged.
 -- Assumes nothing.
 use Prim.Native.Nat.{ℕ, _+_, _<_, _≤_}

@@ -51,7 +51,7 @@ firstNear (l ∷ ls) a = near l a
 unfoldable pub targetIn : Locality → ℕ → Request → Locality
 targetIn a n r = choose (isNew r) (near (addressOf n) a) (firstNear (targets r) a)
 
--- ---- the request sends code
+-- ---- whether a request sends code
 unfoldable pub sendsCode : Request → Bool
 sendsCode Request.Lack = false
 sendsCode Request.Stop = false
