@@ -22,7 +22,7 @@ use Rattle.written.proofs.WrittenStore.{TuplesOk}
 use Rattle.written.proofs.WrittenStages.{WithTuples}
 use Rattle.written.proofs.WrittenTemplate.{TemplateOk}
 use Rattle.written.proofs.WrittenCode.{Communicated, Created, Forked, Acting, InstructionOk}
-use Rattle.tenant.specs.Types.{Evaluated}
+use Rattle.written.proofs.WrittenCode.{Evaluated}
 use Rattle.written.proofs.WrittenWhole.{NetOk}
 use Rattle.tenant.specs.Types.{Locality, Tuple, Row, Process, Node, Action, Instruction, Net}
 use Rattle.tenant.specs.TenantRule.{SameInstruction, SameCode, SamePolicy, SameTuple, SameTuples, SameStart, SameNode}

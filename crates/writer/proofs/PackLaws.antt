@@ -14,7 +14,6 @@ use Rattle.accepted.specs.LengthClaims.{LongestAccepted}
 use Rattle.accepted.proofs.LengthClaims.{longestAccepted}
 use Rattle.writer.specs.Types.{Net}
 use Rattle.text.specs.Buffer.{over}
-use Rattle.keeping.specs.Admission.{admits}
 use Rattle.writer.specs.Types.{Node}
 use Rattle.writer.specs.Calls.{Packed, placedOf, placedIn, packedOf, imageIn}
 use Rattle.fresh.specs.Fresh.{netFits, freshOf}
