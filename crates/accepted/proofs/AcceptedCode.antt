@@ -1,5 +1,6 @@
--- What the readers of an instruction give (`specs/Image.antt`, 5): a sound one, as facts (`CodeFacts.antt` of `sound`). A template is built field by field;
--- a field judged by rules 26 and 27 when it is read keeps them, since no later field changes what stands before it.
+-- What the readers of an instruction give (`Instruction.antt` of `instructions`): a sound one, as facts (`CodeFacts.antt`
+-- of `sound`). A template is built field by field; a field judged by rules 26 and 27 when it is read keeps them, since no
+-- later field changes what stands before it.
 -- Assumes nothing.
 use Prim.Native.Nat.{ℕ, suc, _+_, _<_, _≤_}
 use mathlib.Core.Path.{_≡_, refl, ap}
@@ -15,7 +16,7 @@ use Rattle.sound.specs.Soundness.{targetSound, patternSound, isActual, unboundB
 use Rattle.instructions.specs.Instruction.{writtenTarget, heldTarget, target, readingPattern, addressPattern, heldPattern}
 use Rattle.instructions.specs.Instruction.{fresh, formalReading, formalAddress, kind, pattern, templateField, template}
 use Rattle.instructions.specs.Instruction.{communication, evaluation, creation, forking, instruction}
-use Rattle.net.proofs.Laws.{implies-e, split}
+use Rattle.net.proofs.Laws.{implies-e}
 use Rattle.net.proofs.Every.{chosen-lt, every-replicate, filled-add}
 use Rattle.net.proofs.Past.{pastTemplate}
 use Rattle.sound.proofs.FormalLaws.{anew-as, each-put, anew-put}

@@ -1,4 +1,4 @@
--- What the readers of a node give (`specs/Image.antt`, 2 to 4): a sound row, sound processes in its slots and sound
+-- What the readers of a node give (`Image.antt` of `image`, 2 to 4): a sound row, sound processes in its slots and sound
 -- tuples up to its count, as facts (`NodeFacts.antt` of `sound`). The node under construction is sound at all times.
 -- Assumes nothing.
 use Prim.Native.Nat.{ℕ, suc, _+_, _<_}

@@ -9,7 +9,7 @@ ghost use Rattle.image.specs.Image.{code};
 ghost use Rattle.image.specs.Progress.{Built};
 
 // Every instruction of the code.
-pub fn read_code(s: &[u8], from: Step, start: Net) -> NetRead
+pub(crate) fn read_code(s: &[u8], from: Step, start: Net) -> NetRead
     requires { ⌜ start .length ≤ 512 ⌝ }
     ensures { λ r. ⌜ Built (seen (now (s .entry))) from (code start) start r ⌝ }
 {

@@ -82,7 +82,7 @@ fn read_row(s: &[u8], from: Step, n: usize) -> RowRead
 }
 
 // A row for each address.
-pub fn read_rows(s: &[u8], from: Step, start: Net) -> NetRead
+pub(crate) fn read_rows(s: &[u8], from: Step, start: Net) -> NetRead
     requires { ⌜ start .addresses ≤ 16 ⌝ }
     ensures { λ r. ⌜ Built (seen (now (s .entry))) from (rows start) start r ⌝ }
 {

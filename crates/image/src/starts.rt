@@ -43,7 +43,7 @@ fn read_processes(s: &[u8], from: Step, k: usize, start: Node) -> NodeRead
 }
 
 // The processes of each address.
-pub fn read_all_processes(s: &[u8], from: Step, start: Net) -> NetRead
+pub(crate) fn read_all_processes(s: &[u8], from: Step, start: Net) -> NetRead
     requires { ⌜ start .addresses ≤ 16 ⌝ }
     ensures { λ r. ⌜ Built (seen (now (s .entry))) from (allProcesses start) start r ⌝ }
 {

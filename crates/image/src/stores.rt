@@ -115,7 +115,7 @@ fn read_tuples(s: &[u8], from: Step, n: usize, start: Node) -> NodeRead
 }
 
 // The tuples of each address.
-pub fn read_all_tuples(s: &[u8], from: Step, start: Net) -> NetRead
+pub(crate) fn read_all_tuples(s: &[u8], from: Step, start: Net) -> NetRead
     requires { ⌜ start .addresses ≤ 16 ⌝ }
     ensures { λ r. ⌜ Built (seen (now (s .entry))) from (allTuples start) start r ⌝ }
 {

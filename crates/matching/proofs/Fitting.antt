@@ -3,7 +3,7 @@
 use Prim.Native.Nat.{ℕ, suc, _<_, _≤_}
 use mathlib.Core.Path.{_≡_, refl, sym, ap, subst, _∙_}
 use mathlib.Core.Logic.{_↔_}
-use mathlib.Core.Bool.{true, false}
+use mathlib.Core.Bool.{true}
 use mathlib.Core.List.{List}
 use native.Mathlib.Omega.{arith}
 use lib.Dec.{eqb}
@@ -13,7 +13,6 @@ use Rattle.matching.specs.Types.{Locality, Value, Item, Tuple, Process, 
 use Rattle.net.specs.Records.{variableAt, patternAt}
 use Rattle.matching.specs.Matching.{Want, Wanted, Evaluated, isSet, heldItem, definedField, wantOf, zeroWanted}
 use Rattle.matching.specs.Matching.{wantsOf, evaluatedOf, wantAt, sameItem, isReading, isAddress}
-use Rattle.net.specs.Readings.{sameReading}
 use Rattle.matching.specs.Matching.{fitsField, fitsOf}
 use Rattle.matching.specs.Fitting.{Wants, written-reading, written-address, self-address, held-reading, held-address}
 use Rattle.matching.specs.Fitting.{formal-reading, formal-address, AllSet, FieldFits, equal, any-reading, any-address, Fits}

@@ -8,13 +8,12 @@ use native.Mathlib.Omega.{arith}
 use lib.Dec.{ltb}
 use lib.IntN.{ℤ}
 use lib.ListN.{set, replicate, length, length-map, List·getD-eq-default}
-use lib.Seq.{set-out}
 use mir.Syntax.{w32}
 use mir.Val.{SFits, toZ, ofZ}
 use mir.ValLaws.{toZ-ofZ}
 use Rattle.net.specs.Choice.{both, implies, all, fold}
 use Rattle.matching.specs.Types.{Locality, Value, Variable, Item, Tuple, Pattern, Process, Node, Instruction}
-use Rattle.net.specs.Records.{fieldAt, variableAt, tupleAt, patternAt, zeroField, zeroTuple, withVariable}
+use Rattle.net.specs.Records.{fieldAt, variableAt, tupleAt, patternAt, zeroField, zeroTuple}
 use Rattle.matching.specs.Matching.{Want, Wanted, Evaluated, Found, zeroWanted, heldItem, valueOf, wantOf}
 use Rattle.matching.specs.Matching.{definedField, wantsOf, evaluatedOf, sameItem, oldestOf}
 use Rattle.net.specs.Readings.{sameReading}

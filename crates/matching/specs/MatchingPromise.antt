@@ -1,7 +1,6 @@
 -- What matching promises to the crates above it (document 01, "One pick": "the stepping part rests on the written
 -- promise of the fitting part and on none of its inner text"). The proofs of `step`, and those of `run` and `tenant` over
--- it, cite these clauses and open no definition of `Matching.antt`. Of the crates that make no step, `image` and `writer`
--- open the comparison of readings, and `edges` opens all, to compute the starred edges.
+-- it, cite these clauses and open no definition of `Matching.antt`; `edges` opens all, to compute the starred edges.
 use Prim.Native.Nat.{ℕ, _<_, _≤_}
 use mathlib.Core.Path.{_≡_}
 use mathlib.Core.Logic.{_↔_, _⊎_}

@@ -63,7 +63,7 @@ fn put_made(out: &mut [u8], at: usize, i: usize, b: u8, answer: u8) -> usize
 }
 
 // A line for each pick.
-pub fn put_picks(out: &mut [u8], at: usize, picks: &[u8], answers: &[u8]) -> usize
+pub(crate) fn put_picks(out: &mut [u8], at: usize, picks: &[u8], answers: &[u8]) -> usize
     requires { ⌜ length (now picks) ≤ length (now answers) ⌝ }
     ensures { λ r. ⌜ Wrote (now (out .entry)) at (printed (pickLines (now (picks .entry)) (now (answers .entry)))) (now (out .exit)) r ⌝ }
 {

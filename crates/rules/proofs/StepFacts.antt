@@ -9,7 +9,7 @@ use Rattle.net.specs.Records.{variableAt, processAt, nodeAt, instructionAt}
 use Rattle.keeping.specs.Reaching.{Follows, out-next, in-next, read-next, eval-next, new-next, fork-first, fork-second}
 use Rattle.sound.specs.Soundness.{valueSound, processSound, tuplesSound, nodeSound, targetSound, actionSound}
 use Rattle.sound.specs.Soundness.{instructionSound, nodesSound, codeSound, soundOf}
-use Rattle.net.proofs.Laws.{both-l, both-r, all-e, choose-true}
+use Rattle.net.proofs.Laws.{both-l, both-r, all-e}
 use Rattle.plans.specs.Request.{aimOf, targetOf}
 use Rattle.net.proofs.Laws.{choose-e, in-range-high}
 use Rattle.rules.specs.Types.{Locality, Place, Value, Process, Node, Target, Action, Net}

@@ -16,7 +16,6 @@ use Rattle.net.proofs.Laws.{choose-true, choose-false}
 use Rattle.image.specs.Image.{openedOf}
 use Rattle.accepted.specs.ImageClaims.{AcceptedIsSound}
 use Rattle.accepted.proofs.AcceptedSound.{accepted-is-sound}
-use Rattle.plans.specs.Answer.{numberOf}
 use Rattle.net.proofs.Lengths.{net-shaped}
 use Rattle.run.specs.Types.{Net, Fault, Opened, Verdict}
 use Rattle.run.specs.Run.{Outcome, refused, ran, answered, ranFrom, runIn, runOf}

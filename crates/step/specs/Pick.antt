@@ -2,17 +2,16 @@
 -- is the net, a the hosting address, k the slot, p the process that stands there.
 use Prim.Native.Nat.{ℕ, _+_, _/_, _%_}
 use lib.Dec.{eqb, ltb}
-use lib.IntN.{ℤ}
-use Rattle.net.specs.Choice.{choose, fold}
-use Rattle.net.specs.Records.{processAt, nodeAt, instructionAt, rowFor, withProcess, withTuple, withNode, withRow, withRights}
-use Rattle.net.specs.Records.{withVariable, movedTo, copiedTo, withoutTuple, freeSlot, freeProcess, allRights, zeroNode}
-use Rattle.net.specs.Records.{zeroTuple, withField, addressOf}
-use Rattle.matching.specs.Matching.{evaluatedOf, matchedOf, wantAt}
+use Rattle.net.specs.Choice.{choose}
+use Rattle.net.specs.Records.{processAt, nodeAt, instructionAt, rowFor, withProcess, withTuple, withNode, withRow}
+use Rattle.net.specs.Records.{withVariable, movedTo, copiedTo, withoutTuple, freeSlot, freeProcess, zeroNode}
+use Rattle.net.specs.Records.{addressOf}
+use Rattle.matching.specs.Matching.{evaluatedOf, matchedOf}
 use Rattle.keeping.specs.Keeping.{keepsOf}
 use Rattle.sound.specs.Soundness.{soundOf}
 use Rattle.plans.specs.Request.{requestOf, granted}
 use Rattle.plans.specs.Additions.{tupleOf, gaining}
-use Rattle.step.specs.Types.{Locality, Place, Item, Tuple, Row, Process, Slot, Net, Instruction, Value}
+use Rattle.step.specs.Types.{Locality, Place, Tuple, Process, Slot, Net, Instruction, Value}
 use Rattle.step.specs.Types.{Evaluated, Found, Matched, Answer, Picked, Request}
 
 -- ---- what a pick's byte names: address (4 bits), slot (2 bits), 2 zero bits

@@ -10,11 +10,10 @@ use lib.Seq.{sets-eq, getD-append-add, getD-drop}
 use Rattle.sound.specs.Soundness.{soundOf}
 use Rattle.net.proofs.Laws.{both-l, both-r, choose-true, choose-false}
 use Rattle.image.specs.Image.{accepted}
-use Rattle.accepted.specs.LengthClaims.{LongestAccepted}
+use Rattle.accepted.specs.LengthClaims.{longestImage, LongestAccepted}
 use Rattle.accepted.proofs.LengthClaims.{longestAccepted}
 use Rattle.writer.specs.Types.{Net}
 use Rattle.text.specs.Buffer.{over}
-use Rattle.writer.specs.Types.{Node}
 use Rattle.writer.specs.Calls.{Packed, placedOf, placedIn, packedOf, imageIn}
 use Rattle.fresh.specs.Fresh.{netFits, freshOf}
 use Rattle.written.specs.ImageOf.{digit, numberIn, bytesOf, netBits, imageOf}
@@ -33,7 +32,7 @@ unfolding freshOf
 fresh-counts net h =
     counts-of net (net-fit net (both-l _ _ h) .shaped) (both-l (soundOf net) _ (both-r (netFits net) _ h))
 
-fresh-room : (net : Net) → freshOf net ≡ true → length (netBits net) ≤ 117992
+fresh-room : (net : Net) → freshOf net ≡ true → length (netBits net) ≤ 8 * longestImage
 unfolding imageOf LongestAccepted accepted
 fresh-room net h =
     let short = longestAccepted (imageOf net) (ap (λ o. o .answer) (fresh-accepted net h)) in
@@ -108,13 +107,13 @@ module _ (room : ℕ) (bits : List Bool) (h : length bits ≤ room) where
 -- ---- what a fresh net's writer gives
 module _
     (net : Net) (h : freshOf net ≡ true) (ys : List Bool) (end : ℕ)
-    (w : Wrote (replicate 117992 false) 0 (netBits net) ys end) where
-  pub fresh-end : end ≤ 117992
-  fresh-end = laid-end 117992 (netBits net) (fresh-room net h) ys end w
+    (w : Wrote (replicate (8 * longestImage) false) 0 (netBits net) ys end) where
+  pub fresh-end : end ≤ 8 * longestImage
+  fresh-end = laid-end (8 * longestImage) (netBits net) (fresh-room net h) ys end w
 
   image-is : bytesIn ys ((end + 7) / 8) ≡ imageOf net
   unfolding imageOf
-  image-is = laid-bytes 117992 (netBits net) (fresh-room net h) ys end w
+  image-is = laid-bytes (8 * longestImage) (netBits net) (fresh-room net h) ys end w
 
   pub fresh-packed :
       (r : Packed) (room : ℕ) → r ≡ placedOf (length (bytesIn ys ((end + 7) / 8))) room

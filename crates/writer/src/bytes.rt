@@ -1,8 +1,9 @@
 // Bits packed into bytes, the last byte filled up with zero bits (document 01, "The image", 6).
-ghost use Prim.Native.Nat.{_≤_};
+ghost use Prim.Native.Nat.{_≤_, _*_};
 ghost use mathlib.Core.Bool.{false};
 ghost use mathlib.Core.Path.{_≡_};
 ghost use lib.ListN.{length, getD};
+ghost use Rattle.accepted.specs.LengthClaims.{longestImage};
 ghost use Rattle.text.specs.Buffer.{over};
 ghost use Rattle.written.specs.ImageOf.{digit, numberIn};
 ghost use Rattle.writer.specs.Packing.{bytesIn};
@@ -27,7 +28,7 @@ fn as_digit(b: bool) -> usize
 
 // The byte that eight bits write.
 fn byte_at(bits: &[bool], at: usize) -> u8
-    requires { ⌜ at ≤ 131072 ⌝ }
+    requires { ⌜ at ≤ 8 * longestImage ⌝ }
     ensures { λ r. ⌜ r ≡ numberIn (now (bits .entry)) at 8 ⌝ }
 {
     let mut n = 0;
@@ -42,7 +43,7 @@ fn byte_at(bits: &[bool], at: usize) -> u8
 
 // The first n bytes, at the buffer's start.
 pub(crate) fn put_bytes(bits: &[bool], n: usize, out: &mut [u8])
-    requires { ⌜ (n ≤ 16384) × (n ≤ length (now out)) ⌝ }
+    requires { ⌜ (n ≤ longestImage) × (n ≤ length (now out)) ⌝ }
     ensures { λ _. ⌜ now (out .exit) ≡ over (now (out .entry)) 0 (bytesIn (now (bits .entry)) n) ⌝ }
 {
     let mut i = 0;

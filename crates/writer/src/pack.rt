@@ -1,13 +1,15 @@
 // A net written as an image (document 01, "The image").
 use crate::bytes::put_bytes;
 use fresh::freshness::is_fresh;
+use image::reader::LONGEST_IMAGE;
 use layout::whole::put_net;
 use net::network::Net;
-ghost use Prim.Native.Nat.{_≤_, _+_, _/_};
+ghost use Prim.Native.Nat.{_≤_, _+_, _*_, _/_};
 ghost use mathlib.Core.Bool.{true};
 ghost use mathlib.Core.Path.{_≡_};
 ghost use lib.ListN.{length};
 ghost use Rattle.writer.specs.Calls.{placedOf, placedIn, packedOf, imageIn};
+ghost use Rattle.accepted.specs.LengthClaims.{longestImage};
 ghost use Rattle.fresh.specs.Fresh.{freshOf};
 ghost use Rattle.written.specs.ImageOf.{imageOf};
 ghost use Rattle.writer.specs.Packing.{bytesIn};
@@ -21,7 +23,7 @@ pub enum Packed {
 
 // The bytes of the first bits, where there is room for them.
 fn put_packed(bits: &[bool], end: usize, out: &mut [u8]) -> Packed
-    requires { ⌜ end ≤ 117992 ⌝ }
+    requires { ⌜ end ≤ 8 * longestImage ⌝ }
     ensures { λ r. ⌜ r ≡ placedOf (length (bytesIn (now (bits .entry)) ((end + 7) / 8))) (length (now (out .entry))) ⌝ }
     ensures { λ _. ⌜ now (out .exit) ≡ placedIn (bytesIn (now (bits .entry)) ((end + 7) / 8)) (now (out .entry)) ⌝ }
 {
@@ -41,7 +43,7 @@ fn write_fresh(net: Net, out: &mut [u8]) -> Packed
     ensures { λ r. ⌜ r ≡ placedOf (length (imageOf net)) (length (now (out .entry))) ⌝ }
     ensures { λ _. ⌜ now (out .exit) ≡ placedIn (imageOf net) (now (out .entry)) ⌝ }
 {
-    let mut bits = [false; 117992];
+    let mut bits = [false; 8 * LONGEST_IMAGE];
     let end = put_net(&mut bits, 0, net);
     put_packed(&bits, end, out)
 }

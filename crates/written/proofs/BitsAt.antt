@@ -1,5 +1,5 @@
--- Bits that stand in the bytes of an image from a place on (`bitAt` of `specs/BitReader.antt`): one part after another,
--- and the digits of a number (`bitsOf` of `specs/ImageOf.antt`).
+-- Bits that stand in the bytes of an image from a place on (`bitAt` of `BitReader.antt`): one part after another, and the
+-- digits of a number (`bitsOf` of `specs/ImageOf.antt`).
 -- Assumes nothing.
 use Prim.Native.Nat.{ℕ, zero, suc, _+_, _-_, _*_, _/_, _%_, _^_, _<_, _≤_}
 use mathlib.Core.Path.{_≡_, refl, sym, ap, subst, _∙_}

@@ -28,7 +28,7 @@ use Rattle.fresh.specs.Fresh.{readingFits, itemFits, patternFits, tupleFits, pr
 use Rattle.fresh.specs.Fresh.{netFits, slotStarts, nodeStarts, freshOf}
 use Rattle.written.specs.WrittenClaims.{Bytes, LongestIsReached}
 use Rattle.accepted.specs.LengthClaims.{longestImage}
-use Rattle.net.proofs.Laws.{both-i, implies-i, choose-true, all-i}
+use Rattle.net.proofs.Laws.{both-i, implies-i, all-i}
 use Rattle.net.proofs.Every.{every-replicate}
 use Rattle.sound.proofs.NodeFacts.{node-apart}
 use Rattle.sound.proofs.CodeFacts.{instruction-apart}

@@ -1,4 +1,4 @@
--- The layout of an image without its end (`specs/Image.antt`, 1 to 5): it reads exactly what `netBits` writes for the nets
+-- The layout of an image without its end (`Image.antt` of `image`, 1 to 5): it reads exactly what `netBits` writes for the nets
 -- that an image can write. Assumes nothing.
 use Prim.Native.Nat.{ℕ, _+_, _<_, _≤_}
 use mathlib.Core.Path.{_≡_, refl, sym, ap, subst, _∙_}

@@ -1,4 +1,4 @@
--- The passes over the nodes of a net and over its code (`specs/Image.antt`, 2 to 5): each gives exactly the nets whose
+-- The passes over the nodes of a net and over its code (`Image.antt` of `image`, 2 to 5): each gives exactly the nets whose
 -- records it can write, and leaves all else as it was. Assumes nothing.
 use Prim.Native.Nat.{ℕ, _<_, _≤_}
 use mathlib.Core.Path.{_≡_, refl, sym, ap, subst, _∙_}

@@ -1,4 +1,4 @@
--- The processes of a node (`specs/Image.antt`, `specs/ImageOf.antt`, 3): what is read is what is written.
+-- The processes of a node (`Image.antt` of `image`, `specs/ImageOf.antt`, 3): what is read is what is written.
 -- Assumes nothing.
 use Prim.Native.Nat.{ℕ, zero, suc, _+_, _-_, _<_, _≤_}
 use mathlib.Core.Path.{_≡_, refl, sym, ap, subst, _∙_}

@@ -1,4 +1,4 @@
--- The row of a node (`specs/Image.antt`, `specs/ImageOf.antt`, 2): what is read is what is written.
+-- The row of a node (`Image.antt` of `image`, `specs/ImageOf.antt`, 2): what is read is what is written.
 -- Assumes nothing.
 use Prim.Native.Nat.{ℕ, _%_, _≤_}
 use mathlib.Core.Path.{_≡_, refl, sym, ap, _∙_}

@@ -1,4 +1,4 @@
--- The tuples of a node (`specs/Image.antt`, `specs/ImageOf.antt`, 4): what is read is what is written.
+-- The tuples of a node (`Image.antt` of `image`, `specs/ImageOf.antt`, 4): what is read is what is written.
 -- Assumes nothing.
 use Prim.Native.Nat.{ℕ, suc, _+_, _<_, _≤_}
 use mathlib.Core.Path.{_≡_, refl, sym, ap, subst, _∙_}

@@ -1,4 +1,4 @@
--- Templates (`specs/Image.antt`, `specs/ImageOf.antt`, 5): what is read is what is written.
+-- Templates (`Instruction.antt` of `instructions`, `specs/ImageOf.antt`, 5): what is read is what is written.
 -- Assumes nothing.
 use Prim.Native.Nat.{ℕ, suc, _+_, _-_, _<_, _≤_}
 use mathlib.Core.Path.{_≡_, refl, sym, ap, subst, _∙_}
@@ -14,7 +14,7 @@ use Rattle.sound.specs.Soundness.{bindsAnew}
 use Rattle.instructions.specs.Instruction.{templateField, template}
 use Rattle.written.specs.ImageOf.{bitsOf, patternBits, templateBits}
 use Rattle.text.specs.Joined.{joined}
-use Rattle.net.proofs.Laws.{choose-true, split}
+use Rattle.net.proofs.Laws.{choose-true}
 use Rattle.net.proofs.Every.{Every, Filled}
 use Rattle.net.proofs.Past.{pastTemplate}
 use Rattle.sound.proofs.FormalLaws.{anew-below, anew-cut, anew-put}

@@ -1,4 +1,4 @@
--- Tuples (`specs/Image.antt`, `specs/ImageOf.antt`, 4): what is read is what is written.
+-- Tuples (`Image.antt` of `image`, `specs/ImageOf.antt`, 4): what is read is what is written.
 -- Assumes nothing.
 use Prim.Native.Nat.{ℕ, zero, suc, _+_, _-_, _<_, _≤_}
 use mathlib.Core.Path.{_≡_, refl, sym, ap, _∙_}
