@@ -1,4 +1,4 @@
-//! An independent model of the net, its images, picks and register,
+//! An independent model of the net, its images and texts, picks and register,
 //! written from document 01 alone. Other programs are compared with it.
 
 pub mod bits;
@@ -10,6 +10,7 @@ pub mod generate;
 pub mod image;
 pub mod matching;
 pub mod net;
+pub mod notation;
 pub mod program;
 pub mod random;
 pub mod register;
