@@ -8,12 +8,20 @@
 
 mod cursor;
 mod draft;
-pub mod edges;
 mod lines;
 mod names;
 mod processes;
 mod rows;
 mod templates;
+
+// For tests: texts by hand; texts as trees, printed and compiled; random
+// ones.
+pub mod compile;
+pub mod edges;
+pub mod from_net;
+pub mod generate;
+pub mod print;
+pub mod source;
 
 use crate::image::{starts_keep_within, BEYOND_ROW};
 use crate::net::Net;
@@ -46,5 +54,7 @@ pub fn read_text(text: &[u8]) -> Result<Net, u8> {
     }
 }
 
+#[cfg(test)]
+mod properties;
 #[cfg(test)]
 mod tests;
