@@ -14,12 +14,13 @@ mod processes;
 mod rows;
 mod templates;
 
-// For tests: texts by hand; texts as trees, printed and compiled; random
-// ones.
+// For tests: texts by hand and those of the page; texts as trees, printed
+// and compiled; random ones.
 pub mod compile;
 pub mod edges;
 pub mod from_net;
 pub mod generate;
+pub mod page;
 pub mod print;
 pub mod source;
 
