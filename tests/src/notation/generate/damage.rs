@@ -41,7 +41,8 @@ fn damage(random: &mut Random, text: &mut Vec<u8>) {
         0 | 1 => damage_byte(random, text),
         2 | 3 => damage_line(random, text),
         4 => text.truncate(random.below(text.len() + 1)),
-        5..=7 => damage_number(random, text),
+        5 | 6 => damage_number(random, text),
+        7 => take_rights(random, text),
         _ => insert_word(random, text),
     }
 }
@@ -104,31 +105,26 @@ fn damage_line(random: &mut Random, text: &mut Vec<u8>) {
     *text = lines.concat();
 }
 
-const NUMBERS: [&str; 24] = [
-    "0",
-    "1",
-    "2",
-    "3",
-    "4",
-    "7",
-    "8",
-    "15",
-    "16",
-    "17",
-    "00",
-    "01",
-    "-0",
-    "-1",
-    "511",
-    "512",
-    "",
-    "x",
-    "2147483647",
-    "2147483648",
-    "-2147483648",
-    "-2147483649",
-    "99999999999",
-    "18446744073709551616",
+// Takes all rights from one row.
+fn take_rights(random: &mut Random, text: &mut Vec<u8>) {
+    let is_row = |at: &usize| text[*at..].starts_with(b" has");
+    let rows: Vec<usize> = (0..text.len()).filter(is_row).collect();
+    if rows.is_empty() {
+        return;
+    }
+    let from = random.choose(&rows) + " has".len();
+    let rest = text[from..].iter().position(|byte| *byte == b'\n');
+    let to = rest.map_or(text.len(), |length| from + length);
+    text.drain(from..to);
+}
+
+// Numbers at the edges of what is in range, and what is no number.
+const NUMBERS: [&[&str]; 5] = [
+    &["0", "1", "2", "3", "4", "7", "8", "15", "16", "17"],
+    &["00", "01", "-0", "-1", "511", "512", "", "x"],
+    &["2147483647", "2147483648"],
+    &["-2147483648", "-2147483649"],
+    &["99999999999", "18446744073709551616"],
 ];
 
 // Puts another number in the place of one.
@@ -144,56 +140,27 @@ fn damage_number(random: &mut Random, text: &mut Vec<u8>) {
         .iter()
         .take_while(|byte| byte.is_ascii_digit())
         .count();
-    let number = random.choose(&NUMBERS).bytes();
+    let number = random.choose(&NUMBERS.concat()).bytes();
     text.splice(from..from + length, number);
 }
 
-const WORDS: [&str; 38] = [
-    "nil",
-    "(",
-    ")",
-    "(nil | nil)",
-    " | ",
-    "eval(",
-    "eval(nil)@self.",
-    "out(",
-    "out(5)@self.",
-    "in(",
-    "in(!x0,!u0)@0.",
-    "read(",
-    "newloc(u0).",
-    "newloc(u0)",
-    "!x0",
-    "!u1",
-    ",!x0",
-    ",5",
-    ",@1",
-    "@1",
-    "v0",
-    "self",
-    "A0",
-    "A1",
-    "A511",
-    "A0 = ",
-    "A0 = nil\n",
-    "0 :: ",
-    "0 :: nil\n",
-    "0 :: <5>\n",
-    "1 :: ",
-    "0 has",
-    " has",
-    "1 has\n",
-    " n",
-    " 0:i",
-    "\n",
-    ".",
+// Words of the notation.
+const WORDS: [&[&str]; 8] = [
+    &["nil", "(", ")", "(nil | nil)", " | ", ".", "\n"],
+    &["out(", "in(", "read(", "eval(", "newloc(u0)"],
+    &["out(5)@self.", "in(!x0,!u0)@0."],
+    &["eval(nil)@self.", "newloc(u0)."],
+    &["!x0", "!u1", ",!x0", ",5", ",@1", "@1", "v0", "self"],
+    &["A0", "A1", "A511", "A0 = ", "0 :: ", "1 :: "],
+    &["A0 = nil\n", "0 :: nil\n", "0 :: <5>\n", "1 has\n"],
+    &["0 has", " has", " n", " 0:i"],
 ];
 
 // Inserts a word of the notation, or puts it in the place of some bytes.
 fn insert_word(random: &mut Random, text: &mut Vec<u8>) {
     let at = random.below(text.len() + 1);
     let gone = random.choose(&[0, 0, 1, 3, 6]).min(text.len() - at);
-    let word = random.choose(&WORDS).bytes();
+    let word = random.choose(&WORDS.concat()).bytes();
     text.splice(at..at + gone, word);
 }
 
@@ -204,7 +171,7 @@ fn soup(random: &mut Random) -> Vec<u8> {
         _ => "0 has n 0:iroe\n".to_string(),
     };
     for _ in 0..random.below(20) {
-        text += random.choose(&WORDS);
+        text += random.choose(&WORDS.concat());
     }
     text.into_bytes()
 }
