@@ -1,5 +1,6 @@
-//! A net as the programs `inspect` and `replay` dump it (the layout stands
-//! in crates/dump/src/lib.rt), and what `inspect` makes of images.
+//! A net as the programs `inspect`, `inspect_text` and `replay` dump it (the
+//! layout stands in crates/dump/src/lib.rt), and what the first two make of
+//! images and of texts.
 
 use crate::net::*;
 use crate::program::start;
@@ -8,8 +9,8 @@ use std::io::{Read, Write};
 /// The bytes of a dumped net.
 pub const DUMP_BYTES: usize = 23_267;
 
-/// What is made of an image: 0 or the number it is refused with, and the
-/// dump of the net it gives.
+/// What is made of an image or a text: 0 or the number it is refused with,
+/// and the dump of the net it gives.
 #[derive(Clone, PartialEq, Eq, Debug)]
 pub struct Opened {
     pub number: u8,
@@ -135,39 +136,48 @@ pub fn record_at(byte: usize) -> String {
     }
 }
 
-/// What the program `inspect` makes of each of these images. A missing
-/// program, or one that writes too little or too much, is a failure.
+/// What the program `inspect` makes of each of these images.
 pub fn inspect(images: &[Vec<u8>]) -> Vec<Opened> {
-    let mut child = start("inspect");
+    inspect_by("inspect", images)
+}
+
+/// What the program `inspect_text` makes of each of these texts.
+pub fn inspect_text(texts: &[Vec<u8>]) -> Vec<Opened> {
+    inspect_by("inspect_text", texts)
+}
+
+// What a program makes of each of these. A missing program, or one that
+// writes too little or too much, is a failure.
+fn inspect_by(name: &str, all: &[Vec<u8>]) -> Vec<Opened> {
+    let mut child = start(name);
     let mut input = child.stdin.take().expect("the input is a pipe");
     let mut output = child.stdout.take().expect("the output is a pipe");
     let opened = std::thread::scope(|scope| {
         scope.spawn(move || {
-            for image in images {
+            for one in all {
                 // A program that ends too early is found out below.
-                let _ = input.write_all(&framed(image));
+                let _ = input.write_all(&framed(one));
             }
         });
-        let opened = images.iter().map(|_| read_opened(&mut output)).collect();
+        let opened = all.iter().map(|_| read_opened(&mut output)).collect();
         assert_eq!(output.read(&mut [0]).ok(), Some(0), "more than the answers");
         opened
     });
-    let status = child.wait().expect("inspect ends");
-    assert!(status.success(), "inspect: {status}");
+    let status = child.wait().expect("it ends");
+    assert!(status.success(), "{name}: {status}");
     opened
 }
 
-/// An image as the program `inspect` takes it: its length, then its bytes.
-pub fn framed(image: &[u8]) -> Vec<u8> {
-    let length = u16::try_from(image.len()).expect("at most 65,535 bytes");
-    [&length.to_le_bytes(), image].concat()
+/// An image or a text as these programs take it: its length, then its
+/// bytes.
+pub fn framed(bytes: &[u8]) -> Vec<u8> {
+    let length = u16::try_from(bytes.len()).expect("at most 65,535 bytes");
+    [&length.to_le_bytes(), bytes].concat()
 }
 
 fn read_opened(output: &mut impl Read) -> Opened {
     let mut bytes = vec![0; 1 + DUMP_BYTES];
-    output
-        .read_exact(&mut bytes)
-        .expect("an answer for each image");
+    output.read_exact(&mut bytes).expect("an answer for each");
     Opened {
         number: bytes[0],
         dump: bytes.split_off(1),

@@ -17,9 +17,9 @@ pub struct Example {
     pub title: &'static str,
     /// What the example shows.
     pub about: &'static str,
-    /// The net in the planners' notation. Its instructions have the same
-    /// numbers there as in the image.
+    /// The net in the planners' notation.
     pub notation: &'static str,
+    /// The same net, written by hand.
     pub net: Net,
     /// Each pick, and what it does.
     pub picks: &'static [(u8, &'static str)],
@@ -59,6 +59,7 @@ impl Example {
             content,
         };
         vec![
+            file("net.txt", self.notation.as_bytes().to_vec()),
             file("net.bin", self.image()),
             file("picks.bin", self.pick_bytes()),
             file("register.txt", self.register().into_bytes()),
@@ -72,7 +73,7 @@ impl Example {
         format!(
             "# {title}\n\n{about}\n\
              ## The net\n\n\
-             In the planners' notation; `net.bin` holds the same net as an image.\n\n\
+             In the planners' notation, as `net.txt` has it; `net.bin` holds the same net as an image.\n\n\
              ```\n{notation}```\n\n\
              ## The picks\n\n\
              One byte each in `picks.bin`.\n\n\
@@ -96,5 +97,22 @@ impl Example {
             writeln!(text, "{row}").expect("a string takes every line");
         }
         text
+    }
+}
+
+#[cfg(test)]
+mod tests {
+    use super::*;
+    use crate::notation::read_text;
+
+    /// Each text gives the very net of its image, instruction by
+    /// instruction.
+    #[test]
+    fn the_texts_give_the_nets_of_the_images() {
+        for example in examples() {
+            let read = read_text(example.notation.as_bytes());
+            assert_eq!(read, read_image(&example.image()), "{}", example.name);
+            assert_eq!(read, Ok(example.net), "{}", example.name);
+        }
     }
 }

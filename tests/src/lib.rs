@@ -1,5 +1,6 @@
-//! An independent model of the net, its images, picks and register,
-//! written from document 01 alone. Other programs are compared with it.
+//! An independent model of the net, its images and texts, picks and
+//! register, written from documents 01 and 02 alone. Other programs are
+//! compared with it.
 
 pub mod bits;
 pub mod by_hand;
@@ -10,6 +11,7 @@ pub mod generate;
 pub mod image;
 pub mod matching;
 pub mod net;
+pub mod notation;
 pub mod program;
 pub mod random;
 pub mod register;

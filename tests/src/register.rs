@@ -2,6 +2,7 @@
 
 use crate::image::read_image;
 use crate::net::*;
+use crate::notation::read_text;
 use crate::step::{pick_address, pick_slot, step};
 use std::fmt::Write;
 
@@ -10,7 +11,17 @@ pub const MOST_PICKS: usize = 65_536;
 
 /// The register of an image and its picks.
 pub fn register(image: &[u8], picks: &[u8]) -> String {
-    let mut net = match read_image(image) {
+    register_of(read_image(image), picks)
+}
+
+/// The register of a text and its picks.
+pub fn register_text(text: &[u8], picks: &[u8]) -> String {
+    register_of(read_text(text), picks)
+}
+
+// The register of a net, or of the number with which it is refused.
+fn register_of(read: Result<Net, u8>, picks: &[u8]) -> String {
+    let mut net = match read {
         Ok(net) => net,
         Err(number) => return format!("refused {number}\n"),
     };
@@ -94,6 +105,16 @@ mod tests {
         let mut barred = PAPER_IMAGE;
         barred[2] = 0x40;
         assert_eq!(register(&barred, &[0]), "refused 30\n");
+    }
+
+    #[test]
+    fn a_text_has_the_register_of_its_image() {
+        let text = b"0 has 0:o\n0 :: out(5)@self.nil\n";
+        assert_eq!(
+            register_text(text, &[0, 0, 0]),
+            register(&PAPER_IMAGE, &[0, 0, 0])
+        );
+        assert_eq!(register_text(b"", &[0]), "refused 31\n");
     }
 
     #[test]

@@ -1,0 +1,73 @@
+//! The texts on the page docs/NOTATION.md, with the results it gives.
+
+use crate::stored::repository;
+use std::fs;
+
+/// What the page says of a text.
+#[derive(Clone, Copy, PartialEq, Eq, Debug)]
+pub enum Outcome {
+    Accepted,
+    /// Accepted, with the net of the text before it.
+    Same,
+    Refused(u8),
+    /// Refused, and no shorter text of whole lines is refused with it.
+    Shortest(u8),
+}
+
+/// A text on the page.
+#[derive(Clone, PartialEq, Eq, Debug)]
+pub struct Block {
+    /// The line of the page on which the text begins, from 1.
+    pub line: usize,
+    pub text: String,
+    pub outcome: Outcome,
+}
+
+/// The texts on the page, in their order.
+pub fn blocks() -> Vec<Block> {
+    let path = repository().join("docs/NOTATION.md");
+    let page = fs::read_to_string(path).expect("the page is there");
+    blocks_of(&page)
+}
+
+// The fenced blocks: each opens with its result and closes with a bare
+// fence.
+fn blocks_of(page: &str) -> Vec<Block> {
+    let mut blocks: Vec<Block> = Vec::new();
+    let mut open = false;
+    for (index, line) in page.lines().enumerate() {
+        match (line.strip_prefix("```"), open) {
+            (Some(opening), false) => {
+                blocks.push(Block {
+                    line: index + 2,
+                    text: String::new(),
+                    outcome: outcome(opening),
+                });
+                open = true;
+            }
+            (Some(closing), true) => {
+                assert_eq!(closing, "", "line {}", index + 1);
+                open = false;
+            }
+            (None, true) => {
+                let block = blocks.last_mut().expect("one is open");
+                block.text += line;
+                block.text.push('\n');
+            }
+            (None, false) => {}
+        }
+    }
+    assert!(!open, "the last block is closed");
+    blocks
+}
+
+fn outcome(opening: &str) -> Outcome {
+    let number = |text: &str| text.parse().expect("a number");
+    match opening.split(' ').collect::<Vec<_>>()[..] {
+        ["net"] => Outcome::Accepted,
+        ["same"] => Outcome::Same,
+        ["refused", text] => Outcome::Refused(number(text)),
+        ["refused", text, "shortest"] => Outcome::Shortest(number(text)),
+        _ => panic!("{opening}: no result"),
+    }
+}
