@@ -1,5 +1,6 @@
 //! The programs for texts beside the model: `register_text` in its whole
 //! output, `pack` in the image that it writes.
+#![cfg(feature = "texts")]
 
 use cavindorum_tests::examples::examples;
 use cavindorum_tests::generate::picks;

@@ -1,5 +1,6 @@
 //! The proved reader of texts beside the model, by the program
 //! `inspect_text`: each text is compared in its number and in the whole net.
+#![cfg(feature = "texts")]
 
 use cavindorum_tests::dump::{dump, inspect_text, record_at, Opened};
 use cavindorum_tests::net::Net;
