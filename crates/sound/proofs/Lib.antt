@@ -1,4 +1,5 @@
 pub mod CodeFacts
+pub mod Drafts
 pub mod FormalLaws
 pub mod MoreAddresses
 pub mod NetChanges

@@ -1,4 +1,5 @@
 -- The types of the crates below that the definitions of this crate speak of.
+pub use Rattle.net.specs.declared.locality.Place.{Place}
 pub use Rattle.net.specs.declared.tuple.Value.{Value}
 pub use Rattle.net.specs.declared.tuple.Variable.{Variable}
 pub use Rattle.net.specs.declared.tuple.Item.{Item}
