@@ -1,0 +1,4 @@
+pub mod Numbering
+pub mod Reading
+pub mod Terms
+pub mod Types

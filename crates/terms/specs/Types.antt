@@ -1,0 +1,5 @@
+-- The types of the crates below that the definitions of this crate speak of.
+pub use Rattle.net.specs.declared.locality.Place.{Place}
+pub use Rattle.net.specs.declared.instruction.Target.{Target}
+pub use Rattle.net.specs.declared.instruction.Action.{Action}
+pub use Rattle.net.specs.declared.instruction.Instruction.{Instruction}

@@ -1,0 +1,1 @@
+// Processes and actions of the planners' notation.
