@@ -1,0 +1,15 @@
+-- `notation::names::name_right` meets its contract. Assumes nothing.
+use Rattle.notation.proofs.NameTableLaws.{right-none, right-defined}
+use borrow.Author.Needs.{needs}
+use Rattle.notation.proofs.names.name_right.Statement.{statement}
+use Rattle.notation.proofs.names.name_right.Tie as tie
+
+pub name-right-spec : {M : Type 1} → statement M
+name-right-spec =
+    tie.close
+    (tie.spec
+    (λ c κs. search needs)
+    (λ c κs. search needs)
+    (λ c κs. search needs)
+    (λ c. search (needs, right-none))
+    (λ c. search (needs, right-defined)))

@@ -1,0 +1,90 @@
+-- The net of a source (document 01, "The planners' notation"): instructions numbered by the place of their first
+-- character, and names resolved.
+use Prim.Native.Nat.{ℕ, zero, suc, _+_}
+use mathlib.Core.Bool.{Bool, true, false}
+use mathlib.Core.List.{List, [], _∷_, _++_}
+use lib.ListN.{length}
+use lib.Dec.{eqb}
+use Rattle.net.specs.Choice.{choose}
+use Rattle.net.specs.Records.{emptyNet, nodeAt, startingAt, processCount, addressOf, placeOf}
+use Rattle.net.specs.Records.{withNode, withRow, withProcess, withTuple, withCounts}
+use Rattle.text.specs.Buffer.{over}
+use Rattle.terms.specs.Numbering.{size, Start, here, called, startOf, codeOf}
+use Rattle.notation.specs.Types.{Place, Row, Instruction, Net}
+use Rattle.notation.specs.Source.{Line, definition, process, tuple, Source}
+
+unfoldable pub sizeOf : Line → ℕ
+sizeOf (definition k p) = size p
+sizeOf (process a p) = size p
+sizeOf (tuple a t) = 0
+
+-- how many instructions the lines have
+unfoldable pub total : List Line → ℕ
+total [] = 0
+total (l ∷ ls) = sizeOf l + total ls
+
+-- ---- names: a name stands for the first instruction of its body, and a body that is a bare name for that name's
+
+-- where the body of name k starts, by its first definition; instructions of `ls` are numbered from n on
+unfoldable pub definedIn : ℕ → ℕ → List Line → Start
+definedIn k n [] = called k
+definedIn k n (definition j p ∷ ls) = choose (eqb k j) (startOf n p) (definedIn k (n + size p) ls)
+definedIn k n (process a p ∷ ls) = definedIn k (n + size p) ls
+definedIn k n (tuple a t ∷ ls) = definedIn k n ls
+
+-- the number of the instruction after at most h names
+unfoldable pub settle : ℕ → List Line → Start → Start
+settle zero ls x = x
+settle (suc h) ls (here n) = here n
+settle (suc h) ls (called k) = settle h ls (definedIn k 0 ls)
+
+unfoldable pub numberOf : Start → ℕ
+numberOf (here n) = n
+numberOf (called k) = 0
+
+unfoldable pub isHere : Start → Bool
+isHere (here n) = true
+isHere (called k) = false
+
+-- 512 names, so that more hops than 512 go in a circle
+unfoldable pub settled : List Line → Start → Start
+settled ls x = settle 512 ls x
+
+-- the place of a start
+unfoldable pub placeIn : List Line → Start → Place
+placeIn ls x = placeOf (numberOf (settled ls x))
+
+-- ---- the code: `all` are all lines, and the instructions of those that follow are numbered from n on
+unfoldable pub lineCode : List Line → ℕ → Line → List Instruction
+lineCode all n (definition k p) = codeOf (placeIn all) n p
+lineCode all n (process a p) = codeOf (placeIn all) n p
+lineCode all n (tuple a t) = []
+
+unfoldable pub codeFrom : List Line → ℕ → List Line → List Instruction
+codeFrom all n [] = []
+codeFrom all n (l ∷ ls) = lineCode all n l ++ codeFrom all (n + sizeOf l) ls
+
+-- ---- the net: its rows, its processes and tuples line after line, its code
+unfoldable pub ruled : ℕ → List Row → Net → Net
+ruled i [] s = s
+ruled i (r ∷ rs) s = ruled (suc i) rs (withNode s (addressOf i) (withRow (nodeAt s (addressOf i)) r))
+
+-- what a line puts at its node; its first instruction has the number n
+unfoldable pub placed : List Line → ℕ → Line → Net → Net
+placed all n (definition k p) s = s
+placed all n (process a p) s =
+    withNode s a (withProcess (nodeAt s a) (processCount (nodeAt s a)) (startingAt (placeIn all (startOf n p))))
+placed all n (tuple a t) s = withNode s a (withTuple (nodeAt s a) t)
+
+unfoldable pub peopled : List Line → ℕ → List Line → Net → Net
+peopled all n [] s = s
+peopled all n (l ∷ ls) s = peopled all (n + sizeOf l) ls (placed all n l s)
+
+unfoldable pub withCode : Net → List Instruction → Net
+withCode s code = record { addresses = s .addresses; length = s .length; nodes = s .nodes; code = over (s .code) 0 code }
+
+unfoldable pub compiled : Source → Net
+compiled x =
+    withCode
+    (peopled (x .lines) 0 (x .lines) (ruled 0 (x .rows) (withCounts emptyNet (length (x .rows)) (total (x .lines)))))
+    (codeFrom (x .lines) 0 (x .lines))
