@@ -1,0 +1,133 @@
+-- What the readers of fields, templates, targets and tuples of a text give (`Fields.antt` of `fields`): sound ones, as
+-- facts (`CodeFacts.antt` and `NodeFacts.antt` of `sound`). Assumes nothing.
+use Prim.Native.Nat.{ℕ, zero, suc, _+_, _<_, _≤_}
+use mathlib.Core.Path.{_≡_, refl, sym, _∙_}
+use mathlib.Core.Bool.{Bool, true}
+use native.Mathlib.Omega.{arith}
+use borrow.Author.Tests.{ltb-true, lt-ltb}
+use Rattle.readers.specs.Reader.{Reader}
+use Rattle.net.specs.Records.{zeroTuple, zeroInstruction, withAction}
+use Rattle.sound.specs.Soundness.{itemSound, targetSound, patternSound, isActual, unboundBefore, bindsAnew}
+use Rattle.fields.specs.Fields.{address, variable, negative, positive, reading, atAddress, own, held, addressItem, readingItem}
+use Rattle.fields.specs.Fields.{item, fields, tupleField, tuple, addressPattern, ownPattern, heldPattern, readingPattern, fresh}
+use Rattle.fields.specs.Fields.{formalReading, formalAddress, bound, formal, pattern, templateField, template}
+use Rattle.fields.specs.Fields.{ownTarget, heldTarget, writtenTarget, target}
+use Rattle.net.proofs.ReadingLaws.{never}
+use Rattle.sound.proofs.NodeFacts.{TupleOk}
+use Rattle.sound.proofs.NodeChanges.{Filling, no-field, next-field, all-fields}
+use Rattle.sound.proofs.Drafts.{SuitsNext, suited, Drafted, no-pattern, next-pattern, Whole, whole}
+use Rattle.texts.specs.Types.{Action, Instruction}
+use Rattle.texts.specs.TextClaims.{count, formal-in-out, formal-twice, astray}
+use Rattle.texts.specs.TextClaims as Number
+use Rattle.texts.proofs.Gives.{Any, Gives, gives-pure, gives-weaken, gives-then, gives-and, gives-choice, gives-require}
+use Rattle.texts.proofs.Gives.{gives-look, gives-fail, gives-byte, gives-word, gives-optional, gives-number}
+
+-- ---- fields
+pub gives-address : (n : ℕ) → Gives (address n) (λ l. l .0 < n)
+unfolding address
+gives-address n =
+    gives-then (gives-number 15) (λ l _. gives-and (gives-require _ 23 Number.address) (λ _ h. gives-pure _ _ (ltb-true l n h)))
+
+pub gives-variable : Gives variable (λ v. v < 8)
+unfolding variable
+gives-variable = gives-weaken (gives-number 7) (λ v h. omega arith)
+
+pub gives-reading : Gives reading Any
+unfolding reading negative positive
+gives-reading =
+    gives-look Any _ (λ b. gives-choice Any _ _ _
+    (gives-and (gives-byte 45) (λ _ _. gives-then (gives-number 2147483648) (λ v _. gives-and (gives-require _ 31 astray) (λ _ _. gives-pure Any _ tt))))
+    (gives-then (gives-number 2147483647) (λ v _. gives-pure Any _ tt)))
+
+gives-atAddress : (n : ℕ) → Gives (atAddress n) (λ l. l .0 < n)
+unfolding atAddress
+gives-atAddress n = gives-and (gives-byte 64) (λ _ _. gives-address n)
+
+gives-held : Gives held (λ v. v < 8)
+unfolding held
+gives-held = gives-and (gives-byte 118) (λ _ _. gives-variable)
+
+gives-own : Gives own Any
+unfolding own
+gives-own = gives-word _
+
+-- ---- one to four fields, each added to those before it
+gives-fields :
+    {A : Type 0} (Part : ℕ → A → Type 0) (All : A → Type 0) (field : A → Reader A)
+    → ((i : ℕ) (a : A) → i < 4 → Part i a → Gives (field a) (Part (suc i)))
+    → ((i : ℕ) (a : A) → 1 ≤ i → i ≤ 4 → Part i a → All a)
+    → (k i : ℕ) (a : A) → k + i ≡ 4 → Part i a → Gives (fields k field a) All
+unfolding fields
+gives-fields Part All field turn end zero i a e ok = gives-fail All 22 count
+gives-fields Part All field turn end (suc k) i a e ok =
+    gives-then (turn i a (omega arith) ok) (λ b next. gives-then (gives-optional 44) (λ more _. gives-choice All more _ _
+    (gives-fields Part All field turn end k (suc i) b (omega arith) next)
+    (gives-pure All b (end (suc i) b (omega arith) (omega arith) next))))
+
+-- ---- tuples
+gives-item : (n : ℕ) → Gives (item n) (λ x. itemSound n x ≡ true)
+unfolding item addressItem readingItem itemSound
+gives-item n =
+    gives-look _ _ (λ b. gives-choice _ _ _ _
+    (gives-then (gives-atAddress n) (λ l h. gives-pure _ _ (lt-ltb (l .0) n h)))
+    (gives-then gives-reading (λ x _. gives-pure _ _ refl)))
+
+pub gives-tuple : (n : ℕ) → Gives (tuple n) (TupleOk n)
+unfolding tuple tupleField
+gives-tuple n =
+    gives-and (gives-byte 60) (λ _ _. gives-then
+    (gives-fields (Filling n) (TupleOk n) (tupleField n)
+    (λ i t h ok. gives-then (gives-item n) (λ x e. gives-pure _ _ (next-field n i t _ h ok e)))
+    (λ i t h g ok. all-fields n i t h g ok) 4 0 zeroTuple refl (no-field n))
+    (λ t ok. gives-and (gives-byte 62) (λ _ _. gives-pure _ t ok)))
+
+-- ---- templates
+
+-- a formal's variable
+record FreshOk (c : Instruction) (v : ℕ) : Type 0 where
+  small : v < 8
+  unbound : unboundBefore c (c .count) v ≡ true
+
+gives-fresh : (c : Instruction) → Gives (fresh c) (FreshOk c)
+unfolding fresh
+gives-fresh c =
+    gives-then gives-variable
+    (λ v h. gives-and (gives-require _ 27 formal-twice) (λ _ e. gives-pure _ _ (record { small = h; unbound = e })))
+
+module _ (formals : Bool) (n : ℕ) (c : Instruction) where
+  gives-formal : Gives (formal formals c) (SuitsNext formals n c)
+  unfolding formal bound formalReading formalAddress patternSound bindsAnew
+  gives-formal =
+      gives-and (gives-require formals 26 formal-in-out) (λ _ e. gives-and (gives-byte 33) (λ _ _.
+      gives-look _ _ (λ b. gives-choice _ _ _ _
+      (gives-and (gives-byte 120) (λ _ _. gives-then (gives-fresh c) (λ v h.
+      gives-pure _ _ (suited formals n c _ (lt-ltb v 8 (h .small)) (λ f. never (sym f ∙ e)) (h .unbound)))))
+      (gives-and (gives-byte 117) (λ _ _. gives-then (gives-fresh c) (λ v h.
+      gives-pure _ _ (suited formals n c _ (lt-ltb v 8 (h .small)) (λ f. never (sym f ∙ e)) (h .unbound))))))))
+
+  gives-pattern : Gives (pattern formals n c) (SuitsNext formals n c)
+  unfolding pattern addressPattern ownPattern heldPattern readingPattern patternSound isActual bindsAnew
+  gives-pattern =
+      gives-look _ _ (λ b. gives-choice _ _ _ _ gives-formal
+      (gives-choice _ _ _ _
+      (gives-then (gives-atAddress n) (λ l g. gives-pure _ _ (suited formals n c _ (lt-ltb (l .0) n g) (λ _. refl) refl)))
+      (gives-choice _ _ _ _ (gives-and gives-own (λ _ _. gives-pure _ _ (suited formals n c _ refl (λ _. refl) refl)))
+      (gives-choice _ _ _ _
+      (gives-then gives-held (λ v g. gives-pure _ _ (suited formals n c _ (lt-ltb v 8 g) (λ _. refl) refl)))
+      (gives-then gives-reading (λ x _. gives-pure _ _ (suited formals n c _ refl (λ _. refl) refl)))))))
+
+pub gives-template :
+    (formals : Bool) (n : ℕ) → Gives (template formals n) (λ c. (a : Action) → Whole formals n (withAction c a))
+unfolding template templateField
+gives-template formals n =
+    gives-fields (Drafted formals n) (λ c. (a : Action) → Whole formals n (withAction c a)) (templateField formals n)
+    (λ i c h ok. gives-then (gives-pattern formals n c) (λ x e. gives-pure _ _ (next-pattern formals n i c _ h ok e)))
+    (λ i c h g ok a. whole formals n i c a h g ok) 4 0 zeroInstruction refl (no-pattern formals n)
+
+-- ---- targets
+pub gives-target : (n : ℕ) → Gives (target n) (λ t. targetSound n t ≡ true)
+unfolding target ownTarget heldTarget writtenTarget targetSound
+gives-target n =
+    gives-look _ _ (λ b. gives-choice _ _ _ _ (gives-and gives-own (λ _ _. gives-pure _ _ refl))
+    (gives-choice _ _ _ _ (gives-then gives-held (λ v h. gives-pure _ _ (lt-ltb v 8 h)))
+    (gives-then (gives-address n) (λ l h. gives-pure _ _ (lt-ltb (l .0) n h)))))

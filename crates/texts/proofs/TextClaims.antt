@@ -1,0 +1,93 @@
+-- The claims of `specs/TextClaims.antt`. Assumes nothing.
+use Prim.Native.Nat.{ℕ}
+use mathlib.Core.Path.{_≡_, refl, subst}
+use mathlib.Core.Bool.{Bool, true, false}
+use mathlib.Core.List.{List}
+use native.Mathlib.Omega.{arith}
+use Rattle.net.specs.Choice.{choose, inRange}
+use Rattle.net.proofs.Laws.{in-range-low, in-range-high}
+use Rattle.sound.specs.Soundness.{soundOf}
+use Rattle.net.specs.Records.{emptyNet}
+use Rattle.keeping.specs.Admission.{admits}
+use Rattle.readers.specs.Reader.{Parsed, got, fault}
+use Rattle.notation.specs.Source.{Source}
+use Rattle.notation.specs.Lines.{source}
+use Rattle.notation.specs.Names.{namesRight}
+use Rattle.notation.specs.Compiled.{total, compiled}
+use Rattle.notation.specs.Text.{refused, accepted, judgedSource, judged, readOf}
+use Rattle.texts.specs.Types.{Verdict, Opened}
+use Rattle.texts.specs.TextClaims.{TextNumber, count, beyond-row, name, TextIsSound, RefusedTextIsEmpty, RefusedTextIsNumbered}
+use Rattle.texts.proofs.Gives.{Fine, value, stopped}
+use Rattle.texts.proofs.Lines.{SourceOk, gives-source}
+use Rattle.texts.proofs.CompiledNet.{compiled-sound}
+
+-- an answer of the reader: accepted, or refused with one of the numbers and the empty net
+data Answered : Opened → Type 0 where
+  took : {o : Opened} → o .answer ≡ Verdict.Accepted → soundOf (o .net) ≡ true → Answered o
+  left : {n : ℕ} → TextNumber n → Answered (refused n)
+
+-- the branch that a test takes, known to hold
+either : (b : Bool) (x y : Opened) → (b ≡ true → Answered x) → Answered y → Answered (choose b x y)
+unfolding choose
+either true x y h g = h refl
+either false x y h g = g
+
+judged-source : (x : Source) → SourceOk x → Answered (judgedSource x)
+unfolding judgedSource accepted
+judged-source x ok =
+    either (namesRight (x .lines)) _ _ (λ right.
+    either (inRange 1 (total (x .lines)) 512) _ _ (λ few.
+    either (admits (compiled x)) _ _ (λ _.
+    took refl (compiled-sound x ok right (in-range-low 1 _ 512 few) (in-range-high 1 _ 512 few)))
+    (left beyond-row)) (left count)) (left name)
+
+answered-from : (o : Parsed Source) → Fine SourceOk o → Answered (judged o)
+unfolding judged
+answered-from (got x q) (value h) = judged-source x h
+answered-from (fault f) (stopped h) = left h
+
+answered : (text : List ℕ) → Answered (readOf text)
+unfolding readOf
+answered text = answered-from (source text 0) (gives-source .run text 0)
+
+left-empty : (m : ℕ) → refused m .net ≡ emptyNet
+unfolding refused
+left-empty m = refl
+
+left-answer : (m : ℕ) → refused m .answer ≡ Verdict.Refused m
+unfolding refused
+left-answer m = refl
+
+left-number : (m n : ℕ) → refused m .answer ≡ Verdict.Refused n → Verdict.Refused m ≡ Verdict.Refused n
+unfolding refused
+left-number m n e = e
+
+no-both : {C : Type 0} (v : Verdict) (n : ℕ) → v ≡ Verdict.Accepted → v ≡ Verdict.Refused n → C
+no-both v n h e = let z : _≡_ {A = ℕ} 0 1 = cc in absurd (omega arith)
+
+same-number : (m n : ℕ) → Verdict.Refused m ≡ Verdict.Refused n → m ≡ n
+same-number m n e = cc
+
+pub textIsSound : TextIsSound
+unfolding TextIsSound
+textIsSound text = go (readOf text) (answered text)
+  where
+    go : (o : Opened) → Answered o → o .answer ≡ Verdict.Accepted → soundOf (o .net) ≡ true
+    go o (took h g) e = g
+    go o (left {n = m} h) e = no-both (refused m .answer) m e (left-answer m)
+
+pub refusedTextIsEmpty : RefusedTextIsEmpty
+unfolding RefusedTextIsEmpty
+refusedTextIsEmpty text n = go (readOf text) (answered text)
+  where
+    go : (o : Opened) → Answered o → o .answer ≡ Verdict.Refused n → o .net ≡ emptyNet
+    go o (took h g) e = no-both (o .answer) n h e
+    go o (left h) e = left-empty _
+
+pub refusedTextIsNumbered : RefusedTextIsNumbered
+unfolding RefusedTextIsNumbered
+refusedTextIsNumbered text n = go (readOf text) (answered text)
+  where
+    go : (o : Opened) → Answered o → o .answer ≡ Verdict.Refused n → TextNumber n
+    go o (took h g) e = no-both (o .answer) n h e
+    go o (left {n = m} h) e = subst TextNumber (same-number m n (left-number m n e)) h

@@ -1,0 +1,2 @@
+pub mod TextClaims
+pub mod Types
