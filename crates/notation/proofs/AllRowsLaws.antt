@@ -18,7 +18,7 @@ use Rattle.lexemes.specs.Lexemes.{fail}
 use Rattle.notation.specs.Types.{Step, Row, Net}
 use Rattle.notation.specs.Rows.{isRow, row, rowsAfter, within, allWithin, rows}
 use Rattle.notation.specs.Compiled.{ruled}
-use Rattle.notation.specs.Progress.{RowsRead, isRowHere, netOf, ruledRows, Ruling, Gathered, Ruled}
+use Rattle.notation.specs.Progress.{RowsRead, isRowHere, netOf, ruledRows, Ruling, Ruled}
 use Rattle.notation.proofs.RuledLaws.{putRow, ruled-more, ruled-counts, ruled-length, addresses-of, rows-within}
 
 -- ---- whether a row comes next
@@ -33,7 +33,9 @@ no-next-row s p n h = rw (le-ltb n 16 h) refl
 pub has-place : (s : List ℕ) (p : Step) (n : ℕ) (more : Bool) → more ≡ both (ltb n 16) (isRowHere s p) → more ≡ true → n < 16
 has-place s p n more e t = ltb-true n 16 (both-l _ (isRowHere s p) (sym e ∙ t))
 
-pub fewer-left : (s : List ℕ) (p : Step) (n : ℕ) (more : Bool) → more ≡ both (ltb n 16) (isRowHere s p) → more ≡ true → 16 - (n + 1) < 16 - n
+pub fewer-left :
+    (s : List ℕ) (p : Step) (n : ℕ) (more : Bool) → more ≡ both (ltb n 16) (isRowHere s p) → more ≡ true
+    → 16 - (n + 1) < 16 - n
 fewer-left s p n more e t = let place : n < 16 = has-place s p n more e t in omega arith
 
 -- ---- row after row
@@ -47,8 +49,8 @@ module _ (s : List ℕ) where
       → Went s p (row n) q r → runFrom s p (rowsAfter k rs) ≡ runFrom s q (rowsAfter j (rs ++ (r ∷ [])))
   unfolding rowsAfter isRowHere runFrom
   one-row (Step.At p) q k j n rs r e t c w =
-      rw (e, choose-true (isRow s p) (row (length rs) >>= (λ (x : Row). rowsAfter j (rs ++ (x ∷ [])))) (pure rs) t)
-      (after s (Step.At p) q (row (length rs)) (λ (x : Row). rowsAfter j (rs ++ (x ∷ []))) r (rw c w))
+      rw e
+      (ap (λ (m : Reader (List Row)). m s p) (choose-true _ _ _ t) ∙ after s (Step.At p) q (row (length rs)) _ r (rw c w))
   one-row (Step.Failed f) q k j n rs r e t c w = never t
 
   pub ruling-more :
@@ -83,7 +85,9 @@ module _ (s : List ℕ) where
     unfolding rowsAfter
     one-too-many p t = ap (λ (m : Reader (List Row)). m s p) (choose-true _ _ _ t)
 
-    ended : (p : Step) (k : ℕ) (b : Bool) → isRowHere s p ≡ b → (b ≡ true → k ≡ 0) → runFrom s p (require (not b) 22 >> pure rs) ≡ runFrom s p (rowsAfter k rs)
+    ended :
+        (p : Step) (k : ℕ) (b : Bool) → isRowHere s p ≡ b → (b ≡ true → k ≡ 0)
+        → runFrom s p (require (not b) 22 >> pure rs) ≡ runFrom s p (rowsAfter k rs)
     unfolding isRowHere runFrom require choose _>>_ _>>=_ andThen pure fail
     ended (Step.At p) k true e z = let full : k ≡ 0 = z refl in rw full (sym (one-too-many p e))
     ended (Step.At p) k false e z = sym (none-more p k e)
@@ -99,7 +103,7 @@ module _ (s : List ℕ) where
   pub gathered :
       (p last : Step) (n : ℕ) (net : Net) (more another : Bool) → more ≡ false → Ruling s p n net
       → more ≡ both (ltb n 16) (isRowHere s p) → another ≡ isRowHere s p → Went s p (require (not another) 22) last tt
-      → Gathered s (record { net = withCounts net n (net .length); next = last })
+      → Ruled s (rowsAfter 16 []) (record { net = withCounts net n (net .length); next = last })
   unfolding netOf emptyNet ruled
   gathered p last n net more another f l e d w = record {
     read = l .read;
@@ -117,23 +121,20 @@ module _ (s : List ℕ) where
   }
 
   -- ---- the number of rows
-  count-of : (net : Net) (rs : List Row) → net ≡ netOf rs → net .addresses ≡ length rs
-  count-of net rs e = ap (λ (x : Net). x .addresses) e ∙ addresses-of rs
+  pub rows-counted : (m : Reader (List Row)) (r : RowsRead) (g : Ruled s m r) → r .net .addresses ≡ length (g .read)
+  rows-counted m r g = ap (λ (x : Net). x .addresses) (g .standing) ∙ addresses-of (g .read)
 
-  pub few-rows : (r : RowsRead) → Gathered s r → r .net .addresses ≤ 16
-  few-rows r g = omega (arith, count-of (r .net) (g .read) (g .standing), g .within)
-
-  pub rows-counted : (r : RowsRead) (g : Ruled s r) → r .net .addresses ≡ length (g .read)
-  rows-counted r g = count-of (r .net) (g .read) (g .standing)
+  pub few-rows : (m : Reader (List Row)) (r : RowsRead) → Ruled s m r → r .net .addresses ≤ 16
+  few-rows m r g = omega (arith, rows-counted m r g, g .within)
 
   -- ---- the rows, judged
   pub judged-rows :
-      (r : RowsRead) (counted last : Step) (good : Bool) → Gathered s r → Went s (r .next) (require (leb 1 (r .net .addresses)) 31) counted tt
+      (r : RowsRead) (counted last : Step) (good : Bool) → Ruled s (rowsAfter 16 []) r → Went s (r .next) (require (leb 1 (r .net .addresses)) 31) counted tt
       → good ≡ all (r .net .addresses) (λ i. within (r .net .addresses) (nodeAt (r .net) (addressOf i) .row))
-      → Went s counted (require good 23) last tt → Ruled s (record { net = r .net; next = last })
+      → Went s counted (require good 23) last tt → Ruled s rows (record { net = r .net; next = last })
   unfolding rows
   judged-rows r counted last good g v e w =
-      let count : r .net .addresses ≡ length (g .read) = count-of (r .net) (g .read) (g .standing) in
+      let count : r .net .addresses ≡ length (g .read) = rows-counted (rowsAfter 16 []) r g in
       let fits : good ≡ allWithin (g .read) =
       e ∙ ap (λ (x : Net). all (x .addresses) (λ i. within (x .addresses) (nodeAt x (addressOf i) .row))) (g .standing)
       ∙ rows-within (g .read) (g .within) in
@@ -147,7 +148,7 @@ module _ (s : List ℕ) where
       }
 
   -- the net, as what a reader gives
-  pub ruled-rows : (r : RowsRead) → Ruled s r → Went s (Step.At 0) ruledRows (r .next) (r .net)
+  pub ruled-rows : (r : RowsRead) → Ruled s rows r → Went s (Step.At 0) ruledRows (r .next) (r .net)
   unfolding ruledRows
   ruled-rows r g =
       on s (Step.At 0) (r .next) (r .next) rows (λ (rs : List Row). pure (netOf rs)) (g .read) (r .net) (g .went)

@@ -59,7 +59,8 @@ module _ (bodies : List ℕ) (x : Start) where
   arrived zero n = refl
   arrived (suc m) n = refl
 
-  pub settling-stop : (h : ℕ) (ended : Bool) (n : ℕ) → Settling bodies x h ended n → ended ≡ true → startFor ended n ≡ settledIn bodies x
+  pub settling-stop :
+      (h : ℕ) (ended : Bool) (n : ℕ) → Settling bodies x h ended n → ended ≡ true → startFor ended n ≡ settledIn bodies x
   unfolding startFor
   settling-stop h ended n s t =
       let there : startFor ended n ≡ here n = choose-true _ _ _ t in
@@ -69,7 +70,8 @@ module _ (bodies : List ℕ) (x : Start) where
   unfolding settleIn
   no-names m y e = rw e refl
 
-  pub settling-end : (h : ℕ) (ended : Bool) (n : ℕ) → Settling bodies x h ended n → 512 ≤ h → startFor ended n ≡ settledIn bodies x
+  pub settling-end :
+      (h : ℕ) (ended : Bool) (n : ℕ) → Settling bodies x h ended n → 512 ≤ h → startFor ended n ≡ settledIn bodies x
   settling-end h ended n s b = sym (s .rest ∙ no-names (512 - h) (startFor ended n) (omega arith))
 
 -- ---- whether a start is an instruction, and which
@@ -99,13 +101,17 @@ module _ (bodies : List ℕ) (uses : List Bool) (k v : ℕ) (e : v ≡ getD bodi
   right-none u z f =
       ap not f ∙ no-body (isDefined bodies k) (getD uses k false) (isHere (settledIn bodies (called k))) (ap not (eq-eqb _ 0 (sym e ∙ z)))
 
-  pub right-defined : (ended : Bool) (n : ℕ) → (v ≡ 0 → ⊥) → startFor ended n ≡ settledIn bodies (called k) → ended ≡ nameRightIn bodies uses k
+  pub right-defined :
+      (ended : Bool) (n : ℕ) → (v ≡ 0 → ⊥) → startFor ended n ≡ settledIn bodies (called k)
+      → ended ≡ nameRightIn bodies uses k
   unfolding nameRightIn isDefined
   right-defined ended n z s =
       ends-here ended n _ s
       ∙ a-body (isDefined bodies k) (getD uses k false) (isHere (settledIn bodies (called k))) (ap not (ne-eqb _ 0 (λ y. z (e ∙ y))))
 
-pub all-right : (bodies : List ℕ) (uses : List Bool) (twice ok : Bool) → ok ≡ all 512 (nameRightIn bodies uses) → (not twice && ok) ≡ namesRightIn bodies uses twice
+pub all-right :
+    (bodies : List ℕ) (uses : List Bool) (twice ok : Bool) → ok ≡ all 512 (nameRightIn bodies uses)
+    → (not twice && ok) ≡ namesRightIn bodies uses twice
 unfolding namesRightIn
 all-right bodies uses twice ok e = and-both (not twice) ok _ _ refl e
 

@@ -30,7 +30,9 @@ module _ (s : List ℕ) (p : ℕ) where
   unfolding digitsFrom
   one-digit k j q e d = rw e (choose-true _ _ _ d)
 
-  pub digits-more : (q b : ℕ) (digital : Bool) → Digits s p q → q < length s → b ≡ getD s q 0 → digital ≡ isDigit b → digital ≡ true → Digits s p (q + 1)
+  pub digits-more :
+      (q b : ℕ) (digital : Bool) → Digits s p q → q < length s → b ≡ getD s q 0 → digital ≡ isDigit b → digital ≡ true
+      → Digits s p (q + 1)
   unfolding byteAt
   digits-more q b digital l h e d t =
       let here : isDigit (byteAt s q) ≡ true = ap isDigit (sym e) ∙ sym d ∙ t in
@@ -48,7 +50,9 @@ module _ (s : List ℕ) (p : ℕ) where
   no-more : (q : ℕ) → Digits s p q → isDigit (byteAt s q) ≡ false → q ≡ p + digitsFrom (length s) s p
   no-more q l d = omega (arith, l .rest, none (length s - (q - p)) q d)
 
-  pub digits-stop : (q b : ℕ) (digital : Bool) → Digits s p q → b ≡ getD s q 0 → digital ≡ isDigit b → digital ≡ false → q ≡ p + digitsFrom (length s) s p
+  pub digits-stop :
+      (q b : ℕ) (digital : Bool) → Digits s p q → b ≡ getD s q 0 → digital ≡ isDigit b → digital ≡ false
+      → q ≡ p + digitsFrom (length s) s p
   unfolding byteAt
   digits-stop q b digital l e d f = no-more q l (ap isDigit (sym e) ∙ sym d ∙ f)
 
@@ -79,7 +83,9 @@ module _ (s w : List ℕ) where
   word-stands p q r v e = e ∙ got-place q ∙ ap isGot (v .went)
 
 module _ (s : List ℕ) (p b : ℕ) (digital : Bool) (e : b ≡ byteAt s p) (d : digital ≡ isDigit b) where
-  pub row-is : (q : ℕ) (r : Bool) → digital ≡ true → q ≡ p + digitsFrom (length s) s p → r ≡ standsAt (bytes " has") s q → r ≡ isRow s p
+  pub row-is :
+      (q : ℕ) (r : Bool) → digital ≡ true → q ≡ p + digitsFrom (length s) s p → r ≡ standsAt (bytes " has") s q
+      → r ≡ isRow s p
   unfolding isRow both
   row-is q r t a h = let one : isDigit (byteAt s p) ≡ true = ap isDigit (sym e) ∙ sym d ∙ t in rw (one, ← a) h
 
@@ -142,7 +148,9 @@ module _ (s : List ℕ) (c : ℕ) where
   not-present (got x q) k e = let z : false ≡ true = cc in never z
   not-present (fault f) k e = no-fault (sym e)
 
-  still-missing : (p k : ℕ) (t : Bool) → eqb (byteAt s p) c ≡ t → got false k ≡ optional c s p → Went s (Step.At k) (optional c) (Step.At k) false
+  still-missing :
+      (p k : ℕ) (t : Bool) → eqb (byteAt s p) c ≡ t → got false k ≡ optional c s p
+      → Went s (Step.At k) (optional c) (Step.At k) false
   unfolding optional look present _>>_ _>>=_ pure choose runFrom outcome
   still-missing p k true e v = not-present (byte c s p) k (rw e at v)
   still-missing p k false e v =
@@ -192,7 +200,9 @@ module _ (s : List ℕ) (p₀ : Step) (row₀ : Row) where
   pub granting-begin : Granting s p₀ row₀ p₀ 0 0 row₀
   granting-begin = record { within = omega arith; rest = refl }
 
-  as-many : (p : Step) (i low : ℕ) (row : Row) (r : GrantsRead) (k j : ℕ) → k ≡ suc j → Granted s p low row r → runFrom s p (grants k low row) ≡ runFrom s (r .next) (grants j (r .low) (r .row))
+  as-many :
+      (p : Step) (i low : ℕ) (row : Row) (r : GrantsRead) (k j : ℕ) → k ≡ suc j → Granted s p low row r
+      → runFrom s p (grants k low row) ≡ runFrom s (r .next) (grants j (r .low) (r .row))
   as-many p i low row r k j e g = rw e (g .turn j)
 
   pub granting-more :
@@ -204,7 +214,8 @@ module _ (s : List ℕ) (p₀ : Step) (row₀ : Row) where
   unfolding grants
   no-more-grants p k low row e = rw e (sym (stop s p row .went))
 
-  pub granting-end : (p : Step) (i low : ℕ) (row : Row) → 16 ≤ i → Granting s p₀ row₀ p i low row → Went s p₀ (grants 16 0 row₀) p row
+  pub granting-end :
+      (p : Step) (i low : ℕ) (row : Row) → 16 ≤ i → Granting s p₀ row₀ p i low row → Went s p₀ (grants 16 0 row₀) p row
   granting-end p i low row h l = record { went = sym (l .rest ∙ no-more-grants p (16 - i) low row (omega arith)) }
 
 -- ---- the row of an address

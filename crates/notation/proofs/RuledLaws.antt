@@ -19,7 +19,8 @@ unfoldable pub putRow : Net → ℕ → Row → Net
 putRow x i r = withNode x (addressOf i) (withRow (nodeAt x (addressOf i)) r)
 
 -- ---- one row more
-pub ruled-more : (i : ℕ) (rs : List Row) (r : Row) (x : Net) → ruled i (rs ++ (r ∷ [])) x ≡ putRow (ruled i rs x) (i + length rs) r
+pub ruled-more :
+    (i : ℕ) (rs : List Row) (r : Row) (x : Net) → ruled i (rs ++ (r ∷ [])) x ≡ putRow (ruled i rs x) (i + length rs) r
 unfolding ruled putRow
 ruled-more i [] r x = ap (λ (j : ℕ). putRow x j r) (omega arith)
 ruled-more i (y ∷ ys) r x =

@@ -54,16 +54,9 @@ pub record Ruling (s : List ℕ) (p : Step) (n : ℕ) (net : Net) : Type 0 where
   pub standing : net ≡ ruled 0 read emptyNet
   pub rest : runFrom s (Step.At 0) (rowsAfter 16 []) ≡ runFrom s p (rowsAfter (16 - n) read)
 
--- the rows read, and not yet judged
-pub record Gathered (s : List ℕ) (r : RowsRead) : Type 0 where
+-- rows read by m from the first byte on: the net has them, and nothing else
+pub record Ruled (s : List ℕ) (m : Reader (List Row)) (r : RowsRead) : Type 0 where
   pub read : List Row
   pub within : length read ≤ 16
   pub standing : r .net ≡ netOf read
-  pub went : Went s (Step.At 0) (rowsAfter 16 []) (r .next) read
-
--- the rows read: the net has them, and nothing else
-pub record Ruled (s : List ℕ) (r : RowsRead) : Type 0 where
-  pub read : List Row
-  pub within : length read ≤ 16
-  pub standing : r .net ≡ netOf read
-  pub went : Went s (Step.At 0) rows (r .next) read
+  pub went : Went s (Step.At 0) m (r .next) read

@@ -87,6 +87,10 @@ row i = do
 
 -- ---- all rows
 
+-- no right is held over an address from n on
+unfoldable pub within : ℕ → Row → Bool
+within n r = all 16 (λ l. implies (leb n l) (not (anyRight (rightsAt r (addressOf l)))))
+
 -- at most k rows more after those of `rs`: a seventeenth is 22
 unfoldable pub rowsAfter : ℕ → List Row → Reader (List Row)
 rowsAfter zero rs = λ s p. choose (isRow s p) (fail 22) (pure rs) s p
@@ -98,11 +102,7 @@ rowsAfter (suc k) rs = λ s p.
     (pure rs)
     s p
 
--- no right is held over an address from n on
-unfoldable pub within : ℕ → Row → Bool
-within n r = all 16 (λ l. implies (leb n l) (not (anyRight (rightsAt r (addressOf l)))))
-
--- nor in any of the rows
+-- no row has a right over an address without a row
 unfoldable pub allWithin : List Row → Bool
 allWithin rs = all (length rs) (λ i. within (length rs) (getD rs i zeroRow))
 

@@ -12,13 +12,14 @@ pub struct Settled {
     pub number: usize,
 }
 
-// An entry of a table; 0 past its end.
+// What the table of bodies says of name k; 0 past its end.
 fn body_at(bodies: &[u64], k: usize) -> u64
     ensures { λ r. ⌜ r ≡ getD (now (bodies .entry)) k 0 ⌝ }
 {
     if k < bodies.len() { bodies[k] } else { 0 }
 }
 
+// Whether name k is used; not past the end of the table.
 fn used_at(used: &[bool], k: usize) -> bool
     ensures { λ r. ⌜ r ≡ getD (now (used .entry)) k false ⌝ }
 {

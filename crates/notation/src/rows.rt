@@ -15,14 +15,15 @@ use readers::step::require_that;
 ghost use Prim.Native.Nat.{_+_, _≤_};
 ghost use mathlib.Core.Path.{_≡_};
 ghost use mathlib.Core.Bool.{not};
+ghost use mathlib.Core.List.{[]};
 ghost use lib.ListN.{length};
 ghost use lib.Dec.{leb, ltb};
 ghost use Rattle.net.specs.Choice.{both, all, implies};
 ghost use Rattle.net.specs.Records.{nodeAt, addressOf};
 ghost use Rattle.readers.specs.Progress.{Went};
 ghost use Rattle.lexemes.specs.Progress.{Numbered};
-ghost use Rattle.notation.specs.Rows.{digitsFrom, standsAt, isRow, anyRight, rights, granted, grants, creates, opening, row, within};
-ghost use Rattle.notation.specs.Progress.{isPlace, isRowHere, Granted, Gathered, Ruled};
+ghost use Rattle.notation.specs.Rows.{digitsFrom, standsAt, isRow, anyRight, rights, granted, grants, creates, opening, row, within, rowsAfter, rows};
+ghost use Rattle.notation.specs.Progress.{isPlace, isRowHere, Granted, Ruled};
 
 struct RightsRead {
     rights: Rights,
@@ -108,6 +109,7 @@ fn is_row(s: &[u8], from: Step) -> bool
 
 // ---- one row
 
+// Whether any right is held.
 fn any_right(r: Rights) -> bool
     ensures { λ x. ⌜ x ≡ anyRight r ⌝ }
 {
@@ -257,7 +259,7 @@ fn is_next_row(s: &[u8], from: Step, n: usize) -> bool
 
 // The rows, up to the first line that is none; a seventeenth is 22.
 fn gather_rows(s: &[u8]) -> RowsRead
-    ensures { λ r. ⌜ Gathered (now (s .entry)) r ⌝ }
+    ensures { λ r. ⌜ Ruled (now (s .entry)) (rowsAfter 16 []) r ⌝ }
 {
     let mut net = Net::empty();
     let mut next = Step::At(0);
@@ -320,7 +322,7 @@ fn are_within(net: Net) -> bool
 
 // The rows of a text: one at least (31), and no right over an address without a row (23).
 pub(crate) fn read_rows(s: &[u8]) -> RowsRead
-    ensures { λ r. ⌜ Ruled (now (s .entry)) r ⌝ }
+    ensures { λ r. ⌜ Ruled (now (s .entry)) rows r ⌝ }
 {
     let got = gather_rows(s);
     let net = got.net;
