@@ -45,13 +45,16 @@ creation = do
   byte 41
   pure (newloc v)
 
--- an action, by its first letter: o, i, r, e, or newloc's n
-unfoldable pub action : Reader Process → ℕ → Reader Action
-action inner n = look (λ b.
+-- an action that is no eval, by its first letter: o, i, r, or newloc's n
+unfoldable pub simple : ℕ → Reader Action
+simple n = look (λ b.
     choose (eqb b 111) (communication (bytes "out(") false out n)
     (choose (eqb b 105) (communication (bytes "in(") true input n)
-    (choose (eqb b 114) (communication (bytes "read(") true read n)
-    (choose (eqb b 101) (evaluation inner n) creation))))
+    (choose (eqb b 114) (communication (bytes "read(") true read n) creation)))
+
+-- an action: an eval begins with e
+unfoldable pub action : Reader Process → ℕ → Reader Action
+action inner n = look (λ b. choose (eqb b 101) (evaluation inner n) (simple n))
 
 -- (P | P)
 unfoldable pub forked : Reader Process → Reader Process
@@ -93,12 +96,12 @@ chain zero inner n = fail 31
 chain (suc k) inner n = λ s p.
     choose (endsChain (byteAt s p) (byteAt s (p + 1))) (ended inner) (acting inner (chain k inner n) n) s p
 
--- a process, with brackets and evals at most d deep: 32 where one more is opened. No chain has more actions than the
--- text has bytes
+-- a process inside brackets and evals, which with it are d levels; where none is left it is 32. No chain has more actions
+-- than the text has bytes
 unfoldable pub processAt : ℕ → ℕ → Reader Process
-processAt zero n = λ s p. chain (length s) (fail 32) n s p
+processAt zero n = fail 32
 processAt (suc d) n = λ s p. chain (length s) (processAt d n) n s p
 
--- P
+-- P: 32 levels of brackets and evals, and the one outside them
 unfoldable pub process : ℕ → Reader Process
-process n = processAt 32 n
+process n = processAt 33 n

@@ -1,1 +1,5 @@
 // Processes and actions of the planners' notation.
+pub mod actions;
+pub mod names;
+pub mod processes;
+mod table;

@@ -9,9 +9,9 @@ use lib.ListN.{length}
 use Rattle.net.specs.Records.{withAction}
 use Rattle.sound.specs.Soundness.{targetSound}
 use Rattle.readers.specs.Reader.{Reader}
-use Rattle.lexemes.specs.Lexemes.{byteAt, fail}
+use Rattle.lexemes.specs.Lexemes.{byteAt}
 use Rattle.terms.specs.Terms.{Process, Action, nil, name, fork, act, out, input, read, eval, newloc}
-use Rattle.terms.specs.Reading.{named, atTarget, communication, evaluation, creation, action, forked, stopped, called}
+use Rattle.terms.specs.Reading.{named, atTarget, communication, evaluation, creation, simple, action, forked, stopped, called}
 use Rattle.terms.specs.Reading.{endsChain, ended, acting, chain, processAt, process}
 use Rattle.sound.proofs.Drafts.{Whole}
 use Rattle.texts.specs.Types.{Target, Instruction}
@@ -57,16 +57,21 @@ gives-communication opening formals make n fit =
     gives-and (gives-word opening) (λ _ _. gives-then (gives-template formals n) (λ c ok.
     gives-then (gives-atTarget n) (λ t e. gives-pure _ _ (fit c t ok e))))
 
+gives-simple : (n : ℕ) → Gives (simple n) (FitIn n)
+unfolding simple creation FitIn
+gives-simple n =
+    gives-look _ _ (λ b. gives-choice _ _ _ _ (gives-communication _ false out n (λ c t ok e. (ok, e)))
+    (gives-choice _ _ _ _ (gives-communication _ true input n (λ c t ok e. (ok, e)))
+    (gives-choice _ _ _ _ (gives-communication _ true read n (λ c t ok e. (ok, e)))
+    (gives-and (gives-word _) (λ _ _. gives-then gives-variable (λ v h. gives-and (gives-byte 41) (λ _ _. gives-pure _ _ h)))))))
+
 module _ (inner : Reader Process) (n : ℕ) (within : Gives inner (Fit n)) where
   gives-action : Gives (action inner n) (FitIn n)
-  unfolding action evaluation creation FitIn
+  unfolding action evaluation FitIn
   gives-action =
-      gives-look _ _ (λ b. gives-choice _ _ _ _ (gives-communication _ false out n (λ c t ok e. (ok, e)))
-      (gives-choice _ _ _ _ (gives-communication _ true input n (λ c t ok e. (ok, e)))
-      (gives-choice _ _ _ _ (gives-communication _ true read n (λ c t ok e. (ok, e)))
-      (gives-choice _ _ _ _
+      gives-look _ _ (λ b. gives-choice _ _ _ _
       (gives-and (gives-word _) (λ _ _. gives-then within (λ p ok. gives-then (gives-atTarget n) (λ t e. gives-pure _ _ (ok, e)))))
-      (gives-and (gives-word _) (λ _ _. gives-then gives-variable (λ v h. gives-and (gives-byte 41) (λ _ _. gives-pure _ _ h))))))))
+      (gives-simple n))
 
   gives-ended : Gives (ended inner) (Fit n)
   unfolding ended called forked stopped Fit
@@ -94,9 +99,9 @@ module _ (inner : Reader Process) (n : ℕ) (within : Gives inner (Fit n)) where
 
 gives-processAt : (d n : ℕ) → Gives (processAt d n) (Fit n)
 unfolding processAt
-gives-processAt zero n = record { run = λ s p. gives-chain (fail 32) n (gives-fail _ 32 too-deep) (length s) .run s p }
+gives-processAt zero n = gives-fail _ 32 too-deep
 gives-processAt (suc d) n = record { run = λ s p. gives-chain (processAt d n) n (gives-processAt d n) (length s) .run s p }
 
 pub gives-process : (n : ℕ) → Gives (process n) (Fit n)
 unfolding process
-gives-process n = gives-processAt 32 n
+gives-process n = gives-processAt 33 n

@@ -1,0 +1,17 @@
+-- `terms::names::start_here` meets its contract. Assumes nothing.
+use Rattle.terms.specs.Progress.{room}
+use Rattle.terms.proofs.ChainLaws.{begins-name, begins-here}
+use borrow.Author.Needs.{needs}
+use Rattle.terms.proofs.names.start_here.Statement.{statement}
+use Rattle.terms.proofs.names.start_here.Tie as tie
+
+pub start-here-spec : {M : Type 1} → statement M
+unfolding room
+start-here-spec =
+    tie.close
+    (tie.spec
+    (λ c κs. search needs)
+    (λ c κs. search needs)
+    (λ c. search needs)
+    (λ c. search (needs, begins-name))
+    (λ c. search (needs, begins-here)))
