@@ -19,11 +19,11 @@ use Rattle.lexemes.specs.Lexemes.{look, byte, word}
 use Rattle.fields.specs.Fields as Fields
 use Rattle.lexemes.specs.Progress.{byteHere}
 use Rattle.terms.specs.Types.{Step, Target, Instruction}
-use Rattle.terms.specs.Terms.{Process, Action, out, input, read, eval, newloc}
+use Rattle.terms.specs.Terms.{Process, Action, out, input, read, newloc}
 use Rattle.terms.specs.Reading.{atTarget, communication, evaluation, creation, simple, action}
 use Rattle.terms.specs.Numbering.{sizeIn}
 use Rattle.terms.specs.Table.{targetWord, templateWords, instructionWords, actionWords, wordsIn, markedIn}
-use Rattle.terms.specs.Progress.{reached, room, Begins, KeptIn, Acted, Closed, Aimed, Sent, Filled}
+use Rattle.terms.specs.Progress.{room, Begins, Acted, Closed, Aimed, Sent, Filled}
 
 -- ---- targets, and the dot after an action
 pub aimed : (s : List ℕ) (p q r : Step) (rows w : ℕ) (t : Target) → Went s p (word (bytes ")@")) q tt → Went s q (Fields.target rows) r t → w ≡ targetWord t → Aimed s p rows r w
@@ -49,9 +49,9 @@ sent s p a q rows n count start table table′ w t d = record { aimed = a; word 
 -- ---- an out, an in, a read
 pub filled :
     (s : List ℕ) (p m a q : Step) (formals : Bool) (rows n kind : ℕ) (table : List ℕ) (count : ℕ) (table′ : List ℕ) (c : Instruction) (w : ℕ)
-    → Went s p (Fields.template formals rows) m c → Aimed s m rows a w → (n < room → count ≡ n + 1) → count ≤ room
-    → Closed s a n count kind w c 0 table q table′ → Filled s p formals rows n kind table q count table′
-filled s p m a q formals rows n kind table count table′ c w f t e l d = record {
+    → Went s p (Fields.template formals rows) m c → Aimed s m rows a w → (n < room → count ≡ n + 1) → (count < room → n < room)
+    → count ≤ room → Closed s a n count kind w c 0 table q table′ → Filled s p formals rows n kind table q count table′
+filled s p m a q formals rows n kind table count table′ c w f t e g l d = record {
   template = c;
   middle = m;
   filled = f;
@@ -59,7 +59,8 @@ filled s p m a q formals rows n kind table count table′ c w f t e l d = record
   word = w;
   aims = t;
   closed = d;
-  more = λ h. let g = e (omega arith) in omega arith;
+  more = λ h. let k = e (omega arith) in omega arith;
+  most = λ h. let k = g h in omega arith;
   small = l;
 }
 
@@ -97,6 +98,7 @@ acted-alone make kind h opening formals s p q r rows n table count table′ used
       small = f .small;
       word = f .closed .word;
       follows = f .closed .follows;
+      most = λ _ l. let none = h .small c t in let most = f .most l in omega (arith, none, most);
       kept = λ e l.
           let none = h .small c t in
           let more = f .more (omega (arith, none, l)) in
@@ -146,9 +148,9 @@ newloc-words n v w = sym (instruction-alone 5 v zeroInstruction w 0)
 pub newloc-acted :
     (s : List ℕ) (p a b c q : Step) (n v : ℕ) (table : List ℕ) (count : ℕ) (table′ : List ℕ) (used : List Bool)
     → Went s p (word (bytes "newloc(u")) a tt → Went s a Fields.variable b v → Went s b (byte 41) c tt → (n < room → count ≡ n + 1)
-    → count ≤ room → Closed s c n count 5 v zeroInstruction 0 table q table′ → Acted s p creation n table used q count table′ used
+    → (count < room → n < room) → count ≤ room → Closed s c n count 5 v zeroInstruction 0 table q table′ → Acted s p creation n table used q count table′ used
 unfolding creation sizeIn markedIn
-newloc-acted s p a b c q n v table count table′ used o f g e l d = record {
+newloc-acted s p a b c q n v table count table′ used o f g e z l d = record {
   tree = newloc v;
   middle = c;
   went =
@@ -158,6 +160,7 @@ newloc-acted s p a b c q n v table count table′ used o f g e l d = record {
   small = l;
   word = d .word;
   follows = d .follows;
+  most = λ _ h. let k = z h in omega arith;
   kept = λ _ k.
       let more = e (omega arith) in
       record { counted = omega (arith, more); stored = d .stored ∙ ap (over table (9 * n)) (newloc-words n v (d .word)); marks = refl };
@@ -175,6 +178,7 @@ acted-as s p m m′ n table used q count table′ used′ e a = record {
   small = a .small;
   word = a .word;
   follows = a .follows;
+  most = a .most;
   kept = a .kept;
 }
 

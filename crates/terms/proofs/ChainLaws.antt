@@ -1,6 +1,6 @@
 -- Laws of names and chains (`specs/Reading.antt`), run from a step. Assumes nothing.
 use Prim.Native.Nat.{ℕ, zero, suc, _+_, _-_, _<_, _≤_}
-use mathlib.Core.Path.{_≡_, refl, sym, ap, subst, _∙_}
+use mathlib.Core.Path.{_≡_, refl, sym, ap, _∙_}
 use mathlib.Core.Bool.{Bool, true, false}
 use mathlib.Core.List.{List}
 use native.Mathlib.Omega.{arith}
@@ -12,13 +12,13 @@ use Rattle.net.proofs.Laws.{choose-true, choose-false}
 use Rattle.readers.specs.Reader.{Parsed, got, fault, Reader, pure, andThen, _>>=_, _>>_}
 use Rattle.readers.specs.Progress.{outcome, runFrom, Went}
 use Rattle.readers.proofs.ReaderLaws.{next, no-fault}
-use Rattle.readers.proofs.Gives.{Fine, value, stopped, Gives, gives-pure, gives-then, gives-and, gives-choice}
-use Rattle.lexemes.specs.Lexemes.{byteAt, look, fail, byte, word, number}
+use Rattle.readers.proofs.Gives.{Fine, value, stopped, Gives, gives-pure, gives-then, gives-and}
+use Rattle.lexemes.specs.Lexemes.{byteAt, look, fail, byte, number}
 use Rattle.lexemes.specs.declared.numbers.NumberRead.{NumberRead}
 use Rattle.lexemes.specs.Progress.{byteHere, Numbered}
 use Rattle.terms.specs.Types.{Step}
 use Rattle.terms.specs.Terms.{Process, nil, name, fork, act}
-use Rattle.terms.specs.Reading.{named, called, forked, endsChain, ended, action, acting, chain, processAt}
+use Rattle.terms.specs.Reading.{named, called, forked, endsChain, ended, action, acting, chain}
 use Rattle.terms.specs.Reading as Reading
 use Rattle.terms.specs.Numbering.{startOf, here}
 use Rattle.terms.specs.Table.{startWord}
@@ -105,14 +105,14 @@ begins-name s p n b r e d w = record {
 }
 
 -- ---- what any other chain stands for
-abbrev Any : ℕ → Type 0
+abbrev pub Any : ℕ → Type 0
 Any n = Unit {0}
 
 fine-any : {A : Type 0} (o : Parsed A) → Fine Any (λ _. Unit {0}) o
 fine-any (got a q) = value tt
 fine-any (fault f) = stopped tt
 
-any : {A : Type 0} (m : Reader A) → Gives Any m (λ _. Unit {0})
+pub any : {A : Type 0} (m : Reader A) → Gives Any m (λ _. Unit {0})
 any m = record { run = λ s p. fine-any (m s p) }
 
 module _ (n : ℕ) where

@@ -2,19 +2,18 @@
 use Prim.Native.Nat.{ℕ, zero, suc, _+_, _-_, _*_, _<_, _≤_}
 use mathlib.Core.Path.{_≡_, refl, sym, ap, _∙_}
 use mathlib.Core.Bool.{Bool, true, false}
-use mathlib.Core.List.{List, [], _++_}
+use mathlib.Core.List.{List, _++_}
 use native.Mathlib.Omega.{arith}
 use lib.ListN.{length, set}
 use lib.Dec.{eqb}
 use borrow.Author.Tests.{eq-eqb, ne-eqb}
-use Rattle.net.specs.Choice.{choose}
 use Rattle.net.specs.Records.{zeroInstruction}
 use Rattle.text.specs.Buffer.{over}
 use Rattle.text.specs.Bytes.{bytes}
-use Rattle.readers.specs.Reader.{Reader, pure, numbered, _>>=_, _>>_}
+use Rattle.readers.specs.Reader.{Reader, pure, _>>=_, _>>_}
 use Rattle.readers.specs.Progress.{outcome, runFrom, Went}
 use Rattle.readers.proofs.ReaderLaws.{on, next, stop}
-use Rattle.lexemes.specs.Lexemes.{fail, byte, word, look}
+use Rattle.lexemes.specs.Lexemes.{fail, byte, word}
 use Rattle.lexemes.specs.declared.numbers.NumberRead.{NumberRead}
 use Rattle.lexemes.specs.Progress.{byteHere, Numbered, failedFrom}
 use Rattle.lexemes.proofs.NumberLaws.{strayed}
@@ -23,7 +22,7 @@ use Rattle.terms.specs.Terms.{Process, Action, nil, name, fork, act, eva
 use Rattle.terms.specs.Reading.{named, called, stopped, forked, ended, evaluation, action, acting, chain, processAt}
 use Rattle.terms.specs.Numbering.{size, sizeIn, startOf}
 use Rattle.terms.specs.Table.{startWord, targetWord, instructionWords, stopWords, actionWords, wordsOf, wordsIn, marked, markedIn}
-use Rattle.terms.specs.Progress.{reached, room, Begins, Ends, Goes, Kept, Coded, Started, KeptIn, Acted, Sent, Shut, KeptBoth, Barred, Branched, Chained}
+use Rattle.terms.specs.Progress.{reached, room, Begins, Goes, Kept, Coded, Started, KeptIn, Acted, Sent, Shut, KeptBoth, Barred, Branched, Chained}
 use Rattle.terms.proofs.ChainLaws.{came, no-way, no-outcome}
 use Rattle.terms.proofs.CodeLaws.{length-instruction, length-words, length-action-in, stored-before, stored-after}
 use Rattle.terms.proofs.ActionLaws.{look-run, run-if, run-else}
@@ -35,6 +34,7 @@ coded-as s p m m′ n table used q count table′ used′ e a = record {
   tree = a .tree;
   went = record { went = a .went .went ∙ e };
   small = a .small;
+  most = a .most;
   kept = a .kept;
 }
 
@@ -51,6 +51,7 @@ fault-coded s p q number n table used l e = record {
   tree = nil;
   went = strayed s number p q nil e;
   small = l;
+  most = λ h. absurd (not-reached number p q e h);
   kept = λ h. absurd (not-reached number p q e h);
 }
 
@@ -63,18 +64,20 @@ call-coded s p n table used r used′ l v e = record {
   tree = name (r .value);
   went = on s p (r .next) (r .next) named _ (r .value) (name (r .value)) (v .read) (stop s (r .next) (name (r .value)));
   small = l;
+  most = λ _ h. omega arith;
   kept = λ _ _. record { counted = omega arith; stored = refl; marks = e };
 }
 
 pub nil-coded :
     (s : List ℕ) (p q : Step) (n : ℕ) (table : List ℕ) (used : List Bool) (count : ℕ) (table′ : List ℕ) → Went s p (word (bytes "nil")) q tt
-    → table′ ≡ over table (9 * n) (instructionWords 0 0 zeroInstruction 0 0) → (n < room → count ≡ n + 1) → count ≤ room
+    → table′ ≡ over table (9 * n) (instructionWords 0 0 zeroInstruction 0 0) → (n < room → count ≡ n + 1) → (count < room → n < room) → count ≤ room
     → Coded s p stopped n table used q count table′ used
 unfolding stopped size wordsOf stopWords marked
-nil-coded s p q n table used count table′ v e f l = record {
+nil-coded s p q n table used count table′ v e f g l = record {
   tree = nil;
   went = next s p q q _ (pure nil) tt nil v (stop s q nil);
   small = l;
+  most = λ _ h. let k = g h in omega arith;
   kept = λ _ k. record { counted = f (omega arith); stored = e; marks = refl };
 }
 
@@ -133,6 +136,13 @@ module _ (s : List ℕ) (d rows : ℕ) where
           bar = o .bar;
           right = l .went;
           small = l .small;
+          most = λ h g.
+              let second = l .most h g in
+              let last = l .kept h second .counted in
+              let here = came s a b _ _ (o .bar) (came s b q _ _ (l .went) h) in
+              let first = k .most here (omega (arith, last)) in
+              let counted = k .kept here first .counted in
+              omega (arith, second, counted);
           kept = λ h g.
               let there = came s b q _ _ (l .went) h in
               let here = came s a b _ _ (o .bar) there in
@@ -159,10 +169,10 @@ module _ (s : List ℕ) (d rows : ℕ) where
     }
 
     pub fork-coded :
-        Went s p (byte 40) a tt → (n < room → m ≡ n + 1) → Branched s a (processAt d rows) m t u w v b count t₁ u₁ → Shut s b n w v t₁ q t₂
-        → Coded s p (forked (processAt d rows)) n t u q count t₂ u₁
+        Went s p (byte 40) a tt → (n < room → m ≡ n + 1) → (m < room → n < room) → Branched s a (processAt d rows) m t u w v b count t₁ u₁
+        → Shut s b n w v t₁ q t₂ → Coded s p (forked (processAt d rows)) n t u q count t₂ u₁
     unfolding forked size
-    fork-coded o e k c = record {
+    fork-coded o e f k c = record {
       tree = fork (k .x) (k .y);
       went =
           next s p a q (byte 40) _ tt _ o
@@ -171,6 +181,12 @@ module _ (s : List ℕ) (d rows : ℕ) where
           (on s (k .behind) b q (processAt d rows) _ (k .y) _ (k .right)
           (next s b q q (byte 41) (pure (fork (k .x) (k .y))) tt _ (c .bracket) (stop s q (fork (k .x) (k .y)))))));
       small = k .small;
+      most = λ h g.
+          let there = came s b q _ _ (c .bracket) h in
+          let most = k .most there g in
+          let counted = k .kept there most .counted in
+          let number = e (f (omega (arith, counted, g))) in
+          omega (arith, most, number);
       kept = λ h g.
           let number = e (omega arith) in
           fork-kept (k .x) (k .y) (omega (arith, number)) (k .kept (came s b q _ _ (c .bracket) h) (omega (arith, number))) (c .stored);
@@ -194,10 +210,10 @@ module _ (s : List ℕ) (d rows : ℕ) where
     }
 
     pub eval-acted :
-        Went s p (word (bytes "eval(")) a tt → (n < room → m ≡ n + 1) → Started s a (processAt d rows) m t u v b count t₁ u₁
-        → Sent s b rows n count v t₁ q t₂ → Acted s p (evaluation (processAt d rows) rows) n t u q count t₂ u₁
+        Went s p (word (bytes "eval(")) a tt → (n < room → m ≡ n + 1) → (m < room → n < room)
+        → Started s a (processAt d rows) m t u v b count t₁ u₁ → Sent s b rows n count v t₁ q t₂ → Acted s p (evaluation (processAt d rows) rows) n t u q count t₂ u₁
     unfolding evaluation sizeIn
-    eval-acted o e f g =
+    eval-acted o e y f g =
         let c = g .aimed in
         let i = g .aims in
         let z = g .closed in
@@ -213,6 +229,12 @@ module _ (s : List ℕ) (d rows : ℕ) where
           small = k .small;
           word = z .word;
           follows = z .follows;
+          most = λ h l.
+              let there = came s b c _ _ (i .went) (came s c q _ _ (z .dot) h) in
+              let most = k .most there l in
+              let counted = k .kept there most .counted in
+              let number = e (y (omega (arith, counted, l))) in
+              omega (arith, most, number);
           kept = λ h l.
               let number = e (omega arith) in
               let shut = came s c q _ _ (z .dot) h in
@@ -266,6 +288,13 @@ module _ (s : List ℕ) (inner : Reader Process) (rows : ℕ) where
         (next s (a .middle) q r (byte 46) _ tt _ (a .dot)
         (on s q r r (chain k inner rows) _ (c .tree) _ (c .went) (stop s r (act (a .tree) (c .tree)))));
     small = c .small;
+    most = λ h g.
+        let second = c .most h g in
+        let last = c .kept h second .counted in
+        let here = came s q r _ _ (c .went) h in
+        let first = a .most here (omega (arith, last)) in
+        let counted = a .kept here first .counted in
+        omega (arith, second, counted);
     kept = λ h g.
         let first = a .kept (came s q r _ _ (c .went) h) (omega arith) in
         let counted = first .counted in

@@ -1,10 +1,10 @@
 -- Laws of words in a table (`specs/Table.antt`). Assumes nothing.
-use Prim.Native.Nat.{ℕ, suc, _+_, _*_, _/_, _<_, _≤_}
+use Prim.Native.Nat.{ℕ, suc, _*_, _/_, _<_, _≤_}
 use mathlib.Core.Path.{_≡_, refl, sym, ap, _∙_}
-use mathlib.Core.List.{List, [], _∷_, _++_}
+use mathlib.Core.List.{List, [], _∷_}
 use native.Mathlib.Omega.{arith}
-use lib.ListN.{length, set, length-append}
-use lib.Seq.{set-out, length-sets}
+use lib.ListN.{length, set}
+use lib.Seq.{set-out}
 use lib.IntN.{ℤ}
 use mir.Syntax.{w32}
 use mir.Val.{SFits, toZ, ofZ}
@@ -13,7 +13,6 @@ use Rattle.net.specs.Records.{zeroInstruction}
 use Rattle.text.specs.Buffer.{over}
 use Rattle.text.specs.Signed.{complementOf}
 use Rattle.text.specs.Writing.{Wrote}
-use Rattle.text.proofs.WritingLaws.{over-both}
 use Rattle.terms.specs.Types.{Pattern, Instruction}
 use Rattle.terms.specs.Table.{patternWord, instructionWords}
 

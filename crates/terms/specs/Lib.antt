@@ -1,3 +1,4 @@
+pub mod Loading
 pub mod Numbering
 pub mod Progress
 pub mod Reading

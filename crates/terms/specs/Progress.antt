@@ -1,6 +1,6 @@
 -- Describes the code, and is no part of what a reader has to believe: how the readers of `src/`, which store instructions
 -- in a lent table and mark names in lent marks, keep to the definitions.
-use Prim.Native.Nat.{ℕ, suc, _+_, _*_, _≤_}
+use Prim.Native.Nat.{ℕ, suc, _+_, _*_, _<_, _≤_}
 use mathlib.Core.Bool.{Bool, true, false}
 use mathlib.Core.Path.{_≡_}
 use mathlib.Core.List.{List, _++_}
@@ -23,7 +23,7 @@ unfoldable pub reached : Step → Bool
 reached (Step.At p) = true
 reached (Step.Failed f) = false
 
--- numbers of instructions are counted up to here: no text is long enough for more
+-- numbers of instructions are counted up to here: where the count comes this far, there are too many by far
 unfoldable pub room : ℕ
 room = 9223372036854775808
 
@@ -56,6 +56,7 @@ pub record Coded (s : List ℕ) (p : Step) (m : Reader Process) (n : ℕ) (table
   pub tree : Process
   pub went : Went s p m q tree
   pub small : count ≤ room
+  pub most : reached q ≡ true → count < room → n + size tree ≤ room
   pub kept : reached q ≡ true → n + size tree ≤ room → Kept tree n table used count table′ used′
 
 -- the same with the word of what starts at step p
@@ -80,6 +81,7 @@ pub record Acted (s : List ℕ) (p : Step) (m : Reader Action) (n : ℕ) (table 
   pub small : count ≤ room
   pub word : ℕ
   pub follows : Begins s q count word
+  pub most : reached q ≡ true → count < room → suc n + sizeIn tree ≤ room
   pub kept : reached q ≡ true → suc n + sizeIn tree ≤ room → KeptIn tree word n table used count table′ used′
 
 -- ---- a dot read, and the instruction before it stored with what follows it
@@ -118,6 +120,7 @@ pub record Filled (s : List ℕ) (p : Step) (formals : Bool) (rows n kind : ℕ)
   pub aims : Aimed s middle rows aimed word
   pub closed : Closed s aimed n count kind word template 0 table q table′
   pub more : suc n ≤ room → count ≡ suc n
+  pub most : count < room → suc n ≤ room
   pub small : count ≤ room
 
 -- ---- the branches of a fork, whose instructions are numbered from m on
@@ -146,6 +149,7 @@ pub record Branched (s : List ℕ) (p : Step) (inner : Reader Process) (m : ℕ)
   pub bar : Went s before (word (bytes " | ")) behind tt
   pub right : Went s behind inner q y
   pub small : count ≤ room
+  pub most : reached q ≡ true → count < room → m + size x + size y ≤ room
   pub kept : reached q ≡ true → m + size x + size y ≤ room → KeptBoth x y m table used first second count table′ used′
 
 -- ---- the chain of k₀ actions at most from step p₀ on is, with what is stored and marked, what that of k from step p on is

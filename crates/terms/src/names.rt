@@ -5,7 +5,7 @@ use lexemes::words::byte_at;
 use lexemes::words::byte_here;
 use lexemes::words::read_byte;
 use readers::step::Step;
-ghost use Prim.Native.Nat.{ℕ, _+_, _<_, _≤_};
+ghost use Prim.Native.Nat.{_+_, _<_, _≤_};
 ghost use mathlib.Core.Bool.{true};
 ghost use mathlib.Core.Path.{_≡_};
 ghost use lib.ListN.{set};
@@ -31,10 +31,10 @@ pub(crate) fn mark(used: &mut [bool], k: usize)
     }
 }
 
-// The number after n; numbers that no text is long enough for stay.
+// The number after n, up to the greatest that is counted.
 pub(crate) fn one_more(n: usize) -> usize
     requires { ⌜ n ≤ room ⌝ }
-    ensures { λ r. ⌜ (n < room → r ≡ n + 1) × (r ≤ room) ⌝ }
+    ensures { λ r. ⌜ (n < room → r ≡ n + 1) × ((r < room → n < room) × (r ≤ room)) ⌝ }
 {
     if n < 9223372036854775808 { n + 1 } else { n }
 }

@@ -19,18 +19,18 @@ ghost use mathlib.Core.Bool.{Bool};
 ghost use mathlib.Core.List.{List};
 ghost use lib.ListN.{length};
 ghost use Rattle.lexemes.specs.Lexemes.{fail};
-ghost use Rattle.terms.specs.Reading.{called, stopped, forked, ended, evaluation, action, chain, processAt};
+ghost use Rattle.terms.specs.Reading.{called, stopped, forked, ended, evaluation, action, chain, processAt, process};
 ghost use Rattle.terms.specs.Progress.{room, Shut, Branched, Barred, Started, Coded, Acted};
 
 // The word of what starts with a process, the step after it, and the number of the next instruction.
-pub(crate) struct StartRead {
-    start: usize,
-    next: Step,
-    count: usize,
+pub struct StartRead {
+    pub start: usize,
+    pub next: Step,
+    pub count: usize,
 }
 
 // The words of both branches of a fork, the step after them, and the number of the next instruction.
-pub(crate) struct BranchesRead {
+struct BranchesRead {
     first: usize,
     second: usize,
     next: Step,
@@ -82,7 +82,7 @@ fn read_started(
     ensures { λ r. ⌜ Started (now (s .entry)) from (processAt d rows) n (now (table .entry)) (now (used .entry)) (r .start) (r .next) (r .count) (now (table .exit)) (now (used .exit)) ⌝ }
 {
     let start = start_here(s, from, n);
-    let got = read_process(s, from, d, rows, n, table, used);
+    let got = read_level(s, from, d, rows, n, table, used);
     let next = got.next;
     StartRead {
         start,
@@ -270,7 +270,7 @@ fn read_chain(
 }
 
 // A process inside brackets and evals, which with it are d levels.
-pub fn read_process(
+fn read_level(
     s: &[u8],
     from: Step,
     d: usize,
@@ -287,4 +287,19 @@ pub fn read_process(
     } else {
         read_chain(s, from, d - 1, rows, n, table, used)
     }
+}
+
+// P.
+pub fn read_process(
+    s: &[u8],
+    from: Step,
+    rows: usize,
+    n: usize,
+    table: &mut [usize],
+    used: &mut [bool],
+) -> StartRead
+    requires { ⌜ n ≤ room ⌝ }
+    ensures { λ r. ⌜ Started (now (s .entry)) from (process rows) n (now (table .entry)) (now (used .entry)) (r .start) (r .next) (r .count) (now (table .exit)) (now (used .exit)) ⌝ }
+{
+    read_started(s, from, 33, rows, n, table, used)
 }

@@ -4,7 +4,7 @@ use net::instruction::Pattern;
 use net::instruction::Target;
 use text::signed::complement;
 ghost use Prim.Native.Nat.{_*_};
-ghost use mathlib.Core.List.{[], _∷_, _++_};
+ghost use mathlib.Core.List.{[], _∷_};
 ghost use mathlib.Core.Path.{_≡_};
 ghost use Rattle.net.specs.Records.{zeroInstruction, patternAt};
 ghost use Rattle.text.specs.Buffer.{over};

@@ -13,5 +13,5 @@ put-spec =
     (λ c. search needs)
     (λ c. search needs)
     (λ c. search needs)
-    (λ c. search (needs, wrote-one, wrote-past))
-    (λ c. search (needs, wrote-one, wrote-past)))
+    (λ c. search (needs, wrote-one))
+    (λ c. search (needs, wrote-past)))

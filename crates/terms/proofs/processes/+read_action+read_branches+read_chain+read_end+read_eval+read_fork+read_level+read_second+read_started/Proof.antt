@@ -16,31 +16,31 @@ use borrow.Fn.Kinds.{In}
 use borrow.Fn.PlainCycle.{Measures, is, falls, and}
 use Rattle.terms.proofs.processes.read_action.Reads as read-action
 use Rattle.terms.proofs.processes.read_action.Kinds as read-action-kinds
-use Rattle.terms.proofs.processes.+read_action+read_branches+read_chain+read_end+read_eval+read_fork+read_process+read_second+read_started.Lts-read_action as read-action-lts
+use Rattle.terms.proofs.processes.+read_action+read_branches+read_chain+read_end+read_eval+read_fork+read_level+read_second+read_started.Lts-read_action as read-action-lts
 use Rattle.terms.proofs.processes.read_branches.Reads as read-branches
 use Rattle.terms.proofs.processes.read_branches.Kinds as read-branches-kinds
-use Rattle.terms.proofs.processes.+read_action+read_branches+read_chain+read_end+read_eval+read_fork+read_process+read_second+read_started.Lts-read_branches as read-branches-lts
+use Rattle.terms.proofs.processes.+read_action+read_branches+read_chain+read_end+read_eval+read_fork+read_level+read_second+read_started.Lts-read_branches as read-branches-lts
 use Rattle.terms.proofs.processes.read_chain.Reads as read-chain
 use Rattle.terms.proofs.processes.read_chain.Kinds as read-chain-kinds
-use Rattle.terms.proofs.processes.+read_action+read_branches+read_chain+read_end+read_eval+read_fork+read_process+read_second+read_started.Lts-read_chain as read-chain-lts
+use Rattle.terms.proofs.processes.+read_action+read_branches+read_chain+read_end+read_eval+read_fork+read_level+read_second+read_started.Lts-read_chain as read-chain-lts
 use Rattle.terms.proofs.processes.read_end.Reads as read-end
 use Rattle.terms.proofs.processes.read_end.Kinds as read-end-kinds
-use Rattle.terms.proofs.processes.+read_action+read_branches+read_chain+read_end+read_eval+read_fork+read_process+read_second+read_started.Lts-read_end as read-end-lts
+use Rattle.terms.proofs.processes.+read_action+read_branches+read_chain+read_end+read_eval+read_fork+read_level+read_second+read_started.Lts-read_end as read-end-lts
 use Rattle.terms.proofs.processes.read_eval.Reads as read-eval
 use Rattle.terms.proofs.processes.read_eval.Kinds as read-eval-kinds
-use Rattle.terms.proofs.processes.+read_action+read_branches+read_chain+read_end+read_eval+read_fork+read_process+read_second+read_started.Lts-read_eval as read-eval-lts
+use Rattle.terms.proofs.processes.+read_action+read_branches+read_chain+read_end+read_eval+read_fork+read_level+read_second+read_started.Lts-read_eval as read-eval-lts
 use Rattle.terms.proofs.processes.read_fork.Reads as read-fork
 use Rattle.terms.proofs.processes.read_fork.Kinds as read-fork-kinds
-use Rattle.terms.proofs.processes.+read_action+read_branches+read_chain+read_end+read_eval+read_fork+read_process+read_second+read_started.Lts-read_fork as read-fork-lts
-use Rattle.terms.proofs.processes.read_process.Reads as read-process
-use Rattle.terms.proofs.processes.read_process.Kinds as read-process-kinds
-use Rattle.terms.proofs.processes.+read_action+read_branches+read_chain+read_end+read_eval+read_fork+read_process+read_second+read_started.Lts-read_process as read-process-lts
+use Rattle.terms.proofs.processes.+read_action+read_branches+read_chain+read_end+read_eval+read_fork+read_level+read_second+read_started.Lts-read_fork as read-fork-lts
+use Rattle.terms.proofs.processes.read_level.Reads as read-level
+use Rattle.terms.proofs.processes.read_level.Kinds as read-level-kinds
+use Rattle.terms.proofs.processes.+read_action+read_branches+read_chain+read_end+read_eval+read_fork+read_level+read_second+read_started.Lts-read_level as read-level-lts
 use Rattle.terms.proofs.processes.read_second.Reads as read-second
 use Rattle.terms.proofs.processes.read_second.Kinds as read-second-kinds
-use Rattle.terms.proofs.processes.+read_action+read_branches+read_chain+read_end+read_eval+read_fork+read_process+read_second+read_started.Lts-read_second as read-second-lts
+use Rattle.terms.proofs.processes.+read_action+read_branches+read_chain+read_end+read_eval+read_fork+read_level+read_second+read_started.Lts-read_second as read-second-lts
 use Rattle.terms.proofs.processes.read_started.Reads as read-started
 use Rattle.terms.proofs.processes.read_started.Kinds as read-started-kinds
-use Rattle.terms.proofs.processes.+read_action+read_branches+read_chain+read_end+read_eval+read_fork+read_process+read_second+read_started.Lts-read_started as read-started-lts
+use Rattle.terms.proofs.processes.+read_action+read_branches+read_chain+read_end+read_eval+read_fork+read_level+read_second+read_started.Lts-read_started as read-started-lts
 use Rattle.lexemes.proofs.words.byte_here.Reads as byte-here-reads
 use Rattle.lexemes.proofs.words.read_byte.Reads as read-byte-reads
 use Rattle.lexemes.proofs.words.read_word.Reads as read-word-reads
@@ -53,10 +53,10 @@ use Rattle.terms.proofs.processes.no_process.Reads as no-process-reads
 use Rattle.terms.proofs.processes.read_call.Reads as read-call-reads
 use Rattle.terms.proofs.processes.read_nil.Reads as read-nil-reads
 use Rattle.terms.proofs.processes.shut_fork.Reads as shut-fork-reads
-use Rattle.terms.proofs.processes.+read_action+read_branches+read_chain+read_end+read_eval+read_fork+read_process+read_second+read_started.{
+use Rattle.terms.proofs.processes.+read_action+read_branches+read_chain+read_end+read_eval+read_fork+read_level+read_second+read_started.{
   statement,
 }
-use Rattle.terms.proofs.processes.+read_action+read_branches+read_chain+read_end+read_eval+read_fork+read_process+read_second+read_started.Tie.{
+use Rattle.terms.proofs.processes.+read_action+read_branches+read_chain+read_end+read_eval+read_fork+read_level+read_second+read_started.Tie.{
   close,
 }
 
@@ -78,8 +78,8 @@ abbrev μ-read-eval : Measures 3 read-eval-kinds.ps ℕ
 abbrev μ-read-fork : Measures 3 read-fork-kinds.ps ℕ
 μ-read-fork κs a = 8 * a .1 .1 .0 + 4
 
-abbrev μ-read-process : Measures 3 read-process-kinds.ps ℕ
-μ-read-process κs a = 8 * a .1 .1 .0
+abbrev μ-read-level : Measures 3 read-level-kinds.ps ℕ
+μ-read-level κs a = 8 * a .1 .1 .0
 
 abbrev μ-read-second : Measures 3 read-second-kinds.ps ℕ
 μ-read-second κs a = 8 * a .1 .1 .0 + 2
@@ -136,17 +136,13 @@ abbrev read-fork-below : ℕ → In 3 read-fork-kinds.ps
 read-fork-below t =
     and 3 read-fork-kinds.ps (falls 3 read-fork-kinds.ps _<_ μ-read-fork t) read-fork.Pre
 
-abbrev read-process-at : ℕ → In 3 read-process-kinds.ps
-read-process-at t =
-    and 3 read-process-kinds.ps (is 3 read-process-kinds.ps μ-read-process t) read-process.Pre
+abbrev read-level-at : ℕ → In 3 read-level-kinds.ps
+read-level-at t =
+    and 3 read-level-kinds.ps (is 3 read-level-kinds.ps μ-read-level t) read-level.Pre
 
-abbrev read-process-below : ℕ → In 3 read-process-kinds.ps
-read-process-below t =
-    and
-    3
-    read-process-kinds.ps
-    (falls 3 read-process-kinds.ps _<_ μ-read-process t)
-    read-process.Pre
+abbrev read-level-below : ℕ → In 3 read-level-kinds.ps
+read-level-below t =
+    and 3 read-level-kinds.ps (falls 3 read-level-kinds.ps _<_ μ-read-level t) read-level.Pre
 
 abbrev read-second-at : ℕ → In 3 read-second-kinds.ps
 read-second-at t =
@@ -174,10 +170,10 @@ read-chain-Inv-loop s d rows n table₀ used₀ next₀ count₀ left₀ table u
 abbrev read-chain-μ-loop : read-chain-lts.MeasureT-loop
 read-chain-μ-loop s d rows n table₀ used₀ next₀ count₀ left₀ table used next count left = left
 
-pub +read-action+read-branches+read-chain+read-end+read-eval+read-fork+read-process+read-second+read-started-spec :
+pub +read-action+read-branches+read-chain+read-end+read-eval+read-fork+read-level+read-second+read-started-spec :
     {M : Type 1} → statement M
 unfolding bytes
-+read-action+read-branches+read-chain+read-end+read-eval+read-fork+read-process+read-second+read-started-spec =
++read-action+read-branches+read-chain+read-end+read-eval+read-fork+read-level+read-second+read-started-spec =
     close
     μ-read-action
     μ-read-branches
@@ -185,7 +181,7 @@ unfolding bytes
     μ-read-end
     μ-read-eval
     μ-read-fork
-    μ-read-process
+    μ-read-level
     μ-read-second
     μ-read-started
     (λ t. read-action-lts.spec (
@@ -309,14 +305,14 @@ unfolding bytes
     (λ c. search needs)
     (λ c. search needs)
     (λ c. search (needs, fork-coded)))
-    (λ t. read-process-lts.spec (
+    (λ t. read-level-lts.spec (
       no-process-reads.Asked,
       no-process-reads.Learnt,
       read-chain-below t,
       read-chain.Post,
     )
-    (read-process-at t)
-    read-process.Post
+    (read-level-at t)
+    read-level.Post
     (λ c κs. search needs)
     (λ c. search needs)
     (λ c κs. search needs)
@@ -339,7 +335,7 @@ unfolding bytes
     (λ c. search needs)
     (λ c. search (needs, barred)))
     λ t. read-started-lts.spec
-    (start-here-reads.Asked, start-here-reads.Learnt, read-process-below t, read-process.Post)
+    (start-here-reads.Asked, start-here-reads.Learnt, read-level-below t, read-level.Post)
     (read-started-at t)
     read-started.Post
     (λ c κs. search needs)
