@@ -7,7 +7,7 @@ use lib.ListN.{getD, drop, length}
 use lib.Dec.{eqb, ltb}
 use lib.IntN.{ℤ}
 use Rattle.net.specs.Choice.{choose}
-use Rattle.net.specs.Records.{addressOf, patternAt}
+use Rattle.net.specs.Records.{addressOf, patternAt, zeroInstruction}
 use Rattle.terms.specs.Terms.{Process, nil, name, fork, act, out, input, read, eval, newloc}
 use Rattle.terms.specs.Terms as Terms
 use Rattle.terms.specs.Numbering.{Start, here, called}
@@ -61,6 +61,10 @@ loaded f p q = record {
 -- the one with the number i
 unfoldable pub loadedAt : List ℕ → ℕ → Place → Place → Instruction
 loadedAt table i p q = loaded (λ j. getD table (9 * i + j) 0) p q
+
+-- the same of the 512 that code can have, and a stop past them
+unfoldable pub loadedIn : List ℕ → ℕ → Place → Place → Instruction
+loadedIn table i p q = choose (ltb i 512) (loadedAt table i p q) zeroInstruction
 
 -- an instruction with an action, and the template of the words from a place on
 unfoldable pub templated : List ℕ → ℕ → Action → Instruction

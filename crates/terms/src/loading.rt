@@ -9,7 +9,7 @@ use net::locality::Place;
 ghost use Prim.Native.Nat.{_+_, _*_, _%_, _<_, _≤_};
 ghost use mathlib.Core.Path.{_≡_};
 ghost use lib.ListN.{getD};
-ghost use Rattle.terms.specs.Loading.{signedOf, targetOf, patternOf, fieldOf, actionOf, Other, templated, loadedAt};
+ghost use Rattle.terms.specs.Loading.{signedOf, targetOf, patternOf, fieldOf, actionOf, Other, templated, loadedAt, loadedIn};
 
 // A word of a table; 0 past its end.
 pub fn word_at(table: &[usize], at: usize) -> usize
@@ -164,12 +164,23 @@ fn with_template(table: &[usize], at: usize, action: Action) -> Instruction
     }
 }
 
-// The instruction with the number i.
-pub fn load(table: &[usize], i: usize, next: Place, second: Place) -> Instruction
+// The instruction with the number i, which a table of 512 has.
+fn load_at(table: &[usize], i: usize, next: Place, second: Place) -> Instruction
     requires { ⌜ i < 512 ⌝ }
     ensures { λ r. ⌜ r ≡ loadedAt (now (table .entry)) i next second ⌝ }
 {
     let at = 9 * i;
     let action = action_at(table, at, next, second);
     with_template(table, at, action)
+}
+
+// The instruction with the number i; past the code a stop.
+pub fn load(table: &[usize], i: usize, next: Place, second: Place) -> Instruction
+    ensures { λ r. ⌜ r ≡ loadedIn (now (table .entry)) i next second ⌝ }
+{
+    if i < 512 {
+        load_at(table, i, next, second)
+    } else {
+        Instruction::zero()
+    }
 }
