@@ -3,5 +3,4 @@ pub mod Budget
 pub mod EndingLaws
 pub mod FieldsWithin
 pub mod ReaderRecord
-pub mod SignedLaws
 pub mod WalkLaws

@@ -1,11 +1,10 @@
 -- Fields that stand in several places of an image (document 01, "The image"): n is the address count and k the code
 -- length.
-use Prim.Native.Nat.{ℕ, _-_}
-use lib.Dec.{ltb}
+use Prim.Native.Nat.{ℕ}
 use lib.IntN.{ℤ}
-use Rattle.net.specs.Choice.{choose}
 use Rattle.net.specs.Records.{addressOf, placeOf}
 use Rattle.bitreader.specs.Types.{Locality, Place}
+use Rattle.text.specs.Signed.{signed}
 use Rattle.readers.specs.Reader.{Reader, pure, _>>=_}
 use Rattle.bitreader.specs.BitReader.{field, bits}
 
@@ -25,11 +24,7 @@ place k = do
 unfoldable pub variable : Reader ℕ
 variable = bits 3
 
--- 32 bits of two's complement
-unfoldable pub signed : ℕ → ℤ
-signed v = choose (ltb v 2147483648) (ℤ.pos v) (ℤ.negsuc (4294967295 - v))
-
--- a reading of 32 bits
+-- a reading: 32 bits of two's complement
 unfoldable pub reading : Reader ℤ
 reading = do
   v ← bits 32

@@ -3,9 +3,9 @@ use crate::bits::take;
 use net::locality::Locality;
 use net::locality::Place;
 use readers::step::Step;
-ghost use Prim.Native.Nat.{_<_, _^_};
+use text::signed::signed_of;
 ghost use mathlib.Core.Path.{_≡_};
-ghost use Rattle.bitreader.specs.Fields.{signed, address, place, variable, reading};
+ghost use Rattle.bitreader.specs.Fields.{address, place, variable, reading};
 ghost use Rattle.bitreader.specs.Progress.{seen};
 ghost use Rattle.readers.specs.Progress.{Went};
 
@@ -61,26 +61,13 @@ pub fn read_variable(s: &[u8], from: Step) -> VariableRead
     VariableRead { variable: v, next }
 }
 
-// 32 bits of two's complement as a signed number.
-fn signed_of(v: usize) -> i32
-    requires { ⌜ v < 2 ^ 32 ⌝ }
-    ensures { λ r. ⌜ r ≡ signed v ⌝ }
-{
-    if v < 2147483648 {
-        v as i32
-    } else {
-        let rest = 4294967295 - v;
-        let low = rest as i32;
-        -1 - low
-    }
-}
-
 // A reading of 32 bits.
 pub fn read_reading(s: &[u8], from: Step) -> ReadingRead
     ensures { λ r. ⌜ Went (seen (now (s .entry))) from reading (r .next) (r .reading) ⌝ }
 {
     let got = take(s, from, 32, 0, 4294967296, 28);
-    let reading = signed_of(got.value);
+    let bits = got.value as u32;
+    let reading = signed_of(bits);
     let next = got.next;
     ReadingRead { reading, next }
 }

@@ -13,13 +13,13 @@ use Rattle.net.specs.Records.{zeroRow, withRights}
 use Rattle.net.proofs.Laws.{choose-true, choose-false}
 use Rattle.net.proofs.ReadingLaws.{never}
 use Rattle.readers.specs.Reader.{Parsed, got, fault, Reader, pure, andThen, _>>=_, _>>_, require}
-use Rattle.readers.specs.Progress.{outcome, runFrom, Went}
+use Rattle.readers.specs.Progress.{reached, outcome, runFrom, Went}
 use Rattle.readers.proofs.ReaderLaws.{after, on, next, stop, no-fault}
 use Rattle.lexemes.specs.Lexemes.{byteAt, look, byte, word, optional, present, isDigit, number}
 use Rattle.lexemes.proofs.WordLaws.{past-text}
 use Rattle.notation.specs.Types.{Step, Fault, Rights, Row}
 use Rattle.notation.specs.Rows.{digitsFrom, isGot, standsAt, isRow, anyRight, rights, granted, grants, creates, opening, row}
-use Rattle.notation.specs.Progress.{GrantsRead, Digits, isPlace, isRowHere, Granted, Granting}
+use Rattle.notation.specs.Progress.{GrantsRead, Digits, isRowHere, Granted, Granting}
 
 -- ---- digits, counted
 module _ (s : List ℕ) (p : ℕ) where
@@ -64,21 +64,13 @@ module _ (s : List ℕ) (p : ℕ) where
   digits-end q l h = no-more q l (no-digit (byteAt s q) (past-text s q h))
 
 -- ---- words that may stand there
-pub place-is : (q : Step) (k : ℕ) → q ≡ Step.At k → true ≡ isPlace q
-unfolding isPlace
-place-is q k e = rw e refl
-
-pub place-none : (q : Step) (f : Fault) → q ≡ Step.Failed f → false ≡ isPlace q
-unfolding isPlace
-place-none q f e = rw e refl
-
 module _ (s w : List ℕ) where
-  got-place : (q : Step) → isPlace q ≡ isGot (outcome {A = Unit {0}} q (tt {0}))
-  unfolding isPlace isGot outcome
+  got-place : (q : Step) → reached q ≡ isGot (outcome {A = Unit {0}} q (tt {0}))
+  unfolding reached isGot outcome
   got-place (Step.At k) = refl
   got-place (Step.Failed f) = refl
 
-  pub word-stands : (p : ℕ) (q : Step) (r : Bool) → Went s (Step.At p) (word w) q tt → r ≡ isPlace q → r ≡ standsAt w s p
+  pub word-stands : (p : ℕ) (q : Step) (r : Bool) → Went s (Step.At p) (word w) q tt → r ≡ reached q → r ≡ standsAt w s p
   unfolding standsAt runFrom
   word-stands p q r v e = e ∙ got-place q ∙ ap isGot (v .went)
 

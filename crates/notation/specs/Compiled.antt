@@ -54,15 +54,15 @@ settled ls x = settle 512 ls x
 unfoldable pub placeIn : List Line → Start → Place
 placeIn ls x = placeOf (numberOf (settled ls x))
 
--- ---- the code: `all` are all lines, and the instructions of those that follow are numbered from n on
-unfoldable pub lineCode : List Line → ℕ → Line → List Instruction
-lineCode all n (definition k p) = codeOf (placeIn all) n p
-lineCode all n (process a p) = codeOf (placeIn all) n p
-lineCode all n (tuple a t) = []
+-- ---- the code: each start is resolved to its place, and the instructions of the lines that follow are numbered from n on
+unfoldable pub lineCode : (Start → Place) → ℕ → Line → List Instruction
+lineCode place n (definition k p) = codeOf place n p
+lineCode place n (process a p) = codeOf place n p
+lineCode place n (tuple a t) = []
 
-unfoldable pub codeFrom : List Line → ℕ → List Line → List Instruction
-codeFrom all n [] = []
-codeFrom all n (l ∷ ls) = lineCode all n l ++ codeFrom all (n + sizeOf l) ls
+unfoldable pub codeFrom : (Start → Place) → ℕ → List Line → List Instruction
+codeFrom place n [] = []
+codeFrom place n (l ∷ ls) = lineCode place n l ++ codeFrom place (n + sizeOf l) ls
 
 -- ---- the net: its rows, its processes and tuples line after line, its code
 unfoldable pub ruled : ℕ → List Row → Net → Net
@@ -70,15 +70,15 @@ ruled i [] s = s
 ruled i (r ∷ rs) s = ruled (suc i) rs (withNode s (addressOf i) (withRow (nodeAt s (addressOf i)) r))
 
 -- what a line puts at its node; its first instruction has the number n
-unfoldable pub placed : List Line → ℕ → Line → Net → Net
-placed all n (definition k p) s = s
-placed all n (process a p) s =
-    withNode s a (withProcess (nodeAt s a) (processCount (nodeAt s a)) (startingAt (placeIn all (startOf n p))))
-placed all n (tuple a t) s = withNode s a (withTuple (nodeAt s a) t)
+unfoldable pub placed : (Start → Place) → ℕ → Line → Net → Net
+placed place n (definition k p) s = s
+placed place n (process a p) s =
+    withNode s a (withProcess (nodeAt s a) (processCount (nodeAt s a)) (startingAt (place (startOf n p))))
+placed place n (tuple a t) s = withNode s a (withTuple (nodeAt s a) t)
 
-unfoldable pub peopled : List Line → ℕ → List Line → Net → Net
-peopled all n [] s = s
-peopled all n (l ∷ ls) s = peopled all (n + sizeOf l) ls (placed all n l s)
+unfoldable pub peopled : (Start → Place) → ℕ → List Line → Net → Net
+peopled place n [] s = s
+peopled place n (l ∷ ls) s = peopled place (n + sizeOf l) ls (placed place n l s)
 
 unfoldable pub withCode : Net → List Instruction → Net
 withCode s code = record { addresses = s .addresses; length = s .length; nodes = s .nodes; code = over (s .code) 0 code }
@@ -86,5 +86,5 @@ withCode s code = record { addresses = s .addresses; length = s .length; nodes =
 unfoldable pub compiled : Source → Net
 compiled x =
     withCode
-    (peopled (x .lines) 0 (x .lines) (ruled 0 (x .rows) (withCounts emptyNet (length (x .rows)) (total (x .lines)))))
-    (codeFrom (x .lines) 0 (x .lines))
+    (peopled (placeIn (x .lines)) 0 (x .lines) (ruled 0 (x .rows) (withCounts emptyNet (length (x .rows)) (total (x .lines)))))
+    (codeFrom (placeIn (x .lines)) 0 (x .lines))

@@ -12,8 +12,8 @@ use Rattle.fields.specs.Fields.{address}
 use Rattle.fields.specs.Fields as Fields
 use Rattle.notation.specs.Types.{Locality}
 use Rattle.notation.specs.Source.{Line, definition, process, tuple, Source}
-use Rattle.terms.specs.Reading.{named}
-use Rattle.terms.specs.Reading as Reading
+use Rattle.processes.specs.Reading.{named}
+use Rattle.processes.specs.Reading as Reading
 use Rattle.notation.specs.Rows.{rows}
 
 -- ---- how many processes and tuples an address has, by the lines before

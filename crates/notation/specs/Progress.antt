@@ -19,11 +19,6 @@ pub record Digits (s : List ℕ) (p q : ℕ) : Type 0 where
   pub within : q - p ≤ length s
   pub rest : p + digitsFrom (length s) s p ≡ q + digitsFrom (length s - (q - p)) s q
 
--- whether a step is a place
-unfoldable pub isPlace : Step → Bool
-isPlace (Step.At p) = true
-isPlace (Step.Failed f) = false
-
 -- whether a row stands at a step; none after a fault
 unfoldable pub isRowHere : List ℕ → Step → Bool
 isRowHere s (Step.At p) = isRow s p

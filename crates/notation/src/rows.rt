@@ -11,6 +11,7 @@ use net::network::Net;
 use net::policy::Rights;
 use net::policy::Row;
 use readers::step::Step;
+use readers::step::is_place;
 use readers::step::require_that;
 ghost use Prim.Native.Nat.{_+_, _≤_};
 ghost use mathlib.Core.Path.{_≡_};
@@ -23,7 +24,7 @@ ghost use Rattle.net.specs.Records.{nodeAt, addressOf};
 ghost use Rattle.readers.specs.Progress.{Went};
 ghost use Rattle.lexemes.specs.Progress.{Numbered};
 ghost use Rattle.notation.specs.Rows.{digitsFrom, standsAt, isRow, anyRight, rights, granted, grants, creates, opening, row, within, rowsAfter, rows};
-ghost use Rattle.notation.specs.Progress.{isPlace, isRowHere, Granted, Ruled};
+ghost use Rattle.notation.specs.Progress.{isRowHere, Granted, Ruled};
 
 struct RightsRead {
     rights: Rights,
@@ -64,16 +65,6 @@ fn after_digits(s: &[u8], p: usize) -> usize
         }
     }
     q
-}
-
-// Whether a step is a place.
-fn is_place(step: Step) -> bool
-    ensures { λ r. ⌜ r ≡ isPlace step ⌝ }
-{
-    match step {
-        Step::At(_) => true,
-        Step::Failed(_) => false,
-    }
 }
 
 // Whether a word stands at a place.

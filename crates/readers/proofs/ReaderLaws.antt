@@ -12,7 +12,7 @@ use native.Mathlib.Omega.{arith}
 use Rattle.net.specs.Choice.{choose}
 use Rattle.readers.specs.Reader.{Fault, Parsed, got, fault, Reader, pure, andThen, _>>=_, _>>_, turns, each}
 use Rattle.readers.specs.Reader.{alternative, require, numbered}
-use Rattle.readers.specs.Progress.{Step, outcome, runFrom, Went, Loop}
+use Rattle.readers.specs.Progress.{Step, reached, outcome, runFrom, Went, Loop}
 use Rattle.net.proofs.Laws.{choose-true, choose-false}
 
 module _ {A : Type 0} (s : List ℕ) where
@@ -131,3 +131,12 @@ pub choose-got : {A : Type 0} (t : Bool) {x : Parsed A} (n : Fault) {a : A} {q :
 unfolding choose
 choose-got true n e = (refl, e)
 choose-got false n e = no-fault e
+
+-- ---- whether a step is a place
+pub place-is : (q : Step) (k : ℕ) → q ≡ Step.At k → true ≡ reached q
+unfolding reached
+place-is q k e = rw e refl
+
+pub place-none : (q : Step) (f : Fault) → q ≡ Step.Failed f → false ≡ reached q
+unfolding reached
+place-none q f e = rw e refl

@@ -3,8 +3,14 @@
 pub use Rattle.readers.specs.declared.step.Step.{Step}
 use Prim.Native.Nat.{ℕ, _-_, _≤_}
 use mathlib.Core.Path.{_≡_}
+use mathlib.Core.Bool.{Bool, true, false}
 use mathlib.Core.List.{List}
 use Rattle.readers.specs.Reader.{Parsed, got, fault, Reader, each, turns}
+
+-- whether a step is a place
+unfoldable pub reached : Step → Bool
+reached (Step.At p) = true
+reached (Step.Failed f) = false
 
 -- a value at a step, as an outcome: after a fault the value counts for nothing
 unfoldable pub outcome : {A : Type 0} → Step → A → Parsed A

@@ -5,12 +5,22 @@ ghost use mathlib.Core.List.{List};
 ghost use mathlib.Core.Path.{_≡_};
 ghost use Rattle.net.specs.Choice.{choose};
 ghost use Rattle.readers.specs.Reader.{numbered, require};
-ghost use Rattle.readers.specs.Progress.{Went};
+ghost use Rattle.readers.specs.Progress.{reached, Went};
 
 // Where reading stands: at the place of what is read next, or past the first fault.
 pub enum Step {
     At(usize),
     Failed(Fault),
+}
+
+// Whether a step is a place.
+pub fn is_place(step: Step) -> bool
+    ensures { λ r. ⌜ r ≡ reached step ⌝ }
+{
+    match step {
+        Step::At(_) => true,
+        Step::Failed(_) => false,
+    }
 }
 
 // A place where the test holds, or else the fault n.

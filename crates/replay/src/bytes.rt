@@ -1,4 +1,5 @@
 // Numbers taken from bytes, little-endian. Past the end stand zeros.
+use text::signed::signed_of;
 
 // A place so many bytes on.
 pub fn past(at: usize, n: usize) -> usize {
@@ -36,17 +37,6 @@ fn joined_four(low: u16, high: u16) -> u32 {
     let units = low as u32;
     let rest = high as u32;
     units + rest * 65536
-}
-
-// The reading whose two's complement this is.
-fn signed_of(v: u32) -> i32 {
-    if v < 2147483648 {
-        v as i32
-    } else {
-        let rest = 4294967295 - v;
-        let low = rest as i32;
-        -1 - low
-    }
 }
 
 pub fn reading_at(s: &[u8], at: usize) -> i32 {

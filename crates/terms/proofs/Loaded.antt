@@ -11,13 +11,13 @@ use Rattle.net.specs.Choice.{choose}
 use Rattle.net.specs.Records.{patternAt, zeroInstruction, zeroTemplateField, withAction}
 use Rattle.net.proofs.Laws.{choose-true, choose-false}
 use Rattle.text.specs.Joined.{joined}
-use Rattle.text.specs.Signed.{complementOf}
+use Rattle.text.specs.Signed.{complementOf, signed}
 use Rattle.terms.specs.Types.{Place, Target, Pattern, TemplateField, Instruction}
 use Rattle.terms.specs.Types as Types
 use Rattle.terms.specs.Terms.{Process, Action, nil, name, fork, act, out, input, read, eval, newloc}
 use Rattle.terms.specs.Numbering.{Start, startOf, size, sizeIn, instructionOf, forkOf, codeOf, codeIn}
 use Rattle.terms.specs.Table.{startWord, targetWord, patternWord, templateWords, instructionWords, stopWords, actionWords, wordsOf, wordsIn}
-use Rattle.terms.specs.Loading.{signedOf, targetOf, patternOf, fieldOf, actionOf, loaded, fitsTarget, fitsReading, fitsPattern, FitsTemplate}
+use Rattle.terms.specs.Loading.{targetOf, patternOf, fieldOf, actionOf, loaded, fitsTarget, fitsReading, fitsPattern, FitsTemplate}
 use Rattle.terms.specs.Loading.{loadedAll, fits, fitsIn, Resolves}
 use Rattle.terms.proofs.LoadingLaws.{target-written, target-own, target-held, pattern-reading, pattern-address, pattern-own, pattern-held}
 use Rattle.terms.proofs.LoadingLaws.{pattern-formal-reading, pattern-formal-address}
@@ -29,8 +29,8 @@ target-back (Target.Written l) h = sym (target-written (l .0) l h (omega arith))
 target-back Target.Own h = sym (target-own 256 (omega arith) (omega arith))
 target-back (Target.Held v) h = sym (target-held (512 + v) v (omega arith) (omega arith) (omega arith))
 
-signed-back : (x : ℤ) → fitsReading x → (complementOf x < 4294967296) × (x ≡ signedOf (complementOf x))
-unfolding fitsReading complementOf signedOf
+signed-back : (x : ℤ) → fitsReading x → (complementOf x < 4294967296) × (x ≡ signed (complementOf x))
+unfolding fitsReading complementOf signed
 signed-back (ℤ.pos v) h = (omega arith, sym (choose-true _ _ _ (lt-ltb v 2147483648 h)))
 signed-back (ℤ.negsuc v) h = (
   omega arith,

@@ -3,29 +3,18 @@ use Prim.Native.Nat.{ℕ, _+_, _-_, _*_, _%_, _<_, _≤_}
 use mathlib.Core.Path.{_≡_, refl, sym, ap, _∙_}
 use mathlib.Core.List.{List, [], _∷_}
 use lib.ListN.{getD, length, List·getD-eq-default}
-use lib.IntN.{ℤ, negsuc, _-ℤ_}
-use mir.Syntax.{w32}
-use mir.Val.{toZ, ofZ}
-use mir.Facts.{toZ-ofZ}
+use lib.IntN.{ℤ}
 use borrow.Author.Tests.{lt-ltb, le-ltb, ne-eqb}
 use native.Mathlib.Omega.{arith}
 use Rattle.net.specs.Choice.{choose}
 use Rattle.net.specs.Records.{addressOf}
 use Rattle.net.proofs.Laws.{choose-true, choose-false}
-use Rattle.text.proofs.SignedLaws.{low-is, high-is, high-fits}
+use Rattle.text.specs.Signed.{signed}
 use Rattle.terms.specs.Types.{Locality, Place, Target, Pattern, TemplateField, Action, Instruction}
-use Rattle.terms.specs.Loading.{signedOf, targetOf, patternOf, fieldOf, actionOf, Other, templated, loaded, loadedAt}
+use Rattle.terms.specs.Loading.{targetOf, patternOf, fieldOf, actionOf, Other, templated, loaded, loadedAt}
 
 pub word-past : (xs : List ℕ) (i : ℕ) → length xs ≤ i → 0 ≡ getD xs i 0
 word-past xs i h = sym (List·getD-eq-default xs 0 h)
-
-pub signed-low : (v : ℕ) → v < 2147483648 → toZ w32 v ≡ signedOf v
-unfolding signedOf
-signed-low v h = low-is v h ∙ sym (choose-true _ _ _ (lt-ltb v 2147483648 h))
-
-pub signed-high : (v : ℕ) → v < 4294967296 → 2147483648 ≤ v → toZ w32 (ofZ w32 (negsuc 0 -ℤ toZ w32 (4294967295 - v))) ≡ signedOf v
-unfolding signedOf
-signed-high v l h = toZ-ofZ (high-fits v l h) ∙ high-is v l h ∙ sym (choose-false _ _ _ (le-ltb v 2147483648 h))
 
 -- ---- targets
 address-is : (l : Locality) (n : ℕ) → l .0 ≡ n → l ≡ addressOf n
@@ -46,7 +35,7 @@ module _ (w : ℕ) where
 
 -- ---- template fields
 module _ (w : ℕ) where
-  pub pattern-reading : (x : ℤ) → w < 4294967296 → x ≡ signedOf w → Pattern.Reading x ≡ patternOf w
+  pub pattern-reading : (x : ℤ) → w < 4294967296 → x ≡ signed w → Pattern.Reading x ≡ patternOf w
   unfolding patternOf
   pattern-reading x h e = ap Pattern.Reading e ∙ sym (choose-true _ _ _ (lt-ltb w 4294967296 h))
 

@@ -1,7 +1,5 @@
 pub mod Loading
 pub mod Numbering
-pub mod Progress
-pub mod Reading
 pub mod Table
 pub mod Terms
 pub mod Types

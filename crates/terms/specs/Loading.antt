@@ -1,12 +1,13 @@
 -- Describes the code, and is no part of what a reader has to believe: words of a table read back as an instruction
 -- (`Table.antt`), once its two starts have their places.
-use Prim.Native.Nat.{ℕ, zero, suc, _+_, _-_, _*_, _%_, _<_}
+use Prim.Native.Nat.{ℕ, zero, suc, _+_, _*_, _%_, _<_}
 use mathlib.Core.Path.{_≡_}
 use mathlib.Core.List.{List, [], _∷_}
 use lib.ListN.{getD, drop, length}
 use lib.Dec.{eqb, ltb}
 use lib.IntN.{ℤ}
 use Rattle.net.specs.Choice.{choose}
+use Rattle.text.specs.Signed.{signed}
 use Rattle.net.specs.Records.{addressOf, patternAt, zeroInstruction}
 use Rattle.terms.specs.Terms.{Process, nil, name, fork, act, out, input, read, eval, newloc}
 use Rattle.terms.specs.Terms as Terms
@@ -19,12 +20,9 @@ targetOf w =
     choose (ltb w 256) (Target.Written (addressOf (w % 256)))
     (choose (ltb w 512) Target.Own (Target.Held (w % 256)))
 
-unfoldable pub signedOf : ℕ → ℤ
-signedOf w = choose (ltb w 2147483648) (ℤ.pos w) (ℤ.negsuc (4294967295 - w))
-
 unfoldable pub patternOf : ℕ → Pattern
 patternOf w =
-    choose (ltb w 4294967296) (Pattern.Reading (signedOf w))
+    choose (ltb w 4294967296) (Pattern.Reading (signed w))
     (choose (ltb w 4294967552) (Pattern.Address (addressOf (w % 256)))
     (choose (ltb w 4294967808) Pattern.Own
     (choose (ltb w 4294968064) (Pattern.Held (w % 256))

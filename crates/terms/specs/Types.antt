@@ -6,4 +6,3 @@ pub use Rattle.net.specs.declared.instruction.Pattern.{Pattern}
 pub use Rattle.net.specs.declared.instruction.TemplateField.{TemplateField}
 pub use Rattle.net.specs.declared.instruction.Action.{Action}
 pub use Rattle.net.specs.declared.instruction.Instruction.{Instruction}
-pub use Rattle.readers.specs.declared.step.Step.{Step}

@@ -1,6 +1,3 @@
-// Processes and actions of the planners' notation.
-pub mod actions;
+// Instructions of the planners' notation as words of a lent table: stored, and read back.
 pub mod loading;
-pub mod names;
-pub mod processes;
-mod table;
+pub mod table;

@@ -6,10 +6,11 @@ use net::instruction::Target;
 use net::instruction::TemplateField;
 use net::locality::Locality;
 use net::locality::Place;
+use text::signed::signed_of;
 ghost use Prim.Native.Nat.{_+_, _*_, _%_, _<_, _≤_};
 ghost use mathlib.Core.Path.{_≡_};
 ghost use lib.ListN.{getD};
-ghost use Rattle.terms.specs.Loading.{signedOf, targetOf, patternOf, fieldOf, actionOf, Other, templated, loadedAt, loadedIn};
+ghost use Rattle.terms.specs.Loading.{targetOf, patternOf, fieldOf, actionOf, Other, templated, loadedAt, loadedIn};
 
 // A word of a table; 0 past its end.
 pub fn word_at(table: &[usize], at: usize) -> usize
@@ -24,20 +25,6 @@ fn low_byte(w: usize) -> u8
 {
     let low = w % 256;
     low as u8
-}
-
-// The number of a two's complement.
-fn signed_of(w: usize) -> i32
-    requires { ⌜ w < 4294967296 ⌝ }
-    ensures { λ r. ⌜ r ≡ signedOf w ⌝ }
-{
-    if w < 2147483648 {
-        w as i32
-    } else {
-        let rest = 4294967295 - w;
-        let low = rest as i32;
-        -1 - low
-    }
 }
 
 // The address of a word.
@@ -88,7 +75,8 @@ fn pattern_of(w: usize) -> Pattern
     ensures { λ r. ⌜ r ≡ patternOf w ⌝ }
 {
     if w < 4294967296 {
-        let x = signed_of(w);
+        let bits = w as u32;
+        let x = signed_of(bits);
         Pattern::Reading(x)
     } else {
         other_pattern(w)

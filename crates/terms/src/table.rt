@@ -34,7 +34,7 @@ fn put_two(table: &mut [usize], at: usize, v: usize, w: usize) -> usize
 }
 
 // The word of a target.
-pub(crate) fn target_word(t: Target) -> usize
+pub fn target_word(t: Target) -> usize
     ensures { λ r. ⌜ r ≡ targetWord t ⌝ }
 {
     match t {
@@ -115,7 +115,7 @@ fn put_instruction(
 }
 
 // The instruction with the number n.
-pub(crate) fn store(
+pub fn store(
     table: &mut [usize],
     n: usize,
     kind: usize,
@@ -132,7 +132,7 @@ pub(crate) fn store(
 }
 
 // The instruction with the number n, which has no template.
-pub(crate) fn store_plain(
+pub fn store_plain(
     table: &mut [usize],
     n: usize,
     kind: usize,

@@ -13,7 +13,8 @@ use lib.Signed.{mag, leZ, nonNeg}
 use mir.Syntax.{w32}
 use mir.Val.{Fits, SFits, toZ, ofZ}
 use mir.Facts.{toZ-ofZ, fits-natAbs}
-use Rattle.text.specs.Signed.{complementOf}
+use Rattle.net.proofs.Laws.{choose-true, choose-false}
+use Rattle.text.specs.Signed.{complementOf, signed}
 use Rattle.text.specs.Writing.{Wrote}
 
 -- ---- a signed number by its sign
@@ -94,3 +95,11 @@ high-is v l h = ap (λ (z : ℤ). negsuc 0 -ℤ z) (low-is (4294967295 - v) (ome
 
 pub high-fits : (v : ℕ) → v < 2 ^ 32 → 2147483648 ≤ v → SFits w32 (negsuc 0 -ℤ toZ w32 (4294967295 - v))
 high-fits v l h = rw (high-is v l h) (record { sfits = omega arith })
+
+pub signed-low : (v : ℕ) → v < 2147483648 → toZ w32 v ≡ signed v
+unfolding signed
+signed-low v h = low-is v h ∙ sym (choose-true _ _ _ (lt-ltb v 2147483648 h))
+
+pub signed-high : (v : ℕ) → v < 2 ^ 32 → 2147483648 ≤ v → toZ w32 (ofZ w32 (negsuc 0 -ℤ toZ w32 (4294967295 - v))) ≡ signed v
+unfolding signed
+signed-high v l h = toZ-ofZ (high-fits v l h) ∙ high-is v l h ∙ sym (choose-false _ _ _ (le-ltb v 2147483648 h))

@@ -58,7 +58,7 @@ module _ (n k : ℕ) (all : List Line) (whole : total all ≤ k) (right : namesR
     body-good : Fit n p → Each (InstructionOk n k) (codeOf (placeIn all) m p)
     body-good f = code-good n k (placeIn all) Right (here-below all k whole) (name-below all k whole) m p h f u
 
-  placed-with : (m : ℕ) (l : Line) (s : Net) → m + sizeOf l ≤ k → LineOk n l → UsedLine l → NetWith n k s → NetWith n k (placed all m l s)
+  placed-with : (m : ℕ) (l : Line) (s : Net) → m + sizeOf l ≤ k → LineOk n l → UsedLine l → NetWith n k s → NetWith n k (placed (placeIn all) m l s)
   unfolding placed sizeOf LineOk usesLine
   placed-with m (definition j p) s h f u ok = ok
   placed-with m (process a p) s h f u ok =
@@ -67,13 +67,13 @@ module _ (n k : ℕ) (all : List Line) (whole : total all ≤ k) (right : namesR
   placed-with m (tuple a t) s h f u ok =
       with-node s ok a _ (f .0) (with-tuple n k (nodeAt s a) (node-at s ok a (f .0)) t (f .1))
 
-  line-good : (m : ℕ) (l : Line) → m + sizeOf l ≤ k → LineOk n l → UsedLine l → Each (InstructionOk n k) (lineCode all m l)
+  line-good : (m : ℕ) (l : Line) → m + sizeOf l ≤ k → LineOk n l → UsedLine l → Each (InstructionOk n k) (lineCode (placeIn all) m l)
   unfolding lineCode sizeOf LineOk usesLine
   line-good m (definition j p) h f u = body-good m p h u (f .1)
   line-good m (process a p) h f u = body-good m p h u (f .1)
   line-good m (tuple a t) h f u = none
 
-  line-length : (m : ℕ) (l : Line) → length (lineCode all m l) ≡ sizeOf l
+  line-length : (m : ℕ) (l : Line) → length (lineCode (placeIn all) m l) ≡ sizeOf l
   unfolding lineCode sizeOf
   line-length m (definition j p) = code-length (placeIn all) m p
   line-length m (process a p) = code-length (placeIn all) m p
@@ -85,26 +85,26 @@ module _ (n k : ℕ) (all : List Line) (whole : total all ≤ k) (right : namesR
 
   peopled-with :
       (m : ℕ) (ls : List Line) (s : Net) → m + total ls ≤ k → Each (LineOk n) ls → Used ls → NetWith n k s
-      → NetWith n k (peopled all m ls s)
+      → NetWith n k (peopled (placeIn all) m ls s)
   unfolding peopled total used
   peopled-with m [] s h none u ok = ok
   peopled-with m (l ∷ ls) s h (more f e) u ok =
       peopled-with (m + sizeOf l) ls _ (omega arith) e (λ j g. u j (in-second (usesLine j l) (used j ls) g))
       (placed-with m l s (omega arith) f (λ j g. u j (in-first (usesLine j l) (used j ls) g)) ok)
 
-  code-from : (m : ℕ) (ls : List Line) → m + total ls ≤ k → Each (LineOk n) ls → Used ls → Each (InstructionOk n k) (codeFrom all m ls)
+  code-from : (m : ℕ) (ls : List Line) → m + total ls ≤ k → Each (LineOk n) ls → Used ls → Each (InstructionOk n k) (codeFrom (placeIn all) m ls)
   unfolding codeFrom total used
   code-from m [] h none u = none
   code-from m (l ∷ ls) h (more f e) u =
       each-both _ _ (line-good m l (omega arith) f (λ j g. u j (in-first (usesLine j l) (used j ls) g)))
       (code-from (m + sizeOf l) ls (omega arith) e (λ j g. u j (in-second (usesLine j l) (used j ls) g)))
 
-  from-length : (m : ℕ) (ls : List Line) → length (codeFrom all m ls) ≡ total ls
+  from-length : (m : ℕ) (ls : List Line) → length (codeFrom (placeIn all) m ls) ≡ total ls
   unfolding codeFrom total
   from-length m [] = refl
   from-length m (l ∷ ls) =
-      length-append (lineCode all m l) (codeFrom all (m + sizeOf l) ls)
-      ∙ ap (λ (x : ℕ). x + length (codeFrom all (m + sizeOf l) ls)) (line-length m l)
+      length-append (lineCode (placeIn all) m l) (codeFrom (placeIn all) (m + sizeOf l) ls)
+      ∙ ap (λ (x : ℕ). x + length (codeFrom (placeIn all) (m + sizeOf l) ls)) (line-length m l)
       ∙ ap (λ (x : ℕ). sizeOf l + x) (from-length (m + sizeOf l) ls)
 
 -- ---- instructions stored one after another
@@ -169,7 +169,7 @@ compiled-with x ok right some few =
       length-most = net .length-most;
       nodes-ok = net .nodes-ok;
       code-ok =
-          stored n k 0 (codeFrom (x .lines) 0 (x .lines)) _
+          stored n k 0 (codeFrom (placeIn (x .lines)) 0 (x .lines)) _
           (let l = from-length n k (x .lines) (omega arith) right 0 (x .lines) in omega arith) code (net .code-ok);
     }
 
@@ -183,13 +183,13 @@ unfolding ruled withNode
 ruled-counts n k i [] s c = c
 ruled-counts n k i (r ∷ rs) s c = ruled-counts n k (suc i) rs _ (record { addresses-are = c .addresses-are; length-is = c .length-is })
 
-placed-counts : (n k m : ℕ) (all : List Line) (l : Line) (s : Net) → Counted n k s → Counted n k (placed all m l s)
+placed-counts : (n k m : ℕ) (all : List Line) (l : Line) (s : Net) → Counted n k s → Counted n k (placed (placeIn all) m l s)
 unfolding placed withNode
 placed-counts n k m all (definition j p) s c = c
 placed-counts n k m all (process a p) s c = record { addresses-are = c .addresses-are; length-is = c .length-is }
 placed-counts n k m all (tuple a t) s c = record { addresses-are = c .addresses-are; length-is = c .length-is }
 
-peopled-counts : (n k m : ℕ) (all ls : List Line) (s : Net) → Counted n k s → Counted n k (peopled all m ls s)
+peopled-counts : (n k m : ℕ) (all ls : List Line) (s : Net) → Counted n k s → Counted n k (peopled (placeIn all) m ls s)
 unfolding peopled
 peopled-counts n k m all [] s c = c
 peopled-counts n k m all (l ∷ ls) s c = peopled-counts n k (m + sizeOf l) all ls _ (placed-counts n k m all l s c)

@@ -11,8 +11,8 @@ use Rattle.sound.specs.Soundness.{targetSound}
 use Rattle.readers.specs.Reader.{Reader}
 use Rattle.lexemes.specs.Lexemes.{byteAt}
 use Rattle.terms.specs.Terms.{Process, Action, nil, name, fork, act, out, input, read, eval, newloc}
-use Rattle.terms.specs.Reading.{named, atTarget, communication, evaluation, creation, simple, action, forked, stopped, called}
-use Rattle.terms.specs.Reading.{endsChain, ended, acting, chain, processAt, process}
+use Rattle.processes.specs.Reading.{named, atTarget, communication, evaluation, creation, simple, action, forked, stopped, called}
+use Rattle.processes.specs.Reading.{endsChain, ended, acting, chain, processAt, process}
 use Rattle.sound.proofs.Drafts.{Whole}
 use Rattle.texts.specs.Types.{Target, Instruction}
 use Rattle.texts.specs.Types as Types

@@ -11,7 +11,8 @@ use lib.IntN.{ℤ}
 use borrow.Author.Tests.{ltb-true, lt-ltb, le-ltb}
 use Rattle.net.specs.Records.{addressOf, placeOf}
 use Rattle.written.specs.Types.{Rights}
-use Rattle.bitreader.specs.Fields.{address, signed, reading}
+use Rattle.text.specs.Signed.{signed}
+use Rattle.bitreader.specs.Fields.{address, reading}
 use Rattle.bitreader.specs.Fields.{place, variable}
 use Rattle.image.specs.Image.{isSetBit, rightsOf}
 use Rattle.written.specs.ImageOf.{bitsOf, addressBits, placeBits, variableBits, readingBits, rightsBits, digit}

@@ -12,5 +12,6 @@ read-reading-spec =
     tie.close
     (tie.spec
     (λ c κs. search needs)
+    (λ c. search needs)
     (λ c κs. search needs)
     (λ c. search (needs, on, stop-as)))

@@ -1,0 +1,4 @@
+pub mod ActionLaws
+pub mod ChainLaws
+pub mod Fitting
+pub mod ProcessLaws
