@@ -17,7 +17,7 @@ use Rattle.readers.proofs.ReaderLaws.{after, on, next, stop, stop-as}
 use Rattle.lexemes.specs.Lexemes.{fail}
 use Rattle.notation.specs.Types.{Step, Row, Net}
 use Rattle.notation.specs.Rows.{isRow, row, rowsAfter, within, allWithin, rows}
-use Rattle.notation.specs.Compiled.{ruled}
+use Rattle.linking.specs.Compiled.{ruled}
 use Rattle.notation.specs.Progress.{RowsRead, isRowHere, netOf, ruledRows, Ruling, Ruled}
 use Rattle.notation.proofs.RuledLaws.{putRow, ruled-more, ruled-counts, ruled-length, addresses-of, rows-within}
 

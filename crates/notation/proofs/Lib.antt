@@ -1,5 +1,3 @@
 pub mod AllRowsLaws
-pub mod Bounded
-pub mod NameTableLaws
 pub mod RowLaws
 pub mod RuledLaws

@@ -10,9 +10,9 @@ use Rattle.net.specs.Choice.{all}
 use Rattle.net.specs.Records.{zeroRow, zeroNode, emptyNet, nodeAt, withNode, withRow, withCounts, addressOf}
 use Rattle.notation.specs.Types.{Row, Node, Net}
 use Rattle.notation.specs.Rows.{within, allWithin}
-use Rattle.notation.specs.Compiled.{ruled}
+use Rattle.linking.specs.Compiled.{ruled}
 use Rattle.notation.specs.Progress.{netOf}
-use Rattle.notation.proofs.Bounded.{all-same}
+use Rattle.linking.proofs.Bounded.{all-same}
 
 -- a row put at an address
 unfoldable pub putRow : Net → ℕ → Row → Net

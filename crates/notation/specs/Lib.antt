@@ -1,9 +1,5 @@
-pub mod Compiled
 pub mod Lines
-pub mod NameTable
-pub mod Names
 pub mod Progress
 pub mod Rows
-pub mod Source
 pub mod Text
 pub mod Types

@@ -11,7 +11,7 @@ use Rattle.lexemes.specs.Lexemes.{look, byte, word}
 use Rattle.fields.specs.Fields.{address}
 use Rattle.fields.specs.Fields as Fields
 use Rattle.notation.specs.Types.{Locality}
-use Rattle.notation.specs.Source.{Line, definition, process, tuple, Source}
+use Rattle.linking.specs.Source.{Line, definition, process, tuple, Source}
 use Rattle.processes.specs.Reading.{named}
 use Rattle.processes.specs.Reading as Reading
 use Rattle.notation.specs.Rows.{rows}

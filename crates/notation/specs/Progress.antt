@@ -11,7 +11,7 @@ use Rattle.readers.specs.Reader.{Reader, pure, _>>=_}
 use Rattle.readers.specs.Progress.{Went, runFrom}
 use Rattle.notation.specs.Types.{Step, Row, Net}
 use Rattle.notation.specs.Rows.{digitsFrom, isRow, grants, rowsAfter, rows}
-use Rattle.notation.specs.Compiled.{ruled}
+use Rattle.linking.specs.Compiled.{ruled}
 
 -- digits being counted from place p, those up to place q being found
 pub record Digits (s : List ℕ) (p q : ℕ) : Type 0 where

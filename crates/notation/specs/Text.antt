@@ -8,10 +8,10 @@ use Rattle.net.specs.Records.{emptyNet}
 use Rattle.keeping.specs.Admission.{admits}
 use Rattle.readers.specs.Reader.{Parsed, got, fault}
 use Rattle.notation.specs.Types.{Net}
-use Rattle.notation.specs.Source.{Source}
+use Rattle.linking.specs.Source.{Source}
 use Rattle.notation.specs.Lines.{source}
-use Rattle.notation.specs.Names.{namesRight}
-use Rattle.notation.specs.Compiled.{total, compiled}
+use Rattle.linking.specs.Names.{namesRight}
+use Rattle.linking.specs.Compiled.{total, compiled}
 
 unfoldable pub refused : ℕ → Opened
 refused n = record { answer = Verdict.Refused n; net = emptyNet }

@@ -1,6 +1,6 @@
 -- What is stored is read back: the words of an instruction give that instruction, and those of a process its code
 -- (`specs/Loading.antt`). Assumes nothing.
-use Prim.Native.Nat.{ℕ, zero, suc, _+_, _-_, _%_, _<_}
+use Prim.Native.Nat.{ℕ, zero, suc, _+_, _-_, _%_, _<_, _≤_}
 use mathlib.Core.Path.{_≡_, refl, sym, ap, _∙_}
 use mathlib.Core.List.{List, [], _∷_, _++_, append-assoc}
 use native.Mathlib.Omega.{arith}
@@ -82,12 +82,12 @@ zero-fits = record { four = refl; fields = fields }
 
 -- ---- the words of a process
 module _ (resolve : ℕ → Place) (place : Start → Place) (r : Resolves resolve place) where
-  start-back : (n : ℕ) (x : Process) → fits x → resolve (startWord (startOf n x)) ≡ place (startOf n x)
+  pub start-back : (n : ℕ) (x : Process) → fits x → n ≤ 512 → resolve (startWord (startOf n x)) ≡ place (startOf n x)
   unfolding fits startWord startOf
-  start-back n nil h = r .numbers n
-  start-back n (name k) h = r .names k h
-  start-back n (fork p q) h = r .numbers n
-  start-back n (act a p) h = r .numbers n
+  start-back n nil h b = r .numbers n b
+  start-back n (name k) h b = r .names k h
+  start-back n (fork p q) h b = r .numbers n b
+  start-back n (act a p) h b = r .numbers n b
 
   step-back :
       (m kind target : ℕ) (c : Instruction) (next second : ℕ) (rest : List ℕ) → FitsTemplate c
@@ -99,19 +99,19 @@ module _ (resolve : ℕ → Place) (place : Start → Place) (r : Resolves resol
       (instruction-back kind target c next second rest (resolve next) (resolve second) f)
 
   action-back :
-      (m n : ℕ) (a : Action) (w : ℕ) (q : Start) (rest : List ℕ) → fitsIn a → resolve w ≡ place q
+      (m n : ℕ) (a : Action) (w : ℕ) (q : Start) (rest : List ℕ) → fitsIn a → suc n ≤ 512 → resolve w ≡ place q
       → loadedAll resolve (suc m) (actionWords n a w ++ rest) ≡ instructionOf place n a q ∷ loadedAll resolve m rest
   unfolding actionWords instructionOf fitsIn actionOf choose
-  action-back m n (out c t) w q rest h e =
+  action-back m n (out c t) w q rest h b e =
       step-back m 1 (targetWord t) c w 0 rest (h .0) ∙ rw (target-back t (h .1), e) refl
-  action-back m n (input c t) w q rest h e =
+  action-back m n (input c t) w q rest h b e =
       step-back m 2 (targetWord t) c w 0 rest (h .0) ∙ rw (target-back t (h .1), e) refl
-  action-back m n (read c t) w q rest h e =
+  action-back m n (read c t) w q rest h b e =
       step-back m 3 (targetWord t) c w 0 rest (h .0) ∙ rw (target-back t (h .1), e) refl
-  action-back m n (eval p t) w q rest h e =
+  action-back m n (eval p t) w q rest h b e =
       step-back m 4 (targetWord t) zeroInstruction w (startWord (startOf (suc n) p)) rest zero-fits
-      ∙ rw (target-back t (h .1), e, start-back (suc n) p (h .0)) refl
-  action-back m n (newloc v) w q rest h e =
+      ∙ rw (target-back t (h .1), e, start-back (suc n) p (h .0) b) refl
+  action-back m n (newloc v) w q rest h b e =
       let low : v % 256 ≡ v = omega arith in step-back m 5 v zeroInstruction w 0 rest zero-fits ∙ rw (low, e) refl
 
   stop-back : (m : ℕ) (rest : List ℕ) → loadedAll resolve (suc m) (stopWords ++ rest) ≡ zeroInstruction ∷ loadedAll resolve m rest
@@ -119,13 +119,13 @@ module _ (resolve : ℕ → Place) (place : Start → Place) (r : Resolves resol
   stop-back m rest = step-back m 0 0 zeroInstruction 0 0 rest zero-fits
 
   fork-back :
-      (m i j : ℕ) (p q : Process) (rest : List ℕ) → fits p → fits q
+      (m i j : ℕ) (p q : Process) (rest : List ℕ) → fits p → fits q → i ≤ 512 → j ≤ 512
       → loadedAll resolve (suc m) (instructionWords 6 0 zeroInstruction (startWord (startOf i p)) (startWord (startOf j q)) ++ rest)
       ≡ forkOf place (startOf i p) (startOf j q) ∷ loadedAll resolve m rest
   unfolding forkOf actionOf choose
-  fork-back m i j p q rest f g =
+  fork-back m i j p q rest f g a b =
       step-back m 6 0 zeroInstruction (startWord (startOf i p)) (startWord (startOf j q)) rest zero-fits
-      ∙ rw (start-back i p f, start-back j q g) refl
+      ∙ rw (start-back i p f a, start-back j q g b) refl
 
   none-and : (k : ℕ) → 0 + k ≡ k
   none-and k = omega arith
@@ -140,23 +140,23 @@ module _ (resolve : ℕ → Place) (place : Start → Place) (r : Resolves resol
     unfolding fits fitsIn size sizeIn wordsOf wordsIn stopWords codeOf codeIn forkOf
 
     pub code-back :
-        (n k : ℕ) (x : Process) (rest : List ℕ) → fits x
+        (n k : ℕ) (x : Process) (rest : List ℕ) → fits x → n + size x ≤ 512
         → loadedAll resolve (size x + k) (wordsOf n x ++ rest) ≡ codeOf place n x ++ loadedAll resolve k rest
-    code-back n k nil rest h = ap (λ (m : ℕ). loadedAll resolve m (stopWords ++ rest)) (one-and k) ∙ stop-back k rest
-    code-back n k (name j) rest h = ap (λ (m : ℕ). loadedAll resolve m rest) (none-and k)
-    code-back n k (fork p q) rest h =
+    code-back n k nil rest h b = ap (λ (m : ℕ). loadedAll resolve m (stopWords ++ rest)) (one-and k) ∙ stop-back k rest
+    code-back n k (name j) rest h b = ap (λ (m : ℕ). loadedAll resolve m rest) (none-and k)
+    code-back n k (fork p q) rest h b =
         let own = instructionWords 6 0 zeroInstruction (startWord (startOf (suc n) p)) (startWord (startOf (suc n + size p) q)) in
         let left = wordsOf (suc n) p in
         let right = wordsOf (suc n + size p) q in
         ap (λ (m : ℕ). loadedAll resolve m ((own ++ (left ++ right)) ++ rest)) (both-and (size p) (size q) k)
         ∙ ap (loadedAll resolve (suc (size p + (size q + k))))
         (append-assoc own (left ++ right) rest ∙ ap (λ (l : List ℕ). own ++ l) (append-assoc left right rest))
-        ∙ fork-back (size p + (size q + k)) (suc n) (suc n + size p) p q (left ++ (right ++ rest)) (h .0) (h .1)
+        ∙ fork-back (size p + (size q + k)) (suc n) (suc n + size p) p q (left ++ (right ++ rest)) (h .0) (h .1) (omega arith) (omega arith)
         ∙ ap (λ (l : List Instruction). forkOf place (startOf (suc n) p) (startOf (suc n + size p) q) ∷ l)
-        (code-back (suc n) (size q + k) p (right ++ rest) (h .0)
-        ∙ ap (λ (l : List Instruction). codeOf place (suc n) p ++ l) (code-back (suc n + size p) k q rest (h .1))
+        (code-back (suc n) (size q + k) p (right ++ rest) (h .0) (omega arith)
+        ∙ ap (λ (l : List Instruction). codeOf place (suc n) p ++ l) (code-back (suc n + size p) k q rest (h .1) (omega arith))
         ∙ sym (append-assoc (codeOf place (suc n) p) (codeOf place (suc n + size p) q) (loadedAll resolve k rest)))
-    code-back n k (act a p) rest h =
+    code-back n k (act a p) rest h b =
         let own = actionWords n a (startWord (startOf (suc n + sizeIn a) p)) in
         let held = wordsIn (suc n) a in
         let behind = wordsOf (suc n + sizeIn a) p in
@@ -164,17 +164,17 @@ module _ (resolve : ℕ → Place) (place : Start → Place) (r : Resolves resol
         ∙ ap (loadedAll resolve (suc (sizeIn a + (size p + k))))
         (append-assoc (own ++ held) behind rest ∙ append-assoc own held (behind ++ rest))
         ∙ action-back (sizeIn a + (size p + k)) n a (startWord (startOf (suc n + sizeIn a) p)) (startOf (suc n + sizeIn a) p)
-        (held ++ (behind ++ rest)) (h .0) (start-back (suc n + sizeIn a) p (h .1))
+        (held ++ (behind ++ rest)) (h .0) (omega arith) (start-back (suc n + sizeIn a) p (h .1) (omega arith))
         ∙ ap (λ (l : List Instruction). instructionOf place n a (startOf (suc n + sizeIn a) p) ∷ l)
-        (code-in-back (suc n) (size p + k) a (behind ++ rest) (h .0)
-        ∙ ap (λ (l : List Instruction). codeIn place (suc n) a ++ l) (code-back (suc n + sizeIn a) k p rest (h .1))
+        (code-in-back (suc n) (size p + k) a (behind ++ rest) (h .0) (omega arith)
+        ∙ ap (λ (l : List Instruction). codeIn place (suc n) a ++ l) (code-back (suc n + sizeIn a) k p rest (h .1) (omega arith))
         ∙ sym (append-assoc (codeIn place (suc n) a) (codeOf place (suc n + sizeIn a) p) (loadedAll resolve k rest)))
 
     pub code-in-back :
-        (n k : ℕ) (a : Action) (rest : List ℕ) → fitsIn a
+        (n k : ℕ) (a : Action) (rest : List ℕ) → fitsIn a → n + sizeIn a ≤ 512
         → loadedAll resolve (sizeIn a + k) (wordsIn n a ++ rest) ≡ codeIn place n a ++ loadedAll resolve k rest
-    code-in-back n k (out c t) rest h = ap (λ (m : ℕ). loadedAll resolve m rest) (none-and k)
-    code-in-back n k (input c t) rest h = ap (λ (m : ℕ). loadedAll resolve m rest) (none-and k)
-    code-in-back n k (read c t) rest h = ap (λ (m : ℕ). loadedAll resolve m rest) (none-and k)
-    code-in-back n k (eval p t) rest h = code-back n k p rest (h .0)
-    code-in-back n k (newloc v) rest h = ap (λ (m : ℕ). loadedAll resolve m rest) (none-and k)
+    code-in-back n k (out c t) rest h b = ap (λ (m : ℕ). loadedAll resolve m rest) (none-and k)
+    code-in-back n k (input c t) rest h b = ap (λ (m : ℕ). loadedAll resolve m rest) (none-and k)
+    code-in-back n k (read c t) rest h b = ap (λ (m : ℕ). loadedAll resolve m rest) (none-and k)
+    code-in-back n k (eval p t) rest h b = code-back n k p rest (h .0) b
+    code-in-back n k (newloc v) rest h b = ap (λ (m : ℕ). loadedAll resolve m rest) (none-and k)

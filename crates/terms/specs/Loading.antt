@@ -1,6 +1,6 @@
 -- Describes the code, and is no part of what a reader has to believe: words of a table read back as an instruction
 -- (`Table.antt`), once its two starts have their places.
-use Prim.Native.Nat.{ℕ, zero, suc, _+_, _*_, _%_, _<_}
+use Prim.Native.Nat.{ℕ, zero, suc, _+_, _*_, _%_, _<_, _≤_}
 use mathlib.Core.Path.{_≡_}
 use mathlib.Core.List.{List, [], _∷_}
 use lib.ListN.{getD, drop, length}
@@ -116,7 +116,7 @@ unfoldable mutual
   fitsIn (eval p t) = fits p × fitsTarget t
   fitsIn (newloc v) = v < 256
 
--- the words of starts that a process can have are resolved to their places
+-- the words of starts that a process of at most 512 instructions can have are resolved to their places
 pub record Resolves (resolve : ℕ → Place) (place : Start → Place) : Type 0 where
   pub names : (k : ℕ) → k < 512 → resolve k ≡ place (called k)
-  pub numbers : (n : ℕ) → resolve (512 + n) ≡ place (here n)
+  pub numbers : (n : ℕ) → n ≤ 512 → resolve (512 + n) ≡ place (here n)

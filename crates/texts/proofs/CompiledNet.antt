@@ -22,9 +22,9 @@ use Rattle.sound.proofs.NetChanges.{empty-net, node-at, with-node}
 use Rattle.text.specs.Buffer.{over}
 use Rattle.terms.specs.Terms.{Process, Action, nil, name, fork, act, out, input, read, eval, newloc}
 use Rattle.terms.specs.Numbering.{size, called, startOf, codeOf, uses, usesIn}
-use Rattle.notation.specs.Source.{Line, definition, process, tuple, Source}
-use Rattle.notation.specs.Names.{usesLine, used, namesRight}
-use Rattle.notation.specs.Compiled.{sizeOf, total, isHere, settled, placeIn, lineCode, codeFrom, ruled, placed, peopled, withCode, compiled}
+use Rattle.linking.specs.Source.{Line, definition, process, tuple, Source}
+use Rattle.linking.specs.Names.{usesLine, used, namesRight}
+use Rattle.linking.specs.Compiled.{sizeOf, total, isHere, settled, placeIn, lineCode, codeFrom, ruled, placed, peopled, withCode, compiled}
 use Rattle.texts.specs.Types.{Row, Instruction, Net}
 use Rattle.texts.proofs.Terms.{Fit, FitIn}
 use Rattle.texts.proofs.Rows.{Each, none, more}

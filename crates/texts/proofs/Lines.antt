@@ -5,7 +5,7 @@ use mathlib.Core.List.{List, [], _∷_, _++_}
 use lib.ListN.{length}
 use lib.Dec.{leb}
 use Rattle.sound.proofs.NodeFacts.{TupleOk}
-use Rattle.notation.specs.Source.{Line, definition, process, tuple, Source}
+use Rattle.linking.specs.Source.{Line, definition, process, tuple, Source}
 use Rattle.notation.specs.Lines.{definitionLine, processLine, tupleLine, locatedLine, line}
 use Rattle.notation.specs.Lines.{linesAfter, lines, source}
 use Rattle.texts.specs.Types.{Locality}

@@ -11,9 +11,9 @@ use Rattle.net.proofs.Laws.{both-l, both-r, implies-e, all-e}
 use Rattle.net.proofs.ReadingLaws.{never}
 use Rattle.terms.specs.Terms.{Process, nil, name, fork, act}
 use Rattle.terms.specs.Numbering.{size, Start, here, called, startOf}
-use Rattle.notation.specs.Source.{Line, definition, process, tuple}
-use Rattle.notation.specs.Compiled.{sizeOf, total, definedIn, settle, numberOf, isHere, settled, placeIn}
-use Rattle.notation.specs.Names.{used, defined, nameRight, namesRight}
+use Rattle.linking.specs.Source.{Line, definition, process, tuple}
+use Rattle.linking.specs.Compiled.{sizeOf, total, definedIn, settle, numberOf, isHere, settled, placeIn}
+use Rattle.linking.specs.Names.{used, defined, nameRight, namesRight}
 
 -- a start at an instruction below k, or a name
 Below : ℕ → Start → Type 0

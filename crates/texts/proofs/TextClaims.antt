@@ -10,10 +10,10 @@ use Rattle.sound.specs.Soundness.{soundOf}
 use Rattle.net.specs.Records.{emptyNet}
 use Rattle.keeping.specs.Admission.{admits}
 use Rattle.readers.specs.Reader.{Parsed, got, fault}
-use Rattle.notation.specs.Source.{Source}
+use Rattle.linking.specs.Source.{Source}
 use Rattle.notation.specs.Lines.{source}
-use Rattle.notation.specs.Names.{namesRight}
-use Rattle.notation.specs.Compiled.{total, compiled}
+use Rattle.linking.specs.Names.{namesRight}
+use Rattle.linking.specs.Compiled.{total, compiled}
 use Rattle.notation.specs.Text.{refused, accepted, judgedSource, judged, readOf}
 use Rattle.texts.specs.Types.{Verdict, Opened}
 use Rattle.texts.specs.TextClaims.{TextNumber, count, beyond-row, name, TextIsSound, RefusedTextIsEmpty, RefusedTextIsNumbered}

@@ -6,8 +6,8 @@ use mathlib.Core.List.{List, [], _∷_}
 use lib.Dec.{eqb, leb}
 use Rattle.net.specs.Choice.{choose, both, all, implies}
 use Rattle.terms.specs.Numbering.{called, uses}
-use Rattle.notation.specs.Source.{Line, definition, process, tuple}
-use Rattle.notation.specs.Compiled.{isHere, settled}
+use Rattle.linking.specs.Source.{Line, definition, process, tuple}
+use Rattle.linking.specs.Compiled.{isHere, settled}
 
 -- ---- whether the name k is used
 unfoldable pub usesLine : ℕ → Line → Bool

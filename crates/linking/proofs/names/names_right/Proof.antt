@@ -1,19 +1,19 @@
--- `notation::names::names_right` meets its contract. Assumes nothing.
+-- `linking::names::names_right` meets its contract. Assumes nothing.
 use Prim.Native.Nat.{_-_, _≤_}
 use mathlib.Core.Path.{_≡_}
 use Rattle.net.proofs.AllLaws.{all-end, all-more, all-none}
 use Rattle.net.specs.Choice.{all}
-use Rattle.notation.specs.NameTable.{nameRightIn}
-use Rattle.notation.proofs.NameTableLaws.{all-right}
+use Rattle.linking.specs.NameTable.{nameRightIn}
+use Rattle.linking.proofs.NameTableLaws.{all-right}
 use borrow.Author.Needs.{needs}
-use Rattle.notation.proofs.names.names_right.Statement.{statement}
-use Rattle.notation.proofs.names.names_right.Tie as tie
+use Rattle.linking.proofs.names.names_right.Statement.{statement}
+use Rattle.linking.proofs.names.names_right.Tie as tie
 
 abbrev Inv-loop : tie.InvT-loop
-Inv-loop bodies used twice ok₀ k₀ ok k = (k ≤ 512) × (ok ≡ all k (nameRightIn bodies used))
+Inv-loop bodies defs uses twice ok₀ k₀ ok k = (k ≤ 512) × (ok ≡ all k (nameRightIn bodies defs uses))
 
 abbrev μ-loop : tie.MeasureT-loop
-μ-loop bodies used twice ok₀ k₀ ok k = 512 - k
+μ-loop bodies defs uses twice ok₀ k₀ ok k = 512 - k
 
 pub names-right-spec : {M : Type 1} → statement M
 names-right-spec =

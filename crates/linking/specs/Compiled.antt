@@ -10,8 +10,8 @@ use Rattle.net.specs.Records.{emptyNet, nodeAt, startingAt, processCount, addre
 use Rattle.net.specs.Records.{withNode, withRow, withProcess, withTuple, withCounts}
 use Rattle.text.specs.Buffer.{over}
 use Rattle.terms.specs.Numbering.{size, Start, here, called, startOf, codeOf}
-use Rattle.notation.specs.Types.{Place, Row, Instruction, Net}
-use Rattle.notation.specs.Source.{Line, definition, process, tuple, Source}
+use Rattle.linking.specs.Types.{Place, Row, Instruction, Net}
+use Rattle.linking.specs.Source.{Line, definition, process, tuple, Source}
 
 unfoldable pub sizeOf : Line → ℕ
 sizeOf (definition k p) = size p

@@ -7,52 +7,48 @@ use mathlib.Core.List.{List}
 use native.Mathlib.Omega.{arith}
 use lib.ListN.{getD, length, List·getD-eq-default}
 use lib.Dec.{leb}
-use borrow.Author.Tests.{eq-eqb, ne-eqb, le-leb, lt-leb, leb-true}
+use borrow.Author.Tests.{lt-ltb, le-ltb, ltb-true}
 use Rattle.net.specs.Choice.{choose, both, all, implies}
 use Rattle.net.proofs.Laws.{choose-true, choose-false}
 use Rattle.net.proofs.AllLaws.{and-both}
 use Rattle.net.proofs.Every.{chosen}
 use Rattle.terms.specs.Numbering.{Start, here, called}
-use Rattle.notation.specs.Source.{Line}
-use Rattle.notation.specs.Compiled.{settle, isHere, numberOf, settled}
-use Rattle.notation.specs.Names.{defined, used, nameRight, namesRight}
-use Rattle.notation.specs.NameTable.{startAs, startIn, startFor, settleIn, settledIn, Settling, isDefined, nameRightIn, namesRightIn, Held}
-use Rattle.notation.proofs.Bounded.{all-same, all-both}
+use Rattle.linking.specs.Source.{Line}
+use Rattle.linking.specs.Compiled.{settle, isHere, numberOf, settled}
+use Rattle.linking.specs.Names.{defined, used, nameRight, namesRight}
+use Rattle.linking.specs.NameTable.{startFrom, startIn, startFor, settleIn, settledIn, Settling, nameRightIn, namesRightIn, Held}
+use Rattle.linking.proofs.Bounded.{all-same, all-both}
 
 -- ---- an entry
 pub past-table : {A : Type 0} (xs : List A) (k : ℕ) (d : A) → length xs ≤ k → d ≡ getD xs k d
 past-table xs k d h = sym (List·getD-eq-default xs d h)
 
-module _ (k v : ℕ) where
-  pub start-none : v ≡ 0 → startFor false k ≡ startAs k v
-  unfolding startFor startAs choose
-  start-none e = sym (choose-true _ _ _ (eq-eqb v 0 e))
+module _ (w : ℕ) where
+  pub start-name : w < 512 → startFor false w ≡ startFrom w
+  unfolding startFor startFrom choose
+  start-name h = sym (choose-true _ _ _ (lt-ltb w 512 h))
 
-  pub start-name : (v ≡ 0 → ⊥) → v ≤ 512 → startFor false (v - 1) ≡ startAs k v
-  unfolding startFor startAs choose
-  start-name e h = sym (choose-false _ _ _ (ne-eqb v 0 e) ∙ choose-true _ _ _ (le-leb v 512 h))
-
-  pub start-instruction : (v ≡ 0 → ⊥) → 512 < v → startFor true (v - 513) ≡ startAs k v
-  unfolding startFor startAs choose
-  start-instruction e h = sym (choose-false _ _ _ (ne-eqb v 0 e) ∙ choose-false _ _ _ (lt-leb v 512 h))
+  pub start-instruction : 512 ≤ w → startFor true (w - 512) ≡ startFrom w
+  unfolding startFor startFrom choose
+  start-instruction h = sym (choose-false _ _ _ (le-ltb w 512 h))
 
 -- ---- name after name
-pub settling-begin : (bodies : List ℕ) (k : ℕ) → Settling bodies (called k) 0 false k
-unfolding settledIn startFor choose
-settling-begin bodies k = record { rest = refl }
+pub settling-begin : (bodies : List ℕ) (ended : Bool) (n : ℕ) → Settling bodies (startFor ended n) 0 ended n
+unfolding settledIn
+settling-begin bodies ended n = record { rest = refl }
 
 module _ (bodies : List ℕ) (x : Start) where
   one-name :
-      (m j : ℕ) (ended after : Bool) (n l v : ℕ) → m ≡ suc j → ended ≡ false → v ≡ getD bodies n 0
-      → startFor after l ≡ startAs n v → settleIn m bodies (startFor ended n) ≡ settleIn j bodies (startFor after l)
+      (m j : ℕ) (ended after : Bool) (n l w : ℕ) → m ≡ suc j → ended ≡ false → w ≡ getD bodies n 0
+      → startFor after l ≡ startFrom w → settleIn m bodies (startFor ended n) ≡ settleIn j bodies (startFor after l)
   unfolding startIn settleIn startFor choose
-  one-name m j ended after n l v e f g s = rw (e, f, s, g) refl
+  one-name m j ended after n l w e f g s = rw (e, f, s, g) refl
 
   pub settling-more :
-      (h : ℕ) (ended after : Bool) (n l v : ℕ) → h < 512 → Settling bodies x h ended n → ended ≡ false → v ≡ getD bodies n 0
-      → startFor after l ≡ startAs n v → Settling bodies x (h + 1) after l
-  settling-more h ended after n l v b s f e a =
-      record { rest = s .rest ∙ one-name (512 - h) (512 - (h + 1)) ended after n l v (omega arith) f e a }
+      (h : ℕ) (ended after : Bool) (n l w : ℕ) → h < 512 → Settling bodies x h ended n → ended ≡ false → w ≡ getD bodies n 0
+      → startFor after l ≡ startFrom w → Settling bodies x (h + 1) after l
+  settling-more h ended after n l w b s f e a =
+      record { rest = s .rest ∙ one-name (512 - h) (512 - (h + 1)) ended after n l w (omega arith) f e a }
 
   arrived : (m n : ℕ) → settleIn m bodies (here n) ≡ here n
   unfolding settleIn
@@ -95,44 +91,42 @@ unfolding both implies
 a-body d true x e = rw e refl
 a-body d false x e = rw e refl
 
-module _ (bodies : List ℕ) (uses : List Bool) (k v : ℕ) (e : v ≡ getD bodies k 0) where
-  pub right-none : (u : Bool) → v ≡ 0 → u ≡ getD uses k false → not u ≡ nameRightIn bodies uses k
-  unfolding nameRightIn isDefined
+module _ (bodies : List ℕ) (defs uses : List Bool) (k : ℕ) (d : Bool) (e : d ≡ getD defs k false) where
+  pub right-none : (u : Bool) → d ≡ false → u ≡ getD uses k false → not u ≡ nameRightIn bodies defs uses k
+  unfolding nameRightIn
   right-none u z f =
-      ap not f ∙ no-body (isDefined bodies k) (getD uses k false) (isHere (settledIn bodies (called k))) (ap not (eq-eqb _ 0 (sym e ∙ z)))
+      ap not f ∙ no-body (getD defs k false) (getD uses k false) (isHere (settledIn bodies (called k))) (sym e ∙ z)
 
   pub right-defined :
-      (ended : Bool) (n : ℕ) → (v ≡ 0 → ⊥) → startFor ended n ≡ settledIn bodies (called k)
-      → ended ≡ nameRightIn bodies uses k
-  unfolding nameRightIn isDefined
+      (ended : Bool) (n : ℕ) → d ≡ true → startFor ended n ≡ settledIn bodies (startFor false k)
+      → ended ≡ nameRightIn bodies defs uses k
+  unfolding nameRightIn startFor choose
   right-defined ended n z s =
       ends-here ended n _ s
-      ∙ a-body (isDefined bodies k) (getD uses k false) (isHere (settledIn bodies (called k))) (ap not (ne-eqb _ 0 (λ y. z (e ∙ y))))
+      ∙ a-body (getD defs k false) (getD uses k false) (isHere (settledIn bodies (called k))) (sym e ∙ z)
 
 pub all-right :
-    (bodies : List ℕ) (uses : List Bool) (twice ok : Bool) → ok ≡ all 512 (nameRightIn bodies uses)
-    → (not twice && ok) ≡ namesRightIn bodies uses twice
+    (bodies : List ℕ) (defs uses : List Bool) (twice ok : Bool) → ok ≡ all 512 (nameRightIn bodies defs uses)
+    → (not twice && ok) ≡ namesRightIn bodies defs uses twice
 unfolding namesRightIn
-all-right bodies uses twice ok e = and-both (not twice) ok _ _ refl e
+all-right bodies defs uses twice ok e = and-both (not twice) ok _ _ refl e
 
 -- ---- tables that hold what the lines say
-module _ (ls : List Line) (bodies : List ℕ) (uses : List Bool) (twice : Bool) (held : Held ls bodies uses twice) where
+module _ (ls : List Line) (bodies : List ℕ) (defs uses : List Bool) (twice : Bool) (held : Held ls bodies defs uses twice) where
   -- a start that is a name has an entry
   unfoldable Entered : Start → Type 0
   Entered (here n) = Unit {0}
   Entered (called k) = k < 512
 
-  entered : (k : ℕ) → k < 512 → Entered (startIn bodies k)
-  unfolding startIn startAs Entered
-  entered k h =
-      chosen Entered _ _ _ (λ e. h)
-      (λ e. chosen Entered _ _ _ (λ l. let most : getD bodies k 0 ≤ 512 = leb-true _ _ l in omega arith) (λ l. tt))
+  from-entered : (w : ℕ) → Entered (startFrom w)
+  unfolding startFrom Entered
+  from-entered w = chosen Entered _ _ _ (λ l. ltb-true w 512 l) (λ l. tt)
 
   settle-same : (h : ℕ) (x : Start) → Entered x → settleIn h bodies x ≡ settle h ls x
-  unfolding settleIn settle Entered
+  unfolding settleIn settle Entered startIn
   settle-same zero x b = refl
   settle-same (suc h) (here n) b = refl
-  settle-same (suc h) (called k) b = settle-same h (startIn bodies k) (entered k b) ∙ ap (settle h ls) (held .body k b)
+  settle-same (suc h) (called k) b = settle-same h (startIn bodies k) (from-entered (getD bodies k 0)) ∙ ap (settle h ls) (held .body k b)
 
   -- a name settles where the lines say
   pub settled-name : (k : ℕ) → k < 512 → settledIn bodies (called k) ≡ settled ls (called k)
@@ -147,13 +141,13 @@ module _ (ls : List Line) (bodies : List ℕ) (uses : List Bool) (twice : Bool) 
       let settles : startFor ended n ≡ settled ls (called k) = e ∙ settled-name k b in
       number-here ended n (settled ls (called k)) settles (ends-here ended n (settled ls (called k)) settles ∙ h)
 
-  name-same : (k : ℕ) → k < 512 → both (leb (defined k ls) 1) (nameRightIn bodies uses k) ≡ nameRight ls k
+  name-same : (k : ℕ) → k < 512 → both (leb (defined k ls) 1) (nameRightIn bodies defs uses k) ≡ nameRight ls k
   unfolding nameRightIn nameRight
   name-same k b = rw (held .defined k b, held .used k b, settled-name k b) refl
 
   -- the names are right where the lines say so
-  pub names-same : namesRightIn bodies uses twice ≡ namesRight ls
+  pub names-same : namesRightIn bodies defs uses twice ≡ namesRight ls
   unfolding namesRightIn namesRight
   names-same =
-      ap (λ (b : Bool). both b (all 512 (nameRightIn bodies uses))) (held .once)
-      ∙ all-both 512 (λ k. leb (defined k ls) 1) (nameRightIn bodies uses) ∙ all-same 512 _ (nameRight ls) name-same
+      ap (λ (b : Bool). both b (all 512 (nameRightIn bodies defs uses))) (held .once)
+      ∙ all-both 512 (λ k. leb (defined k ls) 1) (nameRightIn bodies defs uses) ∙ all-same 512 _ (nameRight ls) name-same

@@ -3,7 +3,7 @@
 use Prim.Native.Nat.{ℕ}
 use mathlib.Core.List.{List}
 use Rattle.terms.specs.Terms.{Process}
-use Rattle.notation.specs.Types.{Locality, Tuple, Row}
+use Rattle.linking.specs.Types.{Locality, Tuple, Row}
 
 -- a line after the rows
 pub data Line : Type 0 where
