@@ -1,3 +1,4 @@
 pub mod FieldLaws
+pub mod Long
 pub mod TemplateLaws
 pub mod TupleLaws

@@ -1,2 +1,3 @@
+pub mod Long
 pub mod NumberLaws
 pub mod WordLaws

@@ -1,3 +1,4 @@
 pub mod AllRowsLaws
+pub mod LineLengths
 pub mod RowLaws
 pub mod RuledLaws
