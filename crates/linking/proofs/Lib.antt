@@ -1,3 +1,4 @@
 pub mod Bounded
 pub mod NameTableLaws
+pub mod Peopled
 pub mod PlacingLaws
