@@ -1,4 +1,5 @@
 pub mod Bounded
 pub mod NameTableLaws
+pub mod NodeCounts
 pub mod Peopled
 pub mod PlacingLaws

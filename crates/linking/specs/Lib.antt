@@ -1,6 +1,8 @@
 pub mod Compiled
+pub mod Counts
 pub mod NameTable
 pub mod Names
+pub mod NodeCounts
 pub mod Placing
 pub mod Source
 pub mod State

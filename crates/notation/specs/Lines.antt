@@ -1,6 +1,6 @@
 -- The lines after the rows (document 01, "The planners' notation"): definitions, processes and tuples, in any order; and
 -- the whole text, read as a tree.
-use Prim.Native.Nat.{ℕ, zero, suc, _+_}
+use Prim.Native.Nat.{ℕ, zero, suc}
 use mathlib.Core.List.{List, [], _∷_, _++_}
 use lib.ListN.{length}
 use lib.Dec.{eqb, leb, ltb}
@@ -12,26 +12,10 @@ use Rattle.fields.specs.Fields.{address}
 use Rattle.fields.specs.Fields as Fields
 use Rattle.notation.specs.Types.{Locality}
 use Rattle.linking.specs.Source.{Line, definition, process, tuple, Source}
+use Rattle.linking.specs.Counts.{processesIn, tuplesIn, counted}
 use Rattle.processes.specs.Reading.{named}
 use Rattle.processes.specs.Reading as Reading
 use Rattle.notation.specs.Rows.{rows}
-
--- ---- how many processes and tuples an address has, by the lines before
-
-unfoldable pub processesIn : Locality → Line → ℕ
-processesIn a (definition k p) = 0
-processesIn a (process b p) = choose (eqb (a .0) (b .0)) 1 0
-processesIn a (tuple b t) = 0
-
-unfoldable pub tuplesIn : Locality → Line → ℕ
-tuplesIn a (definition k p) = 0
-tuplesIn a (process b p) = 0
-tuplesIn a (tuple b t) = choose (eqb (a .0) (b .0)) 1 0
-
--- the sum of what a line counts for
-unfoldable pub counted : (Line → ℕ) → List Line → ℕ
-counted f [] = 0
-counted f (l ∷ ls) = f l + counted f ls
 
 -- ---- one line, ls being those before it
 
