@@ -94,7 +94,7 @@ unfolding afterAll FitAll
 fit-more [] l s h f = (f, tt)
 fit-more (x ∷ ls) l s h f = (h .0, fit-more ls l (after x s) (h .1) f)
 
-after-count-one : (l : Line) (s : State) → after l s .count ≡ s .count + sizeOf l
+pub after-count-one : (l : Line) (s : State) → after l s .count ≡ s .count + sizeOf l
 unfolding after sizeOf
 after-count-one (definition k x) s = refl
 after-count-one (process a x) s = refl
