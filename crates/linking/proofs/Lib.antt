@@ -1,7 +1,9 @@
 pub mod Bounded
 pub mod EachPlace
+pub mod Held
 pub mod Moved
 pub mod NameTableLaws
 pub mod NodeCounts
 pub mod Peopled
 pub mod PlacingLaws
+pub mod Settles

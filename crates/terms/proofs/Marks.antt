@@ -33,17 +33,17 @@ mutual
   marked-in-length (newloc v) used = refl
 
 -- ---- which are marked
-one-mark :
-    (j k : ℕ) (used : List Bool) → k < length used
-    → getD (set used j true) k false ≡ choose (eqb k j) true (getD used k false)
-one-mark j k used h = go (ℕ-discrete k j)
+
+-- an entry after another, or itself, is set
+pub set-at : {A : Type 0} (xs : List A) (j k : ℕ) (v d : A) → k < length xs → getD (set xs j v) k d ≡ choose (eqb k j) v (getD xs k d)
+set-at {A} xs j k v d h = go (ℕ-discrete k j)
   where
-    go : Dec (k ≡ j) → getD (set used j true) k false ≡ choose (eqb k j) true (getD used k false)
-    go (yes e) = if-eq _ _ _ k j e (rw e (getD-set-same used j true false (omega arith)))
-    go (no e) = if-ne _ _ _ k j e (getD-set-other used j k true false e)
+    go : Dec (k ≡ j) → getD (set xs j v) k d ≡ choose (eqb k j) v (getD xs k d)
+    go (yes e) = if-eq _ _ _ k j e (rw e (getD-set-same xs j v d (omega arith)))
+    go (no e) = if-ne _ _ _ k j e (getD-set-other xs j k v d e)
 
 -- marked by the one before or by the one after
-two-marks : (a b c m n : Bool) → n ≡ choose b true m → m ≡ choose a true c → n ≡ choose (choose a true b) true c
+pub two-marks : (a b c m n : Bool) → n ≡ choose b true m → m ≡ choose a true c → n ≡ choose (choose a true b) true c
 unfolding choose
 two-marks true true c m n e f = e
 two-marks true false c m n e f = e ∙ f
@@ -57,7 +57,7 @@ mutual
       (x : Process) (k : ℕ) (used : List Bool) → k < length used
       → getD (marked x used) k false ≡ choose (uses k x) true (getD used k false)
   marked-uses nil k used h = refl
-  marked-uses (name j) k used h = one-mark j k used h
+  marked-uses (name j) k used h = set-at used j k true false h
   marked-uses (fork p q) k used h =
       two-marks (uses k p) (uses k q) _ _ _ (marked-uses q k (marked p used) (omega (arith, marked-length p used)))
       (marked-uses p k used h)

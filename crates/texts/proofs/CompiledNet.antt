@@ -25,11 +25,11 @@ use Rattle.terms.specs.Numbering.{size, called, startOf, codeOf, uses, usesIn}
 use Rattle.linking.specs.Source.{Line, definition, process, tuple, Source}
 use Rattle.linking.specs.Names.{usesLine, used, namesRight}
 use Rattle.linking.specs.Compiled.{sizeOf, total, isHere, settled, placeIn, lineCode, codeFrom, ruled, placed, peopled, withCode, compiled}
+use Rattle.linking.proofs.Settles.{here-below, name-below, used-settles}
 use Rattle.texts.specs.Types.{Row, Instruction, Net}
 use Rattle.texts.proofs.Terms.{Fit, FitIn}
 use Rattle.texts.proofs.Rows.{Each, none, more}
 use Rattle.texts.proofs.Lines.{LineOk, SourceOk}
-use Rattle.texts.proofs.Names.{here-below, name-below, used-settles}
 use Rattle.texts.proofs.Compiled.{each-both, in-first, in-second, code-length, code-good, start-below}
 
 -- ---- rows

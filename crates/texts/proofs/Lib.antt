@@ -3,7 +3,6 @@ pub mod CompiledNet
 pub mod Fields
 pub mod Gives
 pub mod Lines
-pub mod Names
 pub mod Rows
 pub mod Terms
 pub mod TextClaims

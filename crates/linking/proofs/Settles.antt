@@ -1,5 +1,5 @@
--- Where names are right, every start of a source is resolved to one of its instructions (`Names.antt` and `Compiled.antt`
--- of `notation`). Assumes nothing.
+-- Where names are right, every start of a source is resolved to one of its instructions (`specs/Names.antt` and
+-- `specs/Compiled.antt`). Assumes nothing.
 use Prim.Native.Nat.{ℕ, zero, suc, _+_, _<_, _≤_}
 use mathlib.Core.Path.{_≡_}
 use mathlib.Core.Bool.{Bool, true, false}
@@ -51,6 +51,15 @@ module _ (ls : List Line) (k : ℕ) (whole : total ls ≤ k) where
   unfolding isHere numberOf Below
   number-below (here m) b e = b
   number-below (called j) b e = never e
+
+  number-most : (x : Start) → Below k x → numberOf x ≤ k
+  unfolding numberOf Below
+  number-most (here m) b = omega arith
+  number-most (called j) b = omega arith
+
+  pub name-most : (j : ℕ) → numberOf (settled ls (called j)) ≤ k
+  unfolding settled Below
+  name-most j = number-most (settle 512 ls (called j)) (settle-below 512 (called j) tt)
 
   -- an instruction stands for itself, and a name that settles for one of the instructions
   pub here-below : (m : ℕ) → m < k → placeIn ls (here m) .0 < k
