@@ -18,7 +18,7 @@ use Rattle.terms.specs.Terms.{Process, nil, name, fork, act}
 use Rattle.terms.specs.Numbering.{Start, here, called, size, startOf, uses}
 use Rattle.terms.specs.Table.{startWord, marked}
 use Rattle.terms.specs.Loading.{fits, Resolves}
-use Rattle.terms.proofs.Marks.{marked-length, marked-uses, set-at, two-marks}
+use Rattle.terms.proofs.Marks.{marked-length, marked-uses, entry-set, two-marks}
 use Rattle.linking.specs.Types.{Net}
 use Rattle.linking.specs.Source.{Line, definition, process, tuple}
 use Rattle.linking.specs.Compiled.{sizeOf, total, definedIn, numberOf, settle, settled, placeIn}
@@ -31,12 +31,16 @@ use Rattle.linking.proofs.NameTableLaws.{start-name, start-instruction,
 use Rattle.linking.proofs.Settles.{name-most}
 
 -- ---- how many instructions
+pub count-after : (l : Line) (s : State) → after l s .count ≡ s .count + sizeOf l
+unfolding after sizeOf
+count-after (definition k x) s = refl
+count-after (process a x) s = refl
+count-after (tuple a t) s = omega arith
+
 pub count-all : (ls : List Line) (s : State) → afterAll ls s .count ≡ s .count + total ls
-unfolding afterAll after total sizeOf
+unfolding afterAll total
 count-all [] s = omega arith
-count-all (definition k x ∷ ls) s = count-all ls (after (definition k x) s) ∙ omega arith
-count-all (process a x ∷ ls) s = count-all ls (after (process a x) s) ∙ omega arith
-count-all (tuple a t ∷ ls) s = count-all ls (after (tuple a t) s) ∙ omega arith
+count-all (l ∷ ls) s = let one = count-after l s in count-all ls (after l s) ∙ omega arith
 
 -- ---- which names are used
 module _ (k : ℕ) (b : k < 512) where
@@ -76,7 +80,7 @@ module _ (k : ℕ) (b : k < 512) where
   defined-all [] s l = define-none (getD (s .defs) k false)
   defined-all (definition j x ∷ ls) s l =
       defined-all ls (after (definition j x) s) (length-set (s .defs) j true ∙ l)
-      ∙ ap (λ (d : Bool). choose d true (leb 1 (defined k ls))) (set-at (s .defs) j k true false (omega arith))
+      ∙ ap (λ (d : Bool). choose d true (leb 1 (defined k ls))) (entry-set (s .defs) j k true false (omega arith))
       ∙ define-more (eqb k j) (getD (s .defs) k false) (defined k ls)
   defined-all (process a x ∷ ls) s l =
       defined-all ls (after (process a x) s) l ∙ define-more false (getD (s .defs) k false) (defined k ls)
@@ -122,7 +126,7 @@ module _ (j : ℕ) (b : j < 512) (defs : List Bool) (l : length defs ≡ 512) (t
   unfolding once
   once-first e k h =
       ap (λ (n : ℕ). leb n 1)
-      (ap (λ (d : Bool). choose d 1 0 + m k) (set-at defs j k true false (omega arith))
+      (ap (λ (d : Bool). choose d 1 0 + m k) (entry-set defs j k true false (omega arith))
       ∙ count-more (eqb k j) (getD defs k false) (m k) (λ q. ap (λ (i : ℕ). getD defs i false) (eqb-true k j q) ∙ e))
 
   twice-more :
@@ -201,7 +205,7 @@ module _ (k : ℕ) (b : k < 512) where
     unfolding entered
     entered-at =
         choose-of (λ (xs : List ℕ). getD xs k 0) (getD defs j false) bodies (set bodies j w)
-        ∙ ap (choose (getD defs j false) (getD bodies k 0)) (set-at bodies j k w 0 (omega arith))
+        ∙ ap (choose (getD defs j false) (getD bodies k 0)) (entry-set bodies j k w 0 (omega arith))
 
     entered-length : length (entered j w defs bodies) ≡ 512
     unfolding entered
@@ -209,7 +213,7 @@ module _ (k : ℕ) (b : k < 512) where
 
     module _ (h : length defs ≡ 512) where
       marked-at : getD (set defs j true) k false ≡ choose (eqb k j) true (getD defs k false)
-      marked-at = set-at defs j k true false (omega arith)
+      marked-at = entry-set defs j k true false (omega arith)
 
       entered-more :
           (x rest : Start) → startFrom w ≡ x

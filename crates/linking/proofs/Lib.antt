@@ -1,6 +1,7 @@
 pub mod Bounded
 pub mod EachPlace
 pub mod Held
+pub mod Linked
 pub mod Moved
 pub mod NameTableLaws
 pub mod NodeCounts

@@ -34,9 +34,9 @@ mutual
 
 -- ---- which are marked
 
--- an entry after another, or itself, is set
-pub set-at : {A : Type 0} (xs : List A) (j k : ℕ) (v d : A) → k < length xs → getD (set xs j v) k d ≡ choose (eqb k j) v (getD xs k d)
-set-at {A} xs j k v d h = go (ℕ-discrete k j)
+-- entry k, once entry j is set
+pub entry-set : {A : Type 0} (xs : List A) (j k : ℕ) (v d : A) → k < length xs → getD (set xs j v) k d ≡ choose (eqb k j) v (getD xs k d)
+entry-set {A} xs j k v d h = go (ℕ-discrete k j)
   where
     go : Dec (k ≡ j) → getD (set xs j v) k d ≡ choose (eqb k j) v (getD xs k d)
     go (yes e) = if-eq _ _ _ k j e (rw e (getD-set-same xs j v d (omega arith)))
@@ -57,7 +57,7 @@ mutual
       (x : Process) (k : ℕ) (used : List Bool) → k < length used
       → getD (marked x used) k false ≡ choose (uses k x) true (getD used k false)
   marked-uses nil k used h = refl
-  marked-uses (name j) k used h = set-at used j k true false h
+  marked-uses (name j) k used h = entry-set used j k true false h
   marked-uses (fork p q) k used h =
       two-marks (uses k p) (uses k q) _ _ _ (marked-uses q k (marked p used) (omega (arith, marked-length p used)))
       (marked-uses p k used h)
