@@ -14,7 +14,7 @@ use Rattle.processes.proofs.Lengths.{long-named, long-process}
 use Rattle.notation.specs.Types.{Locality, Row}
 use Rattle.linking.specs.Source.{Line}
 use Rattle.notation.specs.Rows.{isRow, rights, granted, grants, creates, opening, row, rowsAfter, rows}
-use Rattle.notation.specs.Lines.{definitionLine, processLine, tupleLine, locatedLine, line}
+use Rattle.notation.specs.Lines.{definitionLine, processLine, tupleLine, placedLine, locatedLine, line}
 use Rattle.linking.specs.Compiled.{sizeOf}
 
 -- ---- rows
@@ -82,7 +82,7 @@ module _ (n : ℕ) where
         long-and (long-byte 10) (λ _ k h. long-pure _ _ (omega arith, omega arith))))
 
   pub long-line : (ls : List Line) → Long (line n ls) HoldsLine
-  unfolding line locatedLine
+  unfolding line locatedLine placedLine
   long-line ls =
       long-look _ _ (λ b. long-choice _ _ _ _ long-definitionLine
       (long-then (goes-address n) (λ a i _. long-and (long-word _) (λ _ j _. long-weaken

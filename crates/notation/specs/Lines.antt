@@ -44,12 +44,16 @@ tupleLine n ls a = do
   byte 10
   pure (tuple a t)
 
--- 0 :: and a tuple, which opens with < (60), or a process
+-- a tuple, which opens with < (60), or a process, after its address
+unfoldable pub placedLine : ℕ → List Line → Locality → Reader Line
+placedLine n ls a = look (λ b. choose (eqb b 60) (tupleLine n ls a) (processLine n ls a))
+
+-- 0 :: and what stands there
 unfoldable pub locatedLine : ℕ → List Line → Reader Line
 locatedLine n ls = do
   a ← address n
   word (bytes " :: ")
-  look (λ b. choose (eqb b 60) (tupleLine n ls a) (processLine n ls a))
+  placedLine n ls a
 
 unfoldable pub line : ℕ → List Line → Reader Line
 line n ls = look (λ b. choose (eqb b 65) (definitionLine n) (locatedLine n ls))

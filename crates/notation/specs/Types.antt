@@ -6,7 +6,9 @@ pub use Rattle.net.specs.declared.locality.Place.{Place}
 pub use Rattle.net.specs.declared.tuple.Tuple.{Tuple}
 pub use Rattle.net.specs.declared.policy.Rights.{Rights}
 pub use Rattle.net.specs.declared.policy.Row.{Row}
+pub use Rattle.net.specs.declared.process.Process.{Process}
 pub use Rattle.net.specs.declared.node.Node.{Node}
+pub use Rattle.net.specs.declared.node.Changed.{Changed}
 pub use Rattle.net.specs.declared.instruction.Target.{Target}
 pub use Rattle.net.specs.declared.instruction.Action.{Action}
 pub use Rattle.net.specs.declared.instruction.Instruction.{Instruction}

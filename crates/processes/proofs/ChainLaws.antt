@@ -1,6 +1,6 @@
 -- Laws of names and chains (`specs/Reading.antt`), run from a step. Assumes nothing.
 use Prim.Native.Nat.{ℕ, zero, suc, _+_, _-_, _<_, _≤_}
-use mathlib.Core.Path.{_≡_, refl, sym, ap, _∙_}
+use mathlib.Core.Path.{_≡_, refl, sym, ap, subst, _∙_}
 use mathlib.Core.Bool.{Bool, true, false}
 use mathlib.Core.List.{List}
 use native.Mathlib.Omega.{arith}
@@ -74,11 +74,16 @@ unfolding called _>>=_ andThen pure outcome
 called-is s p v (Step.At q) e = rw (sym e) refl
 called-is s p v (Step.Failed f) e = rw (sym e) refl
 
-one-tree : (q r : Step) (x y : Process) → outcome q x ≡ outcome r y → reached q ≡ true → x ≡ y
+one-tree : {A : Type 0} (q r : Step) (x y : A) → outcome q x ≡ outcome r y → reached q ≡ true → x ≡ y
 unfolding outcome reached
 one-tree (Step.At q) (Step.At r) x y e h = same-value e
 one-tree (Step.At q) (Step.Failed f) x y e h = no-fault (sym e)
 one-tree (Step.Failed g) r x y e h = no-way h
+
+-- a reader gives one value
+pub one-value :
+    {A : Type 0} (s : List ℕ) (p q r : Step) (m : Reader A) (x y : A) → Went s p m q x → Went s p m r y → reached q ≡ true → x ≡ y
+one-value s p q r m x y w v h = one-tree q r x y (w .went ∙ sym (v .went)) h
 
 pub no-outcome : {A : Type 0} (q : Step) (x : A) (f : _) → outcome q x ≡ fault f → reached q ≡ true → ⊥
 unfolding outcome reached
@@ -114,6 +119,19 @@ fine-any (fault f) = stopped tt
 
 pub any : {A : Type 0} (m : Reader A) → Gives Any m (λ _. Unit {0})
 any m = record { run = λ s p. fine-any (m s p) }
+
+-- what a reader gives holds of what was read
+fine-at : {A : Type 0} (P : A → Type 0) (q : Step) (a : A) (o : Parsed A) → outcome q a ≡ o → Fine Any P o → reached q ≡ true → P a
+unfolding outcome reached
+fine-at P (Step.At q) a (got b r) e (value h) z = subst P (sym (same-value e)) h
+fine-at P (Step.At q) a (fault f) e g z = no-fault (sym e)
+fine-at P (Step.Failed f) a o e g z = no-way z
+
+pub went-gives :
+    {A : Type 0} (s : List ℕ) (p q : Step) (m : Reader A) (P : A → Type 0) (a : A) → Gives Any m P → Went s p m q a → reached q ≡ true → P a
+unfolding runFrom
+went-gives s (Step.At p) q m P a g w h = fine-at P q a (m s p) (w .went) (g .run s p) h
+went-gives s (Step.Failed f) q m P a g w h = absurd (no-outcome q a f (w .went) h)
 
 module _ (n : ℕ) where
   abbrev Here : Process → Type 0
@@ -152,18 +170,12 @@ module _ (n : ℕ) where
   chain-here s p k rows inner e =
       pick (endsChain (byteAt s p) (byteAt s (p + 1))) _ _ s p (ended-here s p inner e) (acts-here inner (chain k inner rows) rows .run s p)
 
-  fine-here : (q : Step) (x : Process) (o : Parsed Process) → outcome q x ≡ o → reached q ≡ true → Fine Any Here o → startOf n x ≡ here n
-  unfolding outcome reached
-  fine-here (Step.At q) x (got y r) e h (value g) = rw (same-value e) g
-  fine-here (Step.At q) x (fault f) e h g = no-fault (sym e)
-  fine-here (Step.Failed f) x o e h g = no-way h
-
   here-start :
       (s : List ℕ) (p : Step) (k rows : ℕ) (inner : Reader Process) (q : Step) (x : Process) → eqb (byteHere s p) 65 ≡ false
       → outcome q x ≡ runFrom s p (chain k inner rows) → reached q ≡ true → startOf n x ≡ here n
   unfolding byteHere runFrom
   here-start s (Step.At p) zero rows inner q x e o h = absurd (no-chain s p 0 rows inner q x refl o h)
-  here-start s (Step.At p) (suc k) rows inner q x e o h = fine-here q x _ o h (chain-here s p k rows inner e)
+  here-start s (Step.At p) (suc k) rows inner q x e o h = fine-at Here q x _ o (chain-here s p k rows inner e) h
   here-start s (Step.Failed f) k rows inner q x e o h = absurd (no-outcome q x f o h)
 
 pub begins-here : (s : List ℕ) (p : Step) (n b : ℕ) → b ≡ byteHere s p → (b ≡ 65 → ⊥) → Begins s p n (512 + n)

@@ -25,7 +25,7 @@ use Rattle.terms.specs.Loading.{fitsTarget, fitsReading, fitsPattern, FitsTempl
 use Rattle.processes.proofs.ChainLaws.{Any, any}
 use Rattle.terms.proofs.Loaded.{zero-fits}
 
-gives-look : {A : Type 0} (P : A → Type 0) (f : ℕ → Reader A) → ((b : ℕ) → Gives Any (f b) P) → Gives Any (look f) P
+pub gives-look : {A : Type 0} (P : A → Type 0) (f : ℕ → Reader A) → ((b : ℕ) → Gives Any (f b) P) → Gives Any (look f) P
 unfolding look
 gives-look P f g = record { run = λ s p. g _ .run s p }
 

@@ -92,7 +92,7 @@ unfolding processAt runFrom
 opened s (Step.At p) d rows = refl
 opened s (Step.Failed f) d rows = refl
 
-begins-process :
+pub begins-process :
     (s : List ℕ) (p : Step) (n w d rows : ℕ) (q : Step) (x : Process) → Begins s p n w → Went s p (processAt d rows) q x → reached q ≡ true
     → w ≡ startWord (startOf n x)
 begins-process s p n w zero rows q x b v h = absurd (no-level s rows p q x (v .went) h)

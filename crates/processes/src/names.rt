@@ -23,7 +23,7 @@ pub fn read_name(s: &[u8], from: Step) -> NumberRead
 }
 
 // A name marked.
-pub(crate) fn mark(used: &mut [bool], k: usize)
+pub fn mark(used: &mut [bool], k: usize)
     ensures { λ _. ⌜ now (used .exit) ≡ set (now (used .entry)) k true ⌝ }
 {
     if k < used.len() {

@@ -6,7 +6,7 @@ use lib.ListN.{length}
 use lib.Dec.{leb}
 use Rattle.sound.proofs.NodeFacts.{TupleOk}
 use Rattle.linking.specs.Source.{Line, definition, process, tuple, Source}
-use Rattle.notation.specs.Lines.{definitionLine, processLine, tupleLine, locatedLine, line}
+use Rattle.notation.specs.Lines.{definitionLine, processLine, tupleLine, placedLine, locatedLine, line}
 use Rattle.notation.specs.Lines.{linesAfter, lines, source}
 use Rattle.texts.specs.Types.{Locality}
 use Rattle.texts.specs.TextClaims.{count}
@@ -43,7 +43,7 @@ module _ (n : ℕ) where
         gives-and (gives-byte 10) (λ _ _. gives-pure _ _ (h, ok))))
 
   gives-line : (ls : List Line) → Gives (line n ls) (LineOk n)
-  unfolding line locatedLine
+  unfolding line locatedLine placedLine
   gives-line ls =
       gives-look _ _ (λ b. gives-choice _ _ _ _ gives-definitionLine
       (gives-then (gives-address n) (λ a h. gives-and (gives-word _) (λ _ _.
