@@ -13,7 +13,7 @@ use Rattle.fields.proofs.Long.{goes-address, goes-tuple}
 use Rattle.processes.proofs.Lengths.{long-named, long-process}
 use Rattle.notation.specs.Types.{Locality, Row}
 use Rattle.linking.specs.Source.{Line}
-use Rattle.notation.specs.Rows.{isRow, rights, granted, grants, creates, opening, row, rowsAfter, rows}
+use Rattle.rows.specs.Rows.{isRow, rights, granted, grants, creates, opening, row, rowsAfter, rows}
 use Rattle.notation.specs.Lines.{definitionLine, processLine, tupleLine, placedLine, locatedLine, line}
 use Rattle.linking.specs.Compiled.{sizeOf}
 

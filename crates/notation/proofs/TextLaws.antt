@@ -29,14 +29,15 @@ use Rattle.linking.proofs.Linked.{code-all}
 use Rattle.linking.proofs.Moved.{moved-all}
 use Rattle.linking.proofs.Peopled.{SameFrame, peopled-any-counts, peopled-frame}
 use Rattle.notation.specs.Types.{Step, Place, Row, Instruction, Net}
-use Rattle.notation.specs.Rows.{rows}
+use Rattle.rows.specs.Rows.{rows}
 use Rattle.notation.specs.Lines.{lines, source}
-use Rattle.notation.specs.Progress.{RowsRead, netOf, Ruled}
+use Rattle.rows.specs.declared.rows.RowsRead.{RowsRead}
+use Rattle.rows.specs.Progress.{netOf, Ruled}
 use Rattle.notation.specs.LineProgress.{state, AllLined}
 use Rattle.notation.specs.Text.{Verdict, Opened, refused, accepted, judgedSource, judged, readOf}
 use Rattle.notation.specs.Judging.{judgedNet, judgedCount, judgedNames, judgedStep}
-use Rattle.notation.proofs.RuledLaws.{ruled-counts, addresses-of}
-use Rattle.notation.proofs.StartLaws.{none-busy}
+use Rattle.rows.proofs.RuledLaws.{ruled-counts, addresses-of}
+use Rattle.rows.proofs.StartLaws.{none-busy}
 
 -- ---- what is judged, one after another
 pub refused-as : (n : ℕ) (s : Net) → s ≡ emptyNet → record { answer = Verdict.Refused n; net = s } ≡ refused n

@@ -15,7 +15,7 @@ use Rattle.linking.specs.Source.{Line, definition, process, tuple, Source}
 use Rattle.linking.specs.Counts.{processesIn, tuplesIn, counted}
 use Rattle.processes.specs.Reading.{named}
 use Rattle.processes.specs.Reading as Reading
-use Rattle.notation.specs.Rows.{rows}
+use Rattle.rows.specs.Rows.{rows}
 
 -- ---- one line, ls being those before it
 

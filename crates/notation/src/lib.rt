@@ -1,4 +1,3 @@
 // Nets in the planners' notation.
-pub mod lines;
+mod lines;
 pub mod reading;
-pub mod rows;

@@ -2,12 +2,12 @@
 // (33), the number of its instructions (22), and its starting processes (30).
 use crate::lines::LinesRead;
 use crate::lines::read_lines;
-use crate::rows::read_rows;
 use keeping::admission::admitted;
 use linking::names::names_right;
 use linking::places::link;
 use net::network::Net;
 use readers::step::Step;
+use rows::rows::read_rows;
 ghost use mathlib.Core.Bool.{false};
 ghost use mathlib.Core.Path.{_≡_};
 ghost use lib.ListN.{replicate};

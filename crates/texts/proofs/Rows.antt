@@ -15,7 +15,7 @@ use Rattle.net.proofs.Every.{filled-set}
 use Rattle.net.proofs.ReadingLaws.{never}
 use Rattle.sound.proofs.NodeFacts.{RowOk}
 use Rattle.sound.proofs.NodeChanges.{zero-row}
-use Rattle.notation.specs.Rows.{isRow, anyRight, rights, granted, grants, creates, opening, row, rowsAfter, within, allWithin, rows}
+use Rattle.rows.specs.Rows.{isRow, anyRight, rights, granted, grants, creates, opening, row, rowsAfter, within, allWithin, rows}
 use Rattle.texts.specs.Types.{Row}
 use Rattle.texts.specs.TextClaims.{count, astray}
 use Rattle.texts.specs.TextClaims as Number

@@ -1,8 +1,8 @@
 -- `notation::reading::read_into` meets its contract: in what follows `lines` is what is known after the call of `read_lines`,
 -- `rows` after that of `read_rows`. Assumes nothing.
 use Rattle.net.proofs.Lengths.{net-shaped}
-use Rattle.notation.proofs.AllRowsLaws.{few-rows}
-use Rattle.notation.proofs.StartLaws.{start-counts}
+use Rattle.rows.proofs.AllRowsLaws.{few-rows}
+use Rattle.rows.proofs.StartLaws.{start-counts}
 use Rattle.notation.proofs.TextLaws.{text-read}
 use borrow.Author.Needs.{needs}
 use Rattle.notation.proofs.reading.read_into.Statement.{statement}

@@ -1,0 +1,4 @@
+pub mod AllRowsLaws
+pub mod RowLaws
+pub mod RuledLaws
+pub mod StartLaws

@@ -1,0 +1,16 @@
+-- `rows::rows::read_row` meets its contract. Assumes nothing.
+use Rattle.rows.proofs.RowLaws.{row-read}
+use borrow.Author.Needs.{needs}
+use Rattle.rows.proofs.rows.read_row.Statement.{statement}
+use Rattle.rows.proofs.rows.read_row.Tie as tie
+
+pub read-row-spec : {M : Type 1} → statement M
+read-row-spec =
+    tie.close
+    (tie.spec
+    (λ c κs. search needs)
+    (λ c κs. search needs)
+    (λ c κs. search needs)
+    (λ c κs. search needs)
+    (λ c κs. search needs)
+    (λ c. search (needs, row-read)))
