@@ -8,3 +8,4 @@ pub mod Lowest
 pub mod NodeLaws
 pub mod Past
 pub mod ReadingLaws
+pub mod SlotLaws
