@@ -1,24 +1,23 @@
 -- The nodes of a net have what its lines have at their addresses (`specs/NodeCounts.antt`), line after line. Assumes nothing.
-use Prim.Native.Nat.{ℕ, zero, suc, _+_, _<_, _≤_}
+use Prim.Native.Nat.{ℕ, _+_, _<_, _≤_}
 use mathlib.Core.Path.{_≡_, refl, sym, ap, subst, subst₂, _∙_}
 use mathlib.Core.Logic.{_≢_}
 use mathlib.Core.Bool.{false}
 use mathlib.Core.List.{List, [], _∷_, _++_}
 use native.Mathlib.Omega.{arith}
-use native.Mathlib.Decide.{decLe}
 use lib.ListN.{set}
-use lib.Dec.{eqb, ltb}
+use lib.Dec.{eqb}
 use borrow.Author.Tests.{lt-ltb, le-ltb, eq-eqb, ne-eqb}
-use Rattle.net.specs.Choice.{choose, fold}
+use Rattle.net.specs.Choice.{choose}
 use Rattle.net.specs.Records.{startingAt, processAt, nodeAt, addressOf, processCount, withNode, withProcess, withTuple}
 use Rattle.net.specs.Shape.{Shaped}
 use Rattle.net.proofs.Laws.{choose-true, choose-false}
-use Rattle.net.proofs.Every.{Every, chosen-lt, every-set}
-use Rattle.net.proofs.Past.{pastProcess, pastNode}
+use Rattle.net.proofs.Every.{Every, chosen-lt, every-set, filled-add}
+use Rattle.net.proofs.Past.{pastNode}
+use Rattle.net.proofs.SlotLaws.{FirstBusy, slot-busy, slots-counted}
 use Rattle.terms.specs.Terms.{Process}
 use Rattle.terms.specs.Numbering.{Start}
 use Rattle.linking.specs.Types.{Locality, Place, Tuple, Node, Net}
-use Rattle.linking.specs.Types as Types
 use Rattle.linking.specs.Source.{Line, definition, process, tuple}
 use Rattle.linking.specs.NodeCounts.{Holds, Counts, HasRoom}
 use Rattle.linking.specs.Counts.{processesIn, tuplesIn, counted}
@@ -26,56 +25,33 @@ use Rattle.linking.specs.Compiled.{placed}
 
 -- ---- a node
 
--- the busy slots being the first c, c of them are counted
-pub slots-counted : (x : Node) (c : ℕ) → c ≤ 4 → ((j : ℕ) → j < 4 → processAt x j .busy ≡ ltb j c) → processCount x ≡ c
-unfolding processCount fold choose
-slots-counted x c few busy = go c few (busy 0 (omega arith)) (busy 1 (omega arith)) (busy 2 (omega arith)) (busy 3 (omega arith))
-  where
-    go : (n : ℕ) → n ≤ 4 → processAt x 0 .busy ≡ ltb 0 n → processAt x 1 .busy ≡ ltb 1 n → processAt x 2 .busy ≡ ltb 2 n
-        → processAt x 3 .busy ≡ ltb 3 n → processCount x ≡ n
-    go zero l p q r s = rw (p, q, r, s)
-    go (suc zero) l p q r s = rw (p, q, r, s)
-    go (suc (suc zero)) l p q r s = rw (p, q, r, s)
-    go (suc (suc (suc zero))) l p q r s = rw (p, q, r, s)
-    go (suc (suc (suc (suc zero)))) l p q r s = rw (p, q, r, s)
-    go (suc (suc (suc (suc (suc n))))) l p q r s = absurd (omega arith)
-
-abbrev FirstBusy : ℕ → List Types.Process → Type 0
-FirstBusy c ps = Every (λ j p. p .busy ≡ ltb j c) pastProcess 4 ps
+-- whose first c slots are the busy ones
+holds-first : (c m : ℕ) (x : Node) → FirstBusy c x → c ≤ 4 → x .stored ≡ m → m ≤ 16 → Holds c m x
+holds-first c m x busy few e room = record {
+  size-is = busy .size-is;
+  processes = slots-counted x c busy few;
+  slots = slot-busy x c busy;
+  stored = e;
+  few-processes = few;
+  few-tuples = room;
+}
 
 holds-as : {c d m k : ℕ} {x : Node} → c ≡ d → m ≡ k → Holds c m x → Holds d k x
 holds-as {x} e f ok = subst₂ (λ (i j : ℕ). Holds i j x) e f ok
 
--- below c + 1 are those below c, and c
-ltb-more : (j c : ℕ) → j ≢ c → ltb j c ≡ ltb j (c + 1)
-ltb-more j c d = go (decLe c j)
-  where
-    go : Dec (c ≤ j) → ltb j c ≡ ltb j (c + 1)
-    go (yes l) = le-ltb j c l ∙ sym (le-ltb j (c + 1) (omega (arith, d)))
-    go (no l) = lt-ltb j c (omega arith) ∙ sym (lt-ltb j (c + 1) (omega arith))
-
 module _ (c m : ℕ) (x : Node) (ok : Holds c m x) where
-  slots-are : FirstBusy c (x .processes)
+  first-busy : FirstBusy c x
   unfolding processAt
-  slots-are = record { size-is = ok .size-is; holds = ok .slots }
-
-  slots-more : (q : Place) → FirstBusy (c + 1) (set (x .processes) c (startingAt q))
-  unfolding startingAt
-  slots-more q = every-set c (startingAt q) slots-are (λ j p d e. e ∙ ltb-more j c d) (sym (lt-ltb c (c + 1) (omega arith)))
+  first-busy = record {
+    size-is = ok .size-is;
+    holds = λ j h. record { used = λ l. ok .slots j h ∙ lt-ltb j c l; unused = λ l. ok .slots j h ∙ le-ltb j c l };
+  }
 
   holds-process : (q : Place) → c < 4 → Holds (c + 1) m (withProcess x (processCount x) (startingAt q))
-  unfolding withProcess processAt
+  unfolding withProcess startingAt
   holds-process q h =
-      let busy = slots-more q in
       subst (λ (i : ℕ). Holds (c + 1) m (withProcess x i (startingAt q))) (sym (ok .processes))
-      (record {
-        size-is = busy .size-is;
-        processes = slots-counted (withProcess x c (startingAt q)) (c + 1) (omega arith) (busy .holds);
-        slots = busy .holds;
-        stored = ok .stored;
-        few-processes = omega arith;
-        few-tuples = ok .few-tuples;
-      })
+      (holds-first (c + 1) m _ (filled-add _ refl first-busy) (omega arith) (ok .stored) (ok .few-tuples))
 
   holds-tuple : (t : Tuple) → m < 16 → Holds c (m + 1) (withTuple x t)
   unfolding withTuple processCount processAt
@@ -95,19 +71,16 @@ module _ (c m : ℕ) (x : Node) (ok : Holds c m x) where
 pub counts-none :
     (s : Net) → Shaped s → ((a : Locality) (j : ℕ) → a .0 < 16 → j < 4 → processAt (nodeAt s a) j .busy ≡ false)
     → ((a : Locality) → a .0 < 16 → nodeAt s a .stored ≡ 0) → Counts [] s
-unfolding counted
+unfolding counted processAt
 counts-none s shape free empty = record {
   nodes-are = shape .nodes-are;
   at = λ a h.
-      let slots : (j : ℕ) → j < 4 → processAt (nodeAt s a) j .busy ≡ ltb j 0 = λ j l. free a j h l ∙ sym (le-ltb j 0 (omega arith)) in
-      record {
+      holds-first 0 0 (nodeAt s a)
+      (record {
         size-is = shape .each-node a h .processes-are;
-        processes = slots-counted (nodeAt s a) 0 (omega arith) slots;
-        slots = slots;
-        stored = empty a h;
-        few-processes = omega arith;
-        few-tuples = omega arith;
-      };
+        holds = λ j l. record { used = λ u. absurd (omega arith); unused = λ _. free a j h l };
+      })
+      (omega arith) (empty a h) (omega arith);
 }
 
 -- ---- one line more
