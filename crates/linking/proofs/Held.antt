@@ -21,7 +21,7 @@ use Rattle.terms.specs.Loading.{fits, Resolves}
 use Rattle.terms.proofs.Marks.{marked-length, marked-uses, entry-set, two-marks}
 use Rattle.linking.specs.Types.{Net}
 use Rattle.linking.specs.Source.{Line, definition, process, tuple}
-use Rattle.linking.specs.Compiled.{sizeOf, total, definedIn, numberOf, settle, settled, placeIn}
+use Rattle.linking.specs.Compiled.{total, definedIn, numberOf, settle, settled, placeIn}
 use Rattle.linking.specs.Names.{usesLine, used, defines, defined}
 use Rattle.linking.specs.NameTable.{startFrom, startIn, startFor, settleIn, settledIn, Held}
 use Rattle.linking.specs.Placing.{placeFor, placeAt}
@@ -29,18 +29,6 @@ use Rattle.linking.specs.State.{State, ownNames, begun, entered, after, 
 use Rattle.linking.proofs.Bounded.{all-same}
 use Rattle.linking.proofs.NameTableLaws.{start-name, start-instruction, settled-name}
 use Rattle.linking.proofs.Settles.{name-most}
-
--- ---- how many instructions
-pub count-after : (l : Line) (s : State) → after l s .count ≡ s .count + sizeOf l
-unfolding after sizeOf
-count-after (definition k x) s = refl
-count-after (process a x) s = refl
-count-after (tuple a t) s = omega arith
-
-pub count-all : (ls : List Line) (s : State) → afterAll ls s .count ≡ s .count + total ls
-unfolding afterAll total
-count-all [] s = omega arith
-count-all (l ∷ ls) s = let one = count-after l s in count-all ls (after l s) ∙ omega arith
 
 -- ---- which names are used
 module _ (k : ℕ) (b : k < 512) where

@@ -20,7 +20,7 @@ use Rattle.linking.specs.Source.{Line, definition, process, tuple}
 use Rattle.linking.specs.Compiled.{sizeOf, total, lineCode, codeFrom}
 use Rattle.linking.specs.Placing.{linkedAt, linkedCode}
 use Rattle.linking.specs.State.{State, begun, after, afterAll, FitsLine, FitAll}
-use Rattle.linking.proofs.Held.{count-after}
+use Rattle.linking.proofs.Peopled.{after-count-one}
 
 -- ---- the words of lines whose first instruction has the number n
 unfoldable lineWords : ℕ → Line → List ℕ
@@ -58,7 +58,7 @@ unfolding afterAll wordsFrom over
 table-all [] s = refl
 table-all (l ∷ ls) s =
     table-all ls (after l s)
-    ∙ rw (table-after l s, count-after l s)
+    ∙ rw (table-after l s, after-count-one l s)
     (stored-after (s .table) (s .count) (lineWords (s .count) l) (wordsFrom (s .count + sizeOf l) ls) (s .count + sizeOf l) (sizeOf l) (length-line (s .count) l) refl)
 
 -- a table that they fit in starts with the words

@@ -106,7 +106,7 @@ after-count [] s = omega arith
 after-count (l ∷ ls) s = after-count ls (after l s) ∙ omega (arith, after-count-one l s)
 
 -- its net is that of the lines, with every process at place 0
-after-net-one : (l : Line) (s : State) → after l s .net ≡ placed unplaced (s .count) l (s .net)
+pub after-net-one : (l : Line) (s : State) → after l s .net ≡ placed unplaced (s .count) l (s .net)
 unfolding after placed
 after-net-one (definition k x) s = refl
 after-net-one (process a x) s = refl

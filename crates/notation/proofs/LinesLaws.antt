@@ -31,9 +31,8 @@ use Rattle.linking.specs.Counts.{processesIn, tuplesIn, counted}
 use Rattle.linking.specs.NodeCounts.{Counts, HasRoom}
 use Rattle.linking.specs.State.{State, afterAll, unplaced, FitsLine, FitAll}
 use Rattle.linking.specs.State as State
-use Rattle.linking.proofs.Held.{count-all}
 use Rattle.linking.proofs.NodeCounts.{counts-more}
-use Rattle.linking.proofs.Peopled.{after-more, fit-more}
+use Rattle.linking.proofs.Peopled.{after-more, fit-more, after-count, after-net-one}
 use Rattle.notation.specs.Types.{Step, Locality, Node, Net}
 use Rattle.notation.specs.Lines.{definitionLine, processLine, tupleLine, placedLine, locatedLine, line, linesAfter, lines}
 use Rattle.notation.specs.LineProgress.{state, Lined, Owner, Here, AnyLined, inside, Spans, Lining, AllLined}
@@ -108,12 +107,6 @@ good-room ls (process a x) g = (g .0, g .1 .1)
 good-room ls (tuple a t) g = g
 
 -- ---- one line more
-net-after : (l : Line) (s : State) → State.after l s .net ≡ placed unplaced (s .count) l (s .net)
-unfolding State.after placed
-net-after (definition k x) s = refl
-net-after (process a x) s = refl
-net-after (tuple a t) s = refl
-
 total-more : (ls : List Line) (l : Line) → total (ls ++ (l ∷ [])) ≡ total ls + sizeOf l
 unfolding total
 total-more [] l = omega arith
@@ -199,7 +192,7 @@ module _ (s : List ℕ) (rows : ℕ) where
         }) in
         let far = spans-more p q (i .lines) (l .read) here (i .spans) (l .went) in
         let sum = total-more (i .lines) (l .read) in
-        let count : before net .count ≡ total (i .lines) = ap (λ (u : State). u .count) (i .kept here) ∙ count-all (i .lines) first ∙ omega (arith, zero-count) in
+        let count : before net .count ≡ total (i .lines) = ap (λ (u : State). u .count) (i .kept here) ∙ after-count (i .lines) first ∙ omega (arith, zero-count) in
         let good : reached q ≡ true → Good (i .lines) (l .read) = λ r. went-gives s p q (line rows (i .lines)) (Good (i .lines)) (l .read) (line-good rows (i .few) (i .lines)) (l .went) r in
         let step : reached q ≡ true → behind (withNode net (addressOf at) y) ≡ State.after (l .read) (before net) = λ r. l .kept r (let long = far .1 r in omega (arith, count, i .short)) in
         record {
@@ -214,7 +207,7 @@ module _ (s : List ℕ) (rows : ℕ) where
               (subst (λ (u : State). FitsLine (u .net) (l .read)) (i .kept here)
               (subst (λ (u : Net). FitsLine u (l .read)) (sym (b net)) (good-fits (i .lines) net c (l .read) (good r))));
           counts = λ r. subst (Counts (i .lines ++ (l .read ∷ [])))
-              (sym (ap (λ (u : State). u .net) (step r) ∙ net-after (l .read) (before net) ∙ ap (placed unplaced (before net .count) (l .read)) (b net)))
+              (sym (ap (λ (u : State). u .net) (step r) ∙ after-net-one (l .read) (before net) ∙ ap (placed unplaced (before net .count) (l .read)) (b net)))
               (counts-more (i .lines) net c unplaced (before net .count) (l .read) (good-room (i .lines) (l .read) (good r)));
         }
 
