@@ -1,27 +1,29 @@
 -- The nodes of a net have what its lines have at their addresses (`specs/NodeCounts.antt`), line after line. Assumes nothing.
-use Prim.Native.Nat.{ℕ, _+_, _<_, _≤_}
+use Prim.Native.Nat.{ℕ, suc, _+_, _<_, _≤_}
 use mathlib.Core.Path.{_≡_, refl, sym, ap, subst, subst₂, _∙_}
 use mathlib.Core.Logic.{_≢_}
 use mathlib.Core.Bool.{false}
 use mathlib.Core.List.{List, [], _∷_, _++_}
 use native.Mathlib.Omega.{arith}
-use lib.ListN.{set}
+use lib.ListN.{length, set}
 use lib.Dec.{eqb}
 use borrow.Author.Tests.{lt-ltb, le-ltb, eq-eqb, ne-eqb}
 use Rattle.net.specs.Choice.{choose}
-use Rattle.net.specs.Records.{startingAt, processAt, nodeAt, addressOf, processCount, withNode, withProcess, withTuple}
+use Rattle.net.specs.Records.{startingAt, freeProcess, zeroNode, emptyNet, processAt, nodeAt, addressOf, processCount}
+use Rattle.net.specs.Records.{withNode, withRow, withProcess, withTuple, withCounts}
 use Rattle.net.specs.Shape.{Shaped}
 use Rattle.net.proofs.Laws.{choose-true, choose-false}
-use Rattle.net.proofs.Every.{Every, chosen-lt, every-set, filled-add}
-use Rattle.net.proofs.Past.{pastNode}
+use Rattle.net.proofs.Every.{Every, chosen-lt, every-replicate, every-set, filled-add}
+use Rattle.net.proofs.Past.{pastProcess, pastNode}
 use Rattle.net.proofs.SlotLaws.{FirstBusy, slot-busy, slots-counted}
 use Rattle.terms.specs.Terms.{Process}
 use Rattle.terms.specs.Numbering.{Start}
-use Rattle.linking.specs.Types.{Locality, Place, Tuple, Node, Net}
+use Rattle.linking.specs.Types.{Locality, Place, Tuple, Row, Node, Net}
 use Rattle.linking.specs.Source.{Line, definition, process, tuple}
 use Rattle.linking.specs.NodeCounts.{Holds, Counts, HasRoom}
 use Rattle.linking.specs.Counts.{processesIn, tuplesIn, counted}
-use Rattle.linking.specs.Compiled.{placed}
+use Rattle.linking.specs.Compiled.{total, ruled, placed, peopled}
+use Rattle.linking.proofs.Peopled.{peopled-more}
 
 -- ---- a node
 
@@ -98,8 +100,16 @@ one-there a = choose-true _ _ _ (eq-eqb (a .0) (a .0) refl)
 none-elsewhere : (a b : Locality) → a .0 ≢ b .0 → oneAt a b ≡ 0
 none-elsewhere a b d = choose-false _ _ _ (ne-eqb (a .0) (b .0) d)
 
+-- each node has what the lines have at its address
+abbrev Nodes : List Line → Net → Type 0
+Nodes ls s = Every (λ i. Holds (counted (processesIn (addressOf i)) ls) (counted (tuplesIn (addressOf i)) ls)) pastNode 16 (s .nodes)
+
+nodes-count : (ls : List Line) (s : Net) → Nodes ls s → Counts ls s
+unfolding nodeAt
+nodes-count ls s each = record { nodes-are = each .size-is; at = λ a h. each .holds (a .0) h }
+
 module _ (ls : List Line) (s : Net) (ok : Counts ls s) where
-  nodes : Every (λ i. Holds (counted (processesIn (addressOf i)) ls) (counted (tuplesIn (addressOf i)) ls)) pastNode 16 (s .nodes)
+  nodes : Nodes ls s
   unfolding nodeAt
   nodes = record { size-is = ok .nodes-are; holds = λ i u. ok .at (addressOf i) u }
 
@@ -156,3 +166,48 @@ unfolding HasRoom placed
 counts-more ls s ok place n (definition k p) h = counts-definition ls s ok k p
 counts-more ls s ok place n (process a p) h = counts-process ls s ok place n a (h .0) p (h .1)
 counts-more ls s ok place n (tuple a t) h = counts-tuple ls s ok place n a (h .0) t (h .1)
+
+-- ---- all lines, each of which finds room after those before it
+pub data AllRoom : List Line → Type 0 where
+  no-lines : AllRoom []
+  more-lines : (ls : List Line) (l : Line) → AllRoom ls → HasRoom ls l → AllRoom (ls ++ (l ∷ []))
+
+pub counts-all :
+    (s : Net) → Counts [] s → (place : Start → Place) (ls : List Line) → AllRoom ls → Counts ls (peopled place 0 ls s)
+unfolding peopled
+counts-all s none place [] no-lines = none
+counts-all s none place _ (more-lines ls l ok h) =
+    rw (peopled-more place 0 ls l s) (counts-more ls _ (counts-all s none place ls ok) place (0 + total ls) l h)
+
+-- ---- a net that has rows alone
+holds-zero : Holds 0 0 zeroNode
+unfolding zeroNode freeProcess
+holds-zero =
+    holds-first 0 0 zeroNode
+    (every-replicate _ pastProcess 4 freeProcess (λ j h. record { used = λ l. absurd (omega arith); unused = λ _. refl }))
+    (omega arith) refl (omega arith)
+
+holds-row : (c m : ℕ) (x : Node) → Holds c m x → (r : Row) → Holds c m (withRow x r)
+unfolding withRow processAt processCount
+holds-row c m x ok r = record {
+  size-is = ok .size-is;
+  processes = ok .processes;
+  slots = ok .slots;
+  stored = ok .stored;
+  few-processes = ok .few-processes;
+  few-tuples = ok .few-tuples;
+}
+
+pub counts-ruled : (ls : List Line) (i : ℕ) (rs : List Row) (s : Net) → i + length rs ≤ 16 → Counts ls s → Counts ls (ruled i rs s)
+unfolding ruled withNode
+counts-ruled ls i [] s h ok = ok
+counts-ruled ls i (r ∷ rs) s h ok =
+    let here = ok .at (addressOf i) (omega arith) in
+    counts-ruled ls (suc i) rs _ (omega arith)
+    (nodes-count _ _ (every-set i _ (nodes ls s ok) (λ j y d e. e) (holds-row _ _ _ here r)))
+
+pub counts-rows : (rs : List Row) (n k : ℕ) → length rs ≤ 16 → Counts [] (ruled 0 rs (withCounts emptyNet n k))
+unfolding withCounts emptyNet counted
+counts-rows rs n k h =
+    counts-ruled [] 0 rs (withCounts emptyNet n k) (omega arith)
+    (nodes-count _ _ (every-replicate _ pastNode 16 zeroNode (λ i _. holds-zero)))
