@@ -1,2 +1,4 @@
+pub mod FitLaws
 pub mod FreshLaws
 pub mod NetTypes
+pub mod StartLaws

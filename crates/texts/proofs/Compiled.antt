@@ -1,5 +1,5 @@
--- The net of a source in range is sound (`Compiled.antt` of `notation`), where its names are right and it has 1 to 512
--- instructions: every start is resolved to one of them. Assumes nothing.
+-- The instructions of a process in range are sound and fit (`Compiled.antt` of `linking`), where every start is resolved to an
+-- instruction. Assumes nothing.
 use Prim.Native.Nat.{ℕ, suc, _+_, _<_, _≤_}
 use mathlib.Core.Path.{_≡_, refl, ap, _∙_}
 use mathlib.Core.Bool.{Bool, true, false}
@@ -10,13 +10,15 @@ use borrow.Author.Tests.{eq-eqb}
 use Rattle.net.specs.Choice.{choose}
 use Rattle.net.specs.Records.{zeroInstruction, withAction}
 use Rattle.net.proofs.ReadingLaws.{never}
-use Rattle.sound.proofs.CodeFacts.{Acts, InstructionOk}
+use Rattle.sound.proofs.CodeFacts.{Acts}
 use Rattle.sound.proofs.Drafts.{stop-ok, Communicates, out-ok, in-ok, read-ok}
+use Rattle.fresh.proofs.FitLaws.{action-fits, zero-instruction-fits}
 use Rattle.terms.specs.Terms.{Process, Action, nil, name, fork, act, out, input, read, eval, newloc}
 use Rattle.terms.specs.Numbering.{size, sizeIn, Start, here, called, startOf, instructionOf, forkOf, codeOf, codeIn, uses, usesIn}
 use Rattle.texts.specs.Types.{Place, Instruction}
 use Rattle.texts.proofs.Terms.{Fit, FitIn}
 use Rattle.texts.proofs.Rows.{Each, none, more}
+use Rattle.texts.proofs.FreshParts.{InstructionFresh, bare-fits}
 
 -- ---- lists, each of whose elements is good
 pub each-both : {A : Type 0} {P : A → Type 0} (xs ys : List A) → Each P xs → Each P ys → Each P (xs ++ ys)
@@ -76,26 +78,26 @@ module _ (n k : ℕ) (place : Start → Place) (Right : ℕ → Type 0)
 
   instruction-good :
       (m : ℕ) (a : Action) (q : Start) → suc m + sizeIn a ≤ k → FitIn n a → UsesIn a → place q .0 < k
-      → InstructionOk n k (instructionOf place m a q)
+      → InstructionFresh n k (instructionOf place m a q)
   unfolding instructionOf sizeIn FitIn usesIn Acts withAction zeroInstruction Communicates
-  instruction-good m (out c t) q h f u l = out-ok n k t (place q) c (f .1) l (f .0 _)
-  instruction-good m (input c t) q h f u l = in-ok n k t (place q) c (f .1) l (f .0 _)
-  instruction-good m (read c t) q h f u l = read-ok n k t (place q) c (f .1) l (f .0 _)
-  instruction-good m (eval p t) q h f u l = (f .1, start-below (suc m) p h u, l, refl)
-  instruction-good m (newloc v) q h f u l = (f, l, refl)
+  instruction-good m (out c t) q h f u l = (out-ok n k t (place q) c (f .1) l (f .0 .sound _), action-fits c _ (f .0 .fits))
+  instruction-good m (input c t) q h f u l = (in-ok n k t (place q) c (f .1) l (f .0 .sound _), action-fits c _ (f .0 .fits))
+  instruction-good m (read c t) q h f u l = (read-ok n k t (place q) c (f .1) l (f .0 .sound _), action-fits c _ (f .0 .fits))
+  instruction-good m (eval p t) q h f u l = ((f .1, start-below (suc m) p h u, l, refl), bare-fits _)
+  instruction-good m (newloc v) q h f u l = ((f, l, refl), bare-fits _)
 
-  fork-good : (p q : Start) → place p .0 < k → place q .0 < k → InstructionOk n k (forkOf place p q)
+  fork-good : (p q : Start) → place p .0 < k → place q .0 < k → InstructionFresh n k (forkOf place p q)
   unfolding forkOf Acts withAction zeroInstruction
-  fork-good p q h g = (h, g, refl)
+  fork-good p q h g = ((h, g, refl), bare-fits _)
 
   abbrev pub Good : List Instruction → Type 0
-  Good = Each (InstructionOk n k)
+  Good = Each (InstructionFresh n k)
 
   mutual
     unfolding codeOf size Fit uses
 
     pub code-good : (m : ℕ) (p : Process) → m + size p ≤ k → Fit n p → Uses p → Good (codeOf place m p)
-    code-good m nil h f u = more (stop-ok n k) none
+    code-good m nil h f u = more (stop-ok n k, zero-instruction-fits) none
     code-good m (name j) h f u = none
     code-good m (fork p q) h f u =
         let up : Uses p = λ j e. u j (in-first (uses j p) (uses j q) e) in

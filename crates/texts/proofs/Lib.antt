@@ -1,6 +1,9 @@
 pub mod Compiled
 pub mod CompiledNet
 pub mod Fields
+pub mod Fits
+pub mod Fresh
+pub mod FreshParts
 pub mod Gives
 pub mod Lines
 pub mod Rows

@@ -1,4 +1,4 @@
--- What the readers of processes and actions give (`Reading.antt` of `terms`): trees whose templates, targets, variables and
+-- What the readers of processes and actions give (`Reading.antt` of `processes`): trees whose templates, targets, variables and
 -- names are in range. Assumes nothing.
 use Prim.Native.Nat.{ℕ, zero, suc, _+_, _<_}
 use mathlib.Core.Path.{_≡_}
@@ -6,24 +6,17 @@ use mathlib.Core.Bool.{Bool, true, false}
 use mathlib.Core.List.{List}
 use native.Mathlib.Omega.{arith}
 use lib.ListN.{length}
-use Rattle.net.specs.Records.{withAction}
 use Rattle.sound.specs.Soundness.{targetSound}
 use Rattle.readers.specs.Reader.{Reader}
 use Rattle.lexemes.specs.Lexemes.{byteAt}
 use Rattle.terms.specs.Terms.{Process, Action, nil, name, fork, act, out, input, read, eval, newloc}
 use Rattle.processes.specs.Reading.{named, atTarget, communication, evaluation, creation, simple, action, forked, stopped, called}
 use Rattle.processes.specs.Reading.{endsChain, ended, acting, chain, processAt, process}
-use Rattle.sound.proofs.Drafts.{Whole}
 use Rattle.texts.specs.Types.{Target, Instruction}
-use Rattle.texts.specs.Types as Types
 use Rattle.texts.specs.TextClaims.{astray, too-deep}
 use Rattle.texts.proofs.Gives.{Gives, gives-pure, gives-weaken, gives-then, gives-and, gives-choice, gives-look, gives-fail}
 use Rattle.texts.proofs.Gives.{gives-byte, gives-word, gives-number}
-use Rattle.texts.proofs.Fields.{gives-variable, gives-template, gives-target}
-
--- a template as it will stand in an instruction, whatever the action
-abbrev pub Template : Bool → ℕ → Instruction → Type 0
-Template formals n c = (a : Types.Action) → Whole formals n (withAction c a)
+use Rattle.texts.proofs.Fields.{gives-variable, TemplateRead, gives-template, gives-target}
 
 -- n is the number of rows
 unfoldable mutual
@@ -34,9 +27,9 @@ unfoldable mutual
   Fit n (act a p) = FitIn n a × Fit n p
 
   pub FitIn : ℕ → Action → Type 0
-  FitIn n (out c t) = Template false n c × (targetSound n t ≡ true)
-  FitIn n (input c t) = Template true n c × (targetSound n t ≡ true)
-  FitIn n (read c t) = Template true n c × (targetSound n t ≡ true)
+  FitIn n (out c t) = TemplateRead false n c × (targetSound n t ≡ true)
+  FitIn n (input c t) = TemplateRead true n c × (targetSound n t ≡ true)
+  FitIn n (read c t) = TemplateRead true n c × (targetSound n t ≡ true)
   FitIn n (eval p t) = Fit n p × (targetSound n t ≡ true)
   FitIn n (newloc v) = v < 8
 
@@ -50,7 +43,7 @@ gives-atTarget n = gives-and (gives-word _) (λ _ _. gives-target n)
 
 gives-communication :
     (opening : List ℕ) (formals : Bool) (make : Instruction → Target → Action) (n : ℕ)
-    → ((c : Instruction) (t : Target) → Template formals n c → targetSound n t ≡ true → FitIn n (make c t))
+    → ((c : Instruction) (t : Target) → TemplateRead formals n c → targetSound n t ≡ true → FitIn n (make c t))
     → Gives (communication opening formals make n) (FitIn n)
 unfolding communication
 gives-communication opening formals make n fit =

@@ -5,8 +5,8 @@ use mathlib.Core.Bool.{Bool, true, false}
 use mathlib.Core.List.{List}
 use native.Mathlib.Omega.{arith}
 use Rattle.net.specs.Choice.{choose, inRange}
-use Rattle.net.proofs.Laws.{in-range-low, in-range-high}
-use Rattle.sound.specs.Soundness.{soundOf}
+use Rattle.net.proofs.Laws.{both-l, both-r, in-range-low, in-range-high}
+use Rattle.fresh.specs.Fresh.{netFits, freshOf}
 use Rattle.net.specs.Records.{emptyNet}
 use Rattle.keeping.specs.Admission.{admits}
 use Rattle.readers.specs.Reader.{Parsed, got, fault}
@@ -16,14 +16,14 @@ use Rattle.linking.specs.Names.{namesRight}
 use Rattle.linking.specs.Compiled.{total, compiled}
 use Rattle.notation.specs.Text.{refused, accepted, judgedSource, judged, readOf}
 use Rattle.texts.specs.Types.{Verdict, Opened}
-use Rattle.texts.specs.TextClaims.{TextNumber, count, beyond-row, name, TextIsSound, RefusedTextIsEmpty, RefusedTextIsNumbered}
+use Rattle.texts.specs.TextClaims.{TextNumber, count, beyond-row, name, TextIsSound, TextIsFresh, RefusedTextIsEmpty, RefusedTextIsNumbered}
 use Rattle.texts.proofs.Gives.{Fine, value, stopped}
 use Rattle.texts.proofs.Lines.{SourceOk, gives-source}
-use Rattle.texts.proofs.CompiledNet.{compiled-sound}
+use Rattle.texts.proofs.Fresh.{compiled-fresh}
 
 -- an answer of the reader: accepted, or refused with one of the numbers and the empty net
 data Answered : Opened → Type 0 where
-  took : {o : Opened} → o .answer ≡ Verdict.Accepted → soundOf (o .net) ≡ true → Answered o
+  took : {o : Opened} → o .answer ≡ Verdict.Accepted → freshOf (o .net) ≡ true → Answered o
   left : {n : ℕ} → TextNumber n → Answered (refused n)
 
 -- the branch that a test takes, known to hold
@@ -37,8 +37,8 @@ unfolding judgedSource accepted
 judged-source x ok =
     either (namesRight (x .lines)) _ _ (λ right.
     either (inRange 1 (total (x .lines)) 512) _ _ (λ few.
-    either (admits (compiled x)) _ _ (λ _.
-    took refl (compiled-sound x ok right (in-range-low 1 _ 512 few) (in-range-high 1 _ 512 few)))
+    either (admits (compiled x)) _ _ (λ kept.
+    took refl (compiled-fresh x ok right (in-range-low 1 _ 512 few) (in-range-high 1 _ 512 few) kept))
     (left beyond-row)) (left count)) (left name)
 
 answered-from : (o : Parsed Source) → Fine SourceOk o → Answered (judged o)
@@ -68,13 +68,17 @@ no-both v n h e = let z : _≡_ {A = ℕ} 0 1 = cc in absurd (omega arith)
 same-number : (m n : ℕ) → Verdict.Refused m ≡ Verdict.Refused n → m ≡ n
 same-number m n e = cc
 
-pub textIsSound : TextIsSound
-unfolding TextIsSound
-textIsSound text = go (readOf text) (answered text)
+pub textIsFresh : TextIsFresh
+unfolding TextIsFresh
+textIsFresh text = go (readOf text) (answered text)
   where
-    go : (o : Opened) → Answered o → o .answer ≡ Verdict.Accepted → soundOf (o .net) ≡ true
+    go : (o : Opened) → Answered o → o .answer ≡ Verdict.Accepted → freshOf (o .net) ≡ true
     go o (took h g) e = g
     go o (left {n = m} h) e = no-both (refused m .answer) m e (left-answer m)
+
+pub textIsSound : TextIsSound
+unfolding TextIsSound TextIsFresh freshOf
+textIsSound text e = both-l _ _ (both-r (netFits (readOf text .net)) _ (textIsFresh text e))
 
 pub refusedTextIsEmpty : RefusedTextIsEmpty
 unfolding RefusedTextIsEmpty

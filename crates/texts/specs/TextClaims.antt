@@ -5,12 +5,17 @@ use mathlib.Core.List.{List}
 use mathlib.Core.Bool.{true}
 use Rattle.net.specs.Records.{emptyNet}
 use Rattle.sound.specs.Soundness.{soundOf}
+use Rattle.fresh.specs.Fresh.{freshOf}
 use Rattle.notation.specs.Text.{readOf}
 use Rattle.texts.specs.Types.{Verdict}
 
 -- an accepted text gives a sound net
 unfoldable pub TextIsSound : Type 0
 TextIsSound = (text : List ℕ) → readOf text .answer ≡ Verdict.Accepted → soundOf (readOf text .net) ≡ true
+
+-- an accepted text gives a fresh net: one that an image can write
+unfoldable pub TextIsFresh : Type 0
+TextIsFresh = (text : List ℕ) → readOf text .answer ≡ Verdict.Accepted → freshOf (readOf text .net) ≡ true
 
 -- a refused text gives the empty net
 unfoldable pub RefusedTextIsEmpty : Type 0

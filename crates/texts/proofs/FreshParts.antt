@@ -1,0 +1,118 @@
+-- The nodes and instructions of a net that a text gives: sound (`NodeFacts.antt` and `CodeFacts.antt` of `sound`), each variable
+-- unset and each reading of 32 bits; and what keeps them so. Assumes nothing.
+use Prim.Native.Nat.{ℕ, _<_, _≤_}
+use mathlib.Core.Path.{_≡_, refl}
+use mathlib.Core.Bool.{true}
+use mathlib.Core.List.{List}
+use native.Mathlib.Omega.{arith}
+use borrow.Author.Tests.{eq-eqb}
+use Rattle.net.specs.Records.{freeProcess, startingAt, zeroTuple, zeroNode, zeroInstruction, processAt, tupleAt, nodeAt}
+use Rattle.net.specs.Records.{emptyNet, withRow, withProcess, withTuple, withNode, withCounts, withAction}
+use Rattle.net.proofs.Laws.{both-i}
+use Rattle.net.proofs.Every.{chosen-lt, Every, Filled, every-replicate, every-set, filled-set}
+use Rattle.net.proofs.Past.{pastProcess, pastTuple, pastNode, pastInstruction}
+use Rattle.sound.specs.Soundness.{allUnset}
+use Rattle.sound.proofs.NodeFacts.{RowOk, NodeOk, node-shaped}
+use Rattle.sound.proofs.NodeChanges.{runs, starting, zero-node, with-row, with-process, with-tuple}
+use Rattle.sound.proofs.CodeFacts.{InstructionOk}
+use Rattle.sound.proofs.NetChanges.{zero-instruction}
+use Rattle.fresh.specs.Fresh.{tupleFits, processFits, nodeFits, instructionFits}
+use Rattle.fresh.proofs.FitLaws.{array-fits, action-fits, zero-instruction-fits}
+use Rattle.fresh.proofs.StartLaws.{free-unset, starting-unset}
+use Rattle.texts.specs.Types.{Locality, Place, Row, Tuple, Node, Action, Instruction, Net}
+use Rattle.texts.proofs.Fields.{TupleRead}
+use Rattle.texts.proofs.Fits.{no-item, tuple-fits}
+
+-- ---- instructions
+abbrev pub InstructionFresh : ℕ → ℕ → Instruction → Type 0
+InstructionFresh n k c = InstructionOk n k c × (instructionFits c ≡ true)
+
+pub bare-fits : (a : Action) → instructionFits (withAction zeroInstruction a) ≡ true
+bare-fits a = action-fits zeroInstruction a zero-instruction-fits
+
+-- ---- nodes
+abbrev pub AllUnset : Node → Type 0
+AllUnset x = Every (λ i p. allUnset p ≡ true) pastProcess 4 (x .processes)
+
+abbrev pub TuplesFit : Node → Type 0
+TuplesFit x = Every (λ i t. tupleFits t ≡ true) pastTuple 16 (x .tuples)
+
+pub record NodeFresh (n k : ℕ) (x : Node) : Type 0 where
+  pub sound : NodeOk n k x
+  pub unset : AllUnset x
+  pub fit : TuplesFit x
+
+module _ (n k : ℕ) where
+  pub zero-fresh : NodeFresh n k zeroNode
+  unfolding zeroNode
+  zero-fresh = record {
+    sound = zero-node n k;
+    unset = every-replicate _ pastProcess 4 freeProcess (λ i h. free-unset);
+    fit = every-replicate _ pastTuple 16 zeroTuple (λ i h. tuple-fits zeroTuple no-item);
+  }
+
+  module _ (x : Node) (ok : NodeFresh n k x) where
+    pub fresh-row : (r : Row) → RowOk n r → NodeFresh n k (withRow x r)
+    unfolding withRow
+    fresh-row r h = record { sound = with-row n k x (ok .sound) r h; unset = ok .unset; fit = ok .fit }
+
+    pub fresh-process : (i : ℕ) (p : Place) → p .0 < k → NodeFresh n k (withProcess x i (startingAt p))
+    unfolding withProcess
+    fresh-process i p h = record {
+      sound = with-process n k x (ok .sound) i _ (runs n k _ (starting n k p h));
+      unset = every-set i _ (ok .unset) (λ j q d e. e) (starting-unset p);
+      fit = ok .fit;
+    }
+
+    pub fresh-tuple : (t : Tuple) → TupleRead n t → NodeFresh n k (withTuple x t)
+    unfolding withTuple
+    fresh-tuple t h = record {
+      sound = with-tuple n k x (ok .sound) t (h .0);
+      unset = chosen-lt AllUnset (x .stored) 16 _ _ (λ _. ok .unset) (λ _. ok .unset);
+      fit =
+          chosen-lt TuplesFit (x .stored) 16 _ _ (λ _. every-set (x .stored) t (ok .fit) (λ j u d e. e) (h .1))
+          (λ _. ok .fit);
+    }
+
+    pub node-fits : nodeFits x ≡ true
+    unfolding nodeFits processAt tupleAt processFits
+    node-fits =
+        let shape = node-shaped n k x (ok .sound) in
+        let each : Every (λ i p. processFits p ≡ true) pastProcess 4 (x .processes) =
+        record { size-is = shape .processes-are; holds = λ i h. eq-eqb _ _ (shape .each-process i h .variables-are) } in
+        both-i _ _ (eq-eqb _ _ (shape .rights-are)) (both-i _ _ (array-fits processFits each) (array-fits tupleFits (ok .fit)))
+
+-- ---- a net with n addresses and k instructions
+abbrev pub CodeFresh : ℕ → ℕ → List Instruction → Type 0
+CodeFresh n k code = Every (Filled (InstructionFresh n k) (λ c. c ≡ zeroInstruction) k) pastInstruction 512 code
+
+pub record NetFresh (n k : ℕ) (s : Net) : Type 0 where
+  pub addresses-are : s .addresses ≡ n
+  pub length-is : s .length ≡ k
+  pub nodes : Every (Filled (NodeFresh n k) (λ x. x ≡ zeroNode) n) pastNode 16 (s .nodes)
+  pub code : CodeFresh n k (s .code)
+
+pub empty-fresh : (n k : ℕ) → NetFresh n k (withCounts emptyNet n k)
+unfolding withCounts emptyNet
+empty-fresh n k = record {
+  addresses-are = refl;
+  length-is = refl;
+  nodes = every-replicate _ pastNode 16 zeroNode (λ a _. record { used = λ _. zero-fresh n k; unused = λ _. refl });
+  code =
+      every-replicate _ pastInstruction 512 zeroInstruction
+      (λ p _. record { used = λ _. (zero-instruction n k, zero-instruction-fits); unused = λ _. refl });
+}
+
+module _ {n k : ℕ} (few : n ≤ 16) (s : Net) (ok : NetFresh n k s) (a : Locality) (h : a .0 < n) where
+  pub fresh-at : NodeFresh n k (nodeAt s a)
+  unfolding nodeAt
+  fresh-at = ok .nodes .holds (a .0) (omega arith) .used h
+
+  pub fresh-with : (x : Node) → NodeFresh n k x → NetFresh n k (withNode s a x)
+  unfolding withNode
+  fresh-with x g = record {
+    addresses-are = ok .addresses-are;
+    length-is = ok .length-is;
+    nodes = filled-set (a .0) x h g (ok .nodes);
+    code = ok .code;
+  }
