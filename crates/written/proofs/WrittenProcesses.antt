@@ -1,21 +1,19 @@
 -- The processes of a node (`Image.antt` of `image`, `specs/ImageOf.antt`, 3): what is read is what is written.
 -- Assumes nothing.
-use Prim.Native.Nat.{ℕ, zero, suc, _+_, _-_, _<_, _≤_}
-use mathlib.Core.Path.{_≡_, refl, sym, ap, subst, _∙_}
-use mathlib.Core.Bool.{true, false}
+use Prim.Native.Nat.{ℕ, _<_, _≤_}
+use mathlib.Core.Path.{_≡_, refl, sym, ap, _∙_}
 use mathlib.Core.List.{List, _++_}
 use native.Mathlib.Omega.{arith}
 use lib.ListN.{getD, set, replicate, length-replicate, getD-replicate}
 use lib.Seq.{set-getD, set-set}
-use Rattle.net.specs.Choice.{choose, fold}
 use Rattle.written.specs.Types.{Place, Tuple, Row, Process, Node}
 use Rattle.net.specs.Records.{startingAt, freeProcess, zeroTuple, processAt, processCount}
 use Rattle.net.specs.Records.{withProcess}
 use Rattle.image.specs.Image.{row, process, processes, stored, tuples}
 use Rattle.written.specs.ImageOf.{bitsOf, placeBits, processesBits}
 use Rattle.text.specs.Joined.{joined}
-use Rattle.net.proofs.Laws.{choose-true, choose-false}
-use Rattle.net.proofs.Every.{Every, Filled}
+use Rattle.net.proofs.Every.{Every, Filled, filled-map}
+use Rattle.net.proofs.SlotLaws.{FirstBusy, slots-counted}
 use Rattle.net.proofs.Past.{pastProcess}
 use Rattle.written.proofs.ReadsWrites.{Reads, reads-then, reads-field}
 use Rattle.written.proofs.ReadsCells.{Arrayed, Through, Filling, reads-turn, reads-cells}
@@ -94,40 +92,16 @@ module _ (k : ℕ) (r : Row) (h : k ≤ 512) where
         (set-set (x .processes) i p (getD (x .processes) i pastProcess) ∙ set-getD (x .processes) i pastProcess);
   }
 
--- the busy slots are counted
+-- the first slots are the busy ones
 module _ (k c : ℕ) (x : Node) (ok : ProcessesOk k c x) where
-  busy-below : (i : ℕ) → i < c → processAt x i .busy ≡ true
-  unfolding processAt startingAt
-  busy-below i l =
-      let few = ok .few in
-      ap (λ (p : Process). p .busy) (sym (ok .slots-ok .holds i (omega arith) .used l .is))
-
-  free-above : (i : ℕ) → i < 4 → c ≤ i → processAt x i .busy ≡ false
-  unfolding processAt freeProcess
-  free-above i h l = ap (λ (p : Process). p .busy) (sym (ok .slots-ok .holds i h .unused l))
-
-  abbrev busyBelow : ℕ → ℕ
-  busyBelow i = fold i (λ j count. choose (processAt x j .busy) (count + 1) count) 0
-
-  counted : (i : ℕ) → i ≤ c → busyBelow i ≡ i
-  unfolding fold
-  counted zero l = refl
-  counted (suc i) l =
-      let e = counted i (omega arith) in
-      choose-true _ _ _ (busy-below i l) ∙ omega arith
-
-  one-more : (i : ℕ) → i < 4 → c ≤ i → busyBelow i ≡ c → busyBelow (suc i) ≡ c
-  unfolding fold
-  one-more i h l e = choose-false _ _ _ (free-above i h l) ∙ e
-
-  counted-all : (i j : ℕ) → j ≤ 4 → j ≡ c + i → busyBelow j ≡ c
-  counted-all zero j h e = let d : c ≡ j = omega arith in subst (λ (m : ℕ). busyBelow m ≡ c) d (counted c (omega arith))
-  counted-all (suc i) zero h e = absurd (omega arith)
-  counted-all (suc i) (suc j) h e = one-more j h (omega arith) (counted-all i j (omega arith) (omega arith))
+  pub first-busy : FirstBusy c x
+  unfolding startingAt freeProcess
+  first-busy =
+      filled-map (λ p s. ap (λ (q : Process). q .busy) (sym (s .is))) (λ p e. ap (λ (q : Process). q .busy) (sym e))
+      (ok .slots-ok)
 
   pub count-is : processCount x ≡ c
-  unfolding processCount
-  count-is = let few = ok .few in counted-all (4 - c) 4 (omega arith) (omega arith)
+  count-is = slots-counted x c first-busy (ok .few)
 
 -- a node whose row r alone was read becomes one with processes
 pub record Peopled (k : ℕ) (r : Row) (x : Node) : Type 0 where
