@@ -1,0 +1,2 @@
+pub mod TextTenantRule
+pub mod Types
