@@ -15,8 +15,8 @@ use Rattle.net.proofs.Laws.{choose-true, choose-false}
 use Rattle.text.specs.Bytes.{bytes}
 use Rattle.readers.specs.Reader.{Reader, require}
 use Rattle.readers.specs.Progress.{reached, runFrom, Went}
-use Rattle.readers.proofs.ReaderLaws.{on, next, stop}
-use Rattle.readers.proofs.Gives.{Gives, gives-pure, gives-then, gives-and, gives-require}
+use Rattle.readers.proofs.ReaderLaws.{on, next, stop, came, one-value}
+use Rattle.readers.proofs.Gives.{Gives, gives-pure, gives-then, gives-and, gives-require, Any, any, went-gives}
 use Rattle.lexemes.specs.Lexemes.{byte, word, number}
 use Rattle.lexemes.specs.declared.numbers.NumberRead.{NumberRead}
 use Rattle.lexemes.specs.Progress.{byteHere, Numbered}
@@ -28,7 +28,6 @@ use Rattle.terms.proofs.TableLaws.{set-past}
 use Rattle.processes.specs.Reading.{named}
 use Rattle.processes.specs.Reading as Reading
 use Rattle.processes.specs.Progress.{room, Started}
-use Rattle.processes.proofs.ChainLaws.{came, Any, any, went-gives, one-value}
 use Rattle.processes.proofs.ProcessLaws.{begins-process}
 use Rattle.processes.proofs.ActionLaws.{look-run, run-if, run-else}
 use Rattle.linking.specs.Source.{Line, definition, process, tuple}

@@ -13,9 +13,9 @@ use Rattle.net.proofs.Laws.{choose-true, choose-false, both-l, both-r}
 use Rattle.net.proofs.ReadingLaws.{never}
 use Rattle.readers.specs.Reader.{got, Reader, pure, _>>=_}
 use Rattle.readers.specs.Progress.{reached, outcome, runFrom, Went}
-use Rattle.readers.proofs.ReaderLaws.{after}
+use Rattle.readers.proofs.ReaderLaws.{after, came}
 use Rattle.readers.proofs.ReaderLaws as Readers
-use Rattle.readers.proofs.Gives.{Gives, gives-pure, gives-then, gives-and, gives-choice, gives-require}
+use Rattle.readers.proofs.Gives.{Gives, gives-pure, gives-then, gives-and, gives-choice, gives-require, Any, any, went-gives}
 use Rattle.lexemes.specs.Lexemes.{byte, word}
 use Rattle.fields.specs.Fields.{address}
 use Rattle.terms.specs.Terms.{Process}
@@ -23,7 +23,6 @@ use Rattle.terms.specs.Loading.{fits}
 use Rattle.processes.specs.Reading.{named}
 use Rattle.processes.specs.Reading as Reading
 use Rattle.processes.specs.Progress.{room}
-use Rattle.processes.proofs.ChainLaws.{came, Any, any, went-gives}
 use Rattle.processes.proofs.Fitting.{gives-look, named-most, process-fits}
 use Rattle.linking.specs.Source.{Line, definition, process, tuple}
 use Rattle.linking.specs.Compiled.{sizeOf, total, placed}

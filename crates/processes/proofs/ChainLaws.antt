@@ -1,6 +1,6 @@
 -- Laws of names and chains (`specs/Reading.antt`), run from a step. Assumes nothing.
 use Prim.Native.Nat.{ℕ, zero, suc, _+_, _-_, _<_, _≤_}
-use mathlib.Core.Path.{_≡_, refl, sym, ap, subst, _∙_}
+use mathlib.Core.Path.{_≡_, refl, sym, ap, _∙_}
 use mathlib.Core.Bool.{Bool, true, false}
 use mathlib.Core.List.{List}
 use native.Mathlib.Omega.{arith}
@@ -9,10 +9,11 @@ use lib.Dec.{eqb}
 use borrow.Author.Tests.{eq-eqb, ne-eqb}
 use Rattle.net.specs.Choice.{choose, both}
 use Rattle.net.proofs.Laws.{choose-true, choose-false}
-use Rattle.readers.specs.Reader.{Parsed, got, fault, Reader, pure, andThen, _>>=_, _>>_}
+use Rattle.net.proofs.ReadingLaws.{never}
+use Rattle.readers.specs.Reader.{Reader, pure, andThen, _>>=_}
 use Rattle.readers.specs.Progress.{reached, outcome, runFrom, Went}
-use Rattle.readers.proofs.ReaderLaws.{next, no-fault}
-use Rattle.readers.proofs.Gives.{Fine, value, stopped, Gives, gives-pure, gives-then, gives-and}
+use Rattle.readers.proofs.ReaderLaws.{next, one-outcome, no-outcome}
+use Rattle.readers.proofs.Gives.{Fine, Gives, gives-pure, gives-then, gives-and, Any, any, fine-at}
 use Rattle.lexemes.specs.Lexemes.{byteAt, look, fail, byte, number}
 use Rattle.lexemes.specs.declared.numbers.NumberRead.{NumberRead}
 use Rattle.lexemes.specs.Progress.{byteHere, Numbered}
@@ -47,20 +48,7 @@ pub name-read : (s : List ℕ) (p q : Step) (r : NumberRead) → Went s p (byte 
 unfolding named
 name-read s p q r w v = record { read = next s p q (r .next) (byte 65) (number 511) tt (r .value) w (v .read); small = v .small }
 
--- ---- what is reached was reached from a place
-pub came : {A : Type 0} (s : List ℕ) (p q : Step) (m : Reader A) (a : A) → Went s p m q a → reached q ≡ true → reached p ≡ true
-unfolding reached outcome runFrom
-came s (Step.At p) q m a w h = refl
-came s (Step.Failed f) (Step.At q) m a w h = no-fault (sym (w .went))
-came s (Step.Failed f) (Step.Failed g) m a w h = h
-
-pub no-way : {C : Type 0} → false ≡ true → C
-no-way e = let z : _≡_ {A = ℕ} 0 1 = cc in absurd (omega arith)
-
 -- ---- what a chain that begins with A stands for
-same-value : {A : Type 0} {a b : A} {p q : ℕ} → got a p ≡ got b q → a ≡ b
-same-value e = cc
-
 chain-named :
     (s : List ℕ) (p k rows : ℕ) (inner : Reader Process) → byteAt s p ≡ 65 → chain (suc k) inner rows s p ≡ called s p
 unfolding chain ended look
@@ -74,22 +62,6 @@ unfolding called _>>=_ andThen pure outcome
 called-is s p v (Step.At q) e = rw (sym e) refl
 called-is s p v (Step.Failed f) e = rw (sym e) refl
 
-one-tree : {A : Type 0} (q r : Step) (x y : A) → outcome q x ≡ outcome r y → reached q ≡ true → x ≡ y
-unfolding outcome reached
-one-tree (Step.At q) (Step.At r) x y e h = same-value e
-one-tree (Step.At q) (Step.Failed f) x y e h = no-fault (sym e)
-one-tree (Step.Failed g) r x y e h = no-way h
-
--- a reader gives one value
-pub one-value :
-    {A : Type 0} (s : List ℕ) (p q r : Step) (m : Reader A) (x y : A) → Went s p m q x → Went s p m r y → reached q ≡ true → x ≡ y
-one-value s p q r m x y w v h = one-tree q r x y (w .went ∙ sym (v .went)) h
-
-pub no-outcome : {A : Type 0} (q : Step) (x : A) (f : _) → outcome q x ≡ fault f → reached q ≡ true → ⊥
-unfolding outcome reached
-no-outcome (Step.At q) x f e h = no-fault (sym e)
-no-outcome (Step.Failed g) x f e h = no-way h
-
 no-chain : (s : List ℕ) (p k rows : ℕ) (inner : Reader Process) (q : Step) (x : Process) → k ≡ 0
     → outcome q x ≡ chain k inner rows s p → reached q ≡ true → ⊥
 unfolding chain fail
@@ -101,7 +73,7 @@ named-start :
 unfolding byteHere runFrom startOf startWord
 named-start s n v (Step.At p) r zero rows inner q x e w o h = absurd (no-chain s p 0 rows inner q x refl o h)
 named-start s n v (Step.At p) r (suc k) rows inner q x e w o h =
-    let is : x ≡ name v = one-tree q r x (name v) (o ∙ chain-named s p k rows inner e ∙ sym (called-is s p v r w)) h in rw is refl
+    let is : x ≡ name v = one-outcome q r x (name v) (o ∙ chain-named s p k rows inner e ∙ sym (called-is s p v r w)) h in rw is refl
 named-start s n v (Step.Failed f) r k rows inner q x e w o h = absurd (no-outcome q x f o h)
 
 pub begins-name : (s : List ℕ) (p : Step) (n b : ℕ) (r : NumberRead) → b ≡ byteHere s p → b ≡ 65 → Numbered s p named 511 r → Begins s p n (r .value)
@@ -110,29 +82,6 @@ begins-name s p n b r e d w = record {
 }
 
 -- ---- what any other chain stands for
-abbrev pub Any : ℕ → Type 0
-Any n = Unit {0}
-
-fine-any : {A : Type 0} (o : Parsed A) → Fine Any (λ _. Unit {0}) o
-fine-any (got a q) = value tt
-fine-any (fault f) = stopped tt
-
-pub any : {A : Type 0} (m : Reader A) → Gives Any m (λ _. Unit {0})
-any m = record { run = λ s p. fine-any (m s p) }
-
--- what a reader gives holds of what was read
-fine-at : {A : Type 0} (P : A → Type 0) (q : Step) (a : A) (o : Parsed A) → outcome q a ≡ o → Fine Any P o → reached q ≡ true → P a
-unfolding outcome reached
-fine-at P (Step.At q) a (got b r) e (value h) z = subst P (sym (same-value e)) h
-fine-at P (Step.At q) a (fault f) e g z = no-fault (sym e)
-fine-at P (Step.Failed f) a o e g z = no-way z
-
-pub went-gives :
-    {A : Type 0} (s : List ℕ) (p q : Step) (m : Reader A) (P : A → Type 0) (a : A) → Gives Any m P → Went s p m q a → reached q ≡ true → P a
-unfolding runFrom
-went-gives s (Step.At p) q m P a g w h = fine-at P q a (m s p) (w .went) (g .run s p) h
-went-gives s (Step.Failed f) q m P a g w h = absurd (no-outcome q a f (w .went) h)
-
 module _ (n : ℕ) where
   abbrev Here : Process → Type 0
   Here x = startOf n x ≡ here n
@@ -203,13 +152,13 @@ ends-failed s q f e = rw e (record { ends = λ k rows inner. refl })
 
 module _ (s : List ℕ) (p : Step) (k : ℕ) where
   pub goes-none : k ≡ 0 → Goes s p k false
-  goes-none e = record { more = λ h. no-way h; done = λ _ l. absurd (omega arith) }
+  goes-none e = record { more = λ h. never h; done = λ _ l. absurd (omega arith) }
 
   pub goes-ended : (b : Bool) → Ends s p b → b ≡ true → Goes s p k false
-  goes-ended b w e = record { more = λ h. no-way h; done = λ _ _. rw e at w }
+  goes-ended b w e = record { more = λ h. never h; done = λ _ _. rw e at w }
 
   pub goes-more : (b : Bool) → Ends s p b → b ≡ false → (k ≡ 0 → ⊥) → Goes s p k true
-  goes-more b w e l = record { more = λ _. (omega arith, rw e at w); done = λ h. no-way (sym h) }
+  goes-more b w e l = record { more = λ _. (omega arith, rw e at w); done = λ h. never (sym h) }
 
   -- one of the actions is left, then
   pub goes-left : (b : Bool) → Goes s p k b → b ≡ true → 1 ≤ k

@@ -14,7 +14,7 @@ use Rattle.net.specs.Choice.{choose}
 use Rattle.net.specs.Records.{addressOf, zeroInstruction, withPattern, patternAt}
 use Rattle.net.proofs.Laws.{both-r}
 use Rattle.readers.specs.Reader.{Reader}
-use Rattle.readers.proofs.Gives.{stopped, Gives, gives-pure, gives-weaken, gives-then, gives-and, gives-choice, gives-each, gives-require}
+use Rattle.readers.proofs.Gives.{stopped, Gives, gives-pure, gives-weaken, gives-then, gives-and, gives-choice, gives-each, gives-require, Any, any}
 use Rattle.lexemes.specs.Lexemes.{byteAt, look, fail, byte, word, digit, longer, another, rest, number}
 use Rattle.fields.specs.Fields as Fields
 use Rattle.processes.specs.Types.{Target, Pattern, TemplateField, Instruction}
@@ -22,7 +22,6 @@ use Rattle.terms.specs.Terms.{Process, Action, nil, name, fork, act, out, input
 use Rattle.processes.specs.Reading.{named, called, atTarget, communication, evaluation, creation, simple, action, forked, endsChain, ended, acting, chain, processAt}
 use Rattle.processes.specs.Reading as Reading
 use Rattle.terms.specs.Loading.{fitsTarget, fitsReading, fitsPattern, FitsTemplate, fits, fitsIn}
-use Rattle.processes.proofs.ChainLaws.{Any, any}
 use Rattle.terms.proofs.Loaded.{zero-fits}
 
 pub gives-look : {A : Type 0} (P : A → Type 0) (f : ℕ → Reader A) → ((b : ℕ) → Gives Any (f b) P) → Gives Any (look f) P

@@ -8,11 +8,12 @@ use lib.ListN.{length, set}
 use lib.Dec.{eqb}
 use borrow.Author.Tests.{eq-eqb, ne-eqb}
 use Rattle.net.specs.Records.{zeroInstruction}
+use Rattle.net.proofs.ReadingLaws.{never}
 use Rattle.text.specs.Buffer.{over}
 use Rattle.text.specs.Bytes.{bytes}
 use Rattle.readers.specs.Reader.{Reader, pure, _>>=_, _>>_}
 use Rattle.readers.specs.Progress.{reached, outcome, runFrom, Went}
-use Rattle.readers.proofs.ReaderLaws.{on, next, stop}
+use Rattle.readers.proofs.ReaderLaws.{on, next, stop, came, no-outcome}
 use Rattle.lexemes.specs.Lexemes.{fail, byte, word}
 use Rattle.lexemes.specs.declared.numbers.NumberRead.{NumberRead}
 use Rattle.lexemes.specs.Progress.{byteHere, Numbered, failedFrom}
@@ -23,7 +24,6 @@ use Rattle.processes.specs.Reading.{named, called, stopped, forked, ende
 use Rattle.terms.specs.Numbering.{size, sizeIn, startOf}
 use Rattle.terms.specs.Table.{startWord, targetWord, instructionWords, stopWords, actionWords, wordsOf, wordsIn, marked, markedIn}
 use Rattle.processes.specs.Progress.{room, Begins, Goes, Kept, Coded, Started, KeptIn, Acted, Sent, Shut, KeptBoth, Barred, Branched, Chained}
-use Rattle.processes.proofs.ChainLaws.{came, no-way, no-outcome}
 use Rattle.terms.proofs.CodeLaws.{length-instruction, length-words, length-action-in, stored-before, stored-after}
 use Rattle.processes.proofs.ActionLaws.{look-run, run-if, run-else}
 
@@ -41,8 +41,8 @@ coded-as s p m m′ n table used q count table′ used′ e a = record {
 -- ---- a fault
 not-reached : (n : ℕ) (p q : Step) → q ≡ failedFrom n p → reached q ≡ true → ⊥
 unfolding failedFrom reached
-not-reached n (Step.At p) q e h = no-way (sym (ap reached e) ∙ h)
-not-reached n (Step.Failed f) q e h = no-way (sym (ap reached e) ∙ h)
+not-reached n (Step.At p) q e h = never (sym (ap reached e) ∙ h)
+not-reached n (Step.Failed f) q e h = never (sym (ap reached e) ∙ h)
 
 pub fault-coded :
     (s : List ℕ) (p q : Step) (number n : ℕ) (table : List ℕ) (used : List Bool) → n ≤ room → q ≡ failedFrom number p

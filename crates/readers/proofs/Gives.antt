@@ -1,13 +1,16 @@
 -- The logic of readers (`specs/Reader.antt`): what holds of every value that a reader gives, and of the number of every
 -- fault. One law for each way to make a reader. Assumes nothing.
 use Prim.Native.Nat.{ℕ, zero, suc, _+_, _<_}
-use mathlib.Core.Path.{_≡_, refl, subst}
+use mathlib.Core.Path.{_≡_, refl, sym, subst}
 use mathlib.Core.Bool.{Bool, true, false}
 use mathlib.Core.List.{List, [], _∷_}
 use native.Mathlib.Omega.{arith}
 use Rattle.net.specs.Choice.{choose}
 use Rattle.readers.specs.Reader.{Fault, Parsed, got, fault, Reader, pure, andThen, _>>=_, _>>_, turns, each}
 use Rattle.readers.specs.Reader.{alternative, numbered, require}
+use Rattle.readers.specs.Progress.{Step, reached, outcome, runFrom, Went}
+use Rattle.net.proofs.ReadingLaws.{never}
+use Rattle.readers.proofs.ReaderLaws.{no-fault, same-value, no-outcome}
 
 -- an outcome is good: P holds of the value, or N of the fault's number
 pub data Fine {A : Type 0} (N : ℕ → Type 0) (P : A → Type 0) : Parsed A → Type 0 where
@@ -93,3 +96,28 @@ fine-unless P false o n l h = stopped l
 pub gives-require : {N : ℕ → Type 0} (ok : Bool) (n : ℕ) → N n → Gives N (require ok n) (λ _. ok ≡ true)
 unfolding require
 gives-require ok n l = record { run = λ s p. fine-unless (λ _. ok ≡ true) ok (got tt p) n l (λ e. value e) }
+
+-- ---- whatever the number of a fault
+abbrev pub Any : ℕ → Type 0
+Any n = Unit {0}
+
+fine-any : {A : Type 0} (o : Parsed A) → Fine Any (λ _. Unit {0}) o
+fine-any (got a q) = value tt
+fine-any (fault f) = stopped tt
+
+pub any : {A : Type 0} (m : Reader A) → Gives Any m (λ _. Unit {0})
+any m = record { run = λ s p. fine-any (m s p) }
+
+-- ---- what a reader gives holds of what was read
+module _ {N : ℕ → Type 0} {A : Type 0} where
+  pub fine-at : (P : A → Type 0) (q : Step) (a : A) (o : Parsed A) → outcome q a ≡ o → Fine N P o → reached q ≡ true → P a
+  unfolding outcome reached
+  fine-at P (Step.At q) a (got b r) e (value h) z = subst P (sym (same-value e)) h
+  fine-at P (Step.At q) a (fault f) e g z = no-fault (sym e)
+  fine-at P (Step.Failed f) a o e g z = never z
+
+  pub went-gives :
+      (s : List ℕ) (p q : Step) (m : Reader A) (P : A → Type 0) (a : A) → Gives N m P → Went s p m q a → reached q ≡ true → P a
+  unfolding runFrom
+  went-gives s (Step.At p) q m P a g w h = fine-at P q a (m s p) (w .went) (g .run s p) h
+  went-gives s (Step.Failed f) q m P a g w h = absurd (no-outcome q a f (w .went) h)

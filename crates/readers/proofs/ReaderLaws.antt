@@ -14,6 +14,7 @@ use Rattle.readers.specs.Reader.{Fault, Parsed, got, fault, Reader, pure
 use Rattle.readers.specs.Reader.{alternative, require, numbered}
 use Rattle.readers.specs.Progress.{Step, reached, outcome, runFrom, Went, Loop}
 use Rattle.net.proofs.Laws.{choose-true, choose-false}
+use Rattle.net.proofs.ReadingLaws.{never}
 
 module _ {A : Type 0} (s : List ℕ) where
   -- a value with nothing read
@@ -140,3 +141,29 @@ place-is q k e = rw e refl
 pub place-none : (q : Step) (f : Fault) → q ≡ Step.Failed f → false ≡ reached q
 unfolding reached
 place-none q f e = rw e refl
+
+-- ---- what is reached was reached from a place, with one value
+pub came : {A : Type 0} (s : List ℕ) (p q : Step) (m : Reader A) (a : A) → Went s p m q a → reached q ≡ true → reached p ≡ true
+unfolding reached outcome runFrom
+came s (Step.At p) q m a w h = refl
+came s (Step.Failed f) (Step.At q) m a w h = no-fault (sym (w .went))
+came s (Step.Failed f) (Step.Failed g) m a w h = h
+
+pub same-value : {A : Type 0} {a b : A} {p q : ℕ} → got a p ≡ got b q → a ≡ b
+same-value e = cc
+
+pub one-outcome : {A : Type 0} (q r : Step) (x y : A) → outcome q x ≡ outcome r y → reached q ≡ true → x ≡ y
+unfolding outcome reached
+one-outcome (Step.At q) (Step.At r) x y e h = same-value e
+one-outcome (Step.At q) (Step.Failed f) x y e h = no-fault (sym e)
+one-outcome (Step.Failed g) r x y e h = never h
+
+-- a reader gives one value
+pub one-value :
+    {A : Type 0} (s : List ℕ) (p q r : Step) (m : Reader A) (x y : A) → Went s p m q x → Went s p m r y → reached q ≡ true → x ≡ y
+one-value s p q r m x y w v h = one-outcome q r x y (w .went ∙ sym (v .went)) h
+
+pub no-outcome : {A : Type 0} (q : Step) (x : A) (f : Fault) → outcome q x ≡ fault f → reached q ≡ true → ⊥
+unfolding outcome reached
+no-outcome (Step.At q) x f e h = no-fault (sym e)
+no-outcome (Step.Failed g) x f e h = never h
