@@ -11,15 +11,16 @@ use borrow.Author.Tests.{ltb-true, lt-ltb}
 use Rattle.net.specs.Choice.{implies}
 use Rattle.accepted.specs.Types.{Place, Target, Action, Instruction}
 use Rattle.net.specs.Records.{zeroInstruction, withAction}
-use Rattle.sound.specs.Soundness.{targetSound, patternSound, isActual, unboundBefore, bindsAnew}
+use Rattle.sound.specs.Soundness.{targetSound, patternSound, isActual, bindsAnew}
 use Rattle.instructions.specs.Instruction.{writtenTarget, heldTarget, target, readingPattern, addressPattern, heldPattern}
 use Rattle.instructions.specs.Instruction.{fresh, formalReading, formalAddress, kind, pattern, templateField, template}
 use Rattle.instructions.specs.Instruction.{communication, evaluation, creation, forking, instruction}
 use Rattle.net.proofs.Laws.{implies-e}
 use Rattle.sound.proofs.CodeFacts.{Acts, InstructionOk}
-use Rattle.sound.proofs.Drafts.{SuitsNext, suited, Drafted, no-pattern, next-pattern, Whole, whole, stop-ok, Communicates, out-ok, in-ok, read-ok}
+use Rattle.sound.proofs.Drafts.{SuitsNext, suited, Fresh, suits-reading, suits-address, Drafted, no-pattern, next-pattern, Whole, whole}
+use Rattle.sound.proofs.Drafts.{stop-ok, Communicates, out-ok, in-ok, read-ok}
 use Rattle.accepted.proofs.Gives.{Gives, gives-pure, gives-weaken, gives-then, gives-and, gives-each, gives-last}
-use Rattle.accepted.proofs.Gives.{gives-first, gives-require, gives-field, gives-bits}
+use Rattle.accepted.proofs.Gives.{gives-first, gives-tested, gives-field, gives-bits}
 use Rattle.accepted.proofs.AcceptedNode.{gives-address, gives-place, gives-variable, gives-reading}
 
 gives-target : (n : ℕ) → Gives (target n) (λ t. targetSound n t ≡ true)
@@ -32,38 +33,26 @@ gives-target n =
 
 -- ---- a field of a template
 
--- a formal's variable
-record FreshOk (c : Instruction) (v : ℕ) : Type 0 where
-  small : v < 8
-  unbound : unboundBefore c (c .count) v ≡ true
-
-gives-fresh : (c : Instruction) → Gives (fresh c) (FreshOk c)
-unfolding fresh
-gives-fresh c =
-    gives-then gives-variable
-    (λ v h. gives-and (gives-require _ 27 (omega arith)) (λ _ e. gives-pure _ _ (record { small = h; unbound = e })))
-
 kind-below : (formals : Bool) (v : ℕ) → implies (not formals) (ltb v 4) ≡ true → formals ≡ false → v < 4
 kind-below formals v e f = ltb-true v 4 (implies-e (not formals) (ltb v 4) e (ap not f))
 
 gives-kind : (formals : Bool) → Gives (kind formals) (λ v. formals ≡ false → v < 4)
 unfolding kind
 gives-kind formals =
-    gives-then (gives-field 3 0 6 25 (omega arith))
-    (λ v h. gives-and (gives-require _ 26 (omega arith)) (λ _ e. gives-pure _ _ (kind-below formals v e)))
+    gives-weaken (gives-tested _ 26 (omega arith) (gives-field 3 0 6 25 (omega arith))) (λ v h. kind-below formals v (h .1))
 
 module _ (formals : Bool) (n : ℕ) (c : Instruction) where
+  gives-fresh : Gives (fresh c) (Fresh formals n c)
+  unfolding fresh
+  gives-fresh = gives-tested _ 27 (omega arith) gives-variable
+
   gives-formalReading : (formals ≡ false → ⊥) → Gives (formalReading c) (SuitsNext formals n c)
-  unfolding formalReading patternSound bindsAnew
-  gives-formalReading f =
-      gives-then (gives-fresh c)
-      (λ v h. gives-pure _ _ (suited formals n c _ (lt-ltb v 8 (h .small)) (λ e. absurd (f e)) (h .unbound)))
+  unfolding formalReading
+  gives-formalReading f = gives-then gives-fresh (λ v h. gives-pure _ _ (suits-reading formals n c v h f))
 
   gives-formalAddress : (formals ≡ false → ⊥) → Gives (formalAddress c) (SuitsNext formals n c)
-  unfolding formalAddress patternSound bindsAnew
-  gives-formalAddress f =
-      gives-then (gives-fresh c)
-      (λ v h. gives-pure _ _ (suited formals n c _ (lt-ltb v 8 (h .small)) (λ e. absurd (f e)) (h .unbound)))
+  unfolding formalAddress
+  gives-formalAddress f = gives-then gives-fresh (λ v h. gives-pure _ _ (suits-address formals n c v h f))
 
   gives-pattern : Gives (pattern formals n c) (SuitsNext formals n c)
   unfolding pattern readingPattern addressPattern heldPattern patternSound isActual bindsAnew

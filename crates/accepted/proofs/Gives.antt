@@ -14,7 +14,7 @@ use Rattle.net.proofs.Laws.{both-l, both-r}
 use Rattle.readers.proofs.Gives as Logic
 use Rattle.readers.proofs.Gives.{fine-unless}
 pub use Rattle.readers.proofs.Gives.{value, stopped, gives-pure, gives-weaken, gives-then, gives-and, gives-each}
-pub use Rattle.readers.proofs.Gives.{gives-last, gives-first, gives-choice}
+pub use Rattle.readers.proofs.Gives.{gives-last, gives-first, gives-choice, gives-tested}
 
 -- the numbers of the table
 pub record Listed (n : ℕ) : Type 0 where

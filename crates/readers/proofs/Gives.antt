@@ -97,6 +97,12 @@ pub gives-require : {N : ℕ → Type 0} (ok : Bool) (n : ℕ) → N n → Gives
 unfolding require
 gives-require ok n l = record { run = λ s p. fine-unless (λ _. ok ≡ true) ok (got tt p) n l (λ e. value e) }
 
+-- a value that has to pass it
+pub gives-tested :
+    {N : ℕ → Type 0} {A : Type 0} {P : A → Type 0} {m : Reader A} (test : A → Bool) (n : ℕ) → N n → Gives N m P
+    → Gives N (m >>= (λ a. require (test a) n >> pure a)) (λ a. P a × (test a ≡ true))
+gives-tested test n l g = gives-then g (λ a h. gives-and (gives-require (test a) n l) (λ _ e. gives-pure _ a (h, e)))
+
 -- ---- whatever the number of a fault
 abbrev pub Any : ℕ → Type 0
 Any n = Unit {0}

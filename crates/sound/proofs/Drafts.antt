@@ -6,9 +6,10 @@ use mathlib.Core.Path.{_≡_, refl}
 use mathlib.Core.Bool.{Bool, true, false}
 use native.Mathlib.Omega.{arith}
 use lib.ListN.{length}
+use borrow.Author.Tests.{lt-ltb}
 use Rattle.net.specs.Records.{zeroTemplateField, zeroInstruction, patternAt, withPattern, withAction}
 use Rattle.sound.specs.Types.{Place, Target, Pattern, TemplateField, Action, Instruction}
-use Rattle.sound.specs.Soundness.{targetSound, patternSound, isActual, bindsAnew}
+use Rattle.sound.specs.Soundness.{targetSound, patternSound, isActual, unboundBefore, bindsAnew}
 use Rattle.net.proofs.Every.{chosen-lt, every-replicate, filled-add}
 use Rattle.net.proofs.Past.{pastTemplate}
 use Rattle.sound.proofs.FormalLaws.{anew-as, each-put, anew-put}
@@ -25,6 +26,19 @@ module _ (formals : Bool) (n : ℕ) (c : Instruction) where
       (x : Pattern) → patternSound n x ≡ true → (formals ≡ false → isActual x ≡ true)
       → bindsAnew c (c .count) x ≡ true → SuitsNext formals n c x
   suited x s a b = record { pattern-sound = s; actual = a; anew = b }
+
+  -- a formal's variable, which no field of c has
+  abbrev pub Fresh : ℕ → Type 0
+  Fresh v = (v < 8) × (unboundBefore c (c .count) v ≡ true)
+
+  module _ (v : ℕ) (ok : Fresh v) (allowed : formals ≡ false → ⊥) where
+    pub suits-reading : SuitsNext formals n c (Pattern.FormalReading v)
+    unfolding patternSound bindsAnew
+    suits-reading = suited _ (lt-ltb v 8 (ok .0)) (λ e. absurd (allowed e)) (ok .1)
+
+    pub suits-address : SuitsNext formals n c (Pattern.FormalAddress v)
+    unfolding patternSound bindsAnew
+    suits-address = suited _ (lt-ltb v 8 (ok .0)) (λ e. absurd (allowed e)) (ok .1)
 
 -- the template after i of its fields
 pub record Drafted (formals : Bool) (n i : ℕ) (c : Instruction) : Type 0 where

@@ -7,7 +7,7 @@ use native.Mathlib.Omega.{arith}
 use borrow.Author.Tests.{ltb-true, lt-ltb, leb-true}
 use Rattle.readers.specs.Reader.{Reader}
 use Rattle.net.specs.Records.{zeroTuple, zeroInstruction, withAction}
-use Rattle.sound.specs.Soundness.{itemSound, targetSound, patternSound, isActual, unboundBefore, bindsAnew}
+use Rattle.sound.specs.Soundness.{itemSound, targetSound, patternSound, isActual, bindsAnew}
 use Rattle.fields.specs.Fields.{address, variable, negative, positive, reading, atAddress, own, held, addressItem, readingItem}
 use Rattle.fields.specs.Fields.{item, fields, tupleField, tuple, addressPattern, ownPattern, heldPattern, readingPattern, fresh}
 use Rattle.fields.specs.Fields.{formalReading, formalAddress, bound, formal, pattern, templateField, template}
@@ -15,12 +15,12 @@ use Rattle.fields.specs.Fields.{ownTarget, heldTarget, writtenTarget, target}
 use Rattle.net.proofs.ReadingLaws.{never}
 use Rattle.sound.proofs.NodeFacts.{TupleOk}
 use Rattle.sound.proofs.NodeChanges.{Filling, no-field, next-field, all-fields}
-use Rattle.sound.proofs.Drafts.{SuitsNext, suited, Drafted, no-pattern, next-pattern, Whole, whole}
+use Rattle.sound.proofs.Drafts.{SuitsNext, suited, Fresh, suits-reading, suits-address, Drafted, no-pattern, next-pattern, Whole, whole}
 use Rattle.fresh.specs.Fresh.{readingFits, itemFits, patternFits, tupleFits, instructionFits}
 use Rattle.texts.specs.Types.{Tuple, Pattern, Action, Instruction}
 use Rattle.texts.specs.TextClaims.{count, formal-in-out, formal-twice, astray}
 use Rattle.texts.specs.TextClaims as Number
-use Rattle.texts.proofs.Gives.{Any, Gives, gives-pure, gives-weaken, gives-then, gives-and, gives-choice, gives-require}
+use Rattle.texts.proofs.Gives.{Any, Gives, gives-pure, gives-weaken, gives-then, gives-and, gives-choice, gives-require, gives-tested}
 use Rattle.texts.proofs.Gives.{gives-look, gives-fail, gives-byte, gives-word, gives-optional, gives-number}
 use Rattle.texts.proofs.Fits as Fits
 use Rattle.texts.proofs.Fits.{ItemsFit, PatternsFit, tuple-fits, template-fits}
@@ -91,31 +91,24 @@ gives-tuple n =
 
 -- ---- templates
 
--- a formal's variable
-record FreshOk (c : Instruction) (v : ℕ) : Type 0 where
-  small : v < 8
-  unbound : unboundBefore c (c .count) v ≡ true
-
-gives-fresh : (c : Instruction) → Gives (fresh c) (FreshOk c)
-unfolding fresh
-gives-fresh c =
-    gives-then gives-variable
-    (λ v h. gives-and (gives-require _ 27 formal-twice) (λ _ e. gives-pure _ _ (record { small = h; unbound = e })))
-
 module _ (formals : Bool) (n : ℕ) (c : Instruction) where
   -- behind the fields of c, and of 32 bits
   abbrev Suits : Pattern → Type 0
   Suits x = SuitsNext formals n c x × (patternFits x ≡ true)
 
+  gives-fresh : Gives (fresh c) (Fresh formals n c)
+  unfolding fresh
+  gives-fresh = gives-tested _ 27 formal-twice gives-variable
+
   gives-formal : Gives (formal formals c) Suits
-  unfolding formal bound formalReading formalAddress patternSound bindsAnew patternFits
+  unfolding formal bound formalReading formalAddress patternFits
   gives-formal =
       gives-and (gives-require formals 26 formal-in-out) (λ _ e. gives-and (gives-byte 33) (λ _ _.
       gives-look _ _ (λ b. gives-choice _ _ _ _
-      (gives-and (gives-byte 120) (λ _ _. gives-then (gives-fresh c) (λ v h.
-      gives-pure _ _ (suited formals n c _ (lt-ltb v 8 (h .small)) (λ f. never (sym f ∙ e)) (h .unbound), refl))))
-      (gives-and (gives-byte 117) (λ _ _. gives-then (gives-fresh c) (λ v h.
-      gives-pure _ _ (suited formals n c _ (lt-ltb v 8 (h .small)) (λ f. never (sym f ∙ e)) (h .unbound), refl)))))))
+      (gives-and (gives-byte 120) (λ _ _. gives-then gives-fresh (λ v h.
+      gives-pure _ _ (suits-reading formals n c v h (λ f. never (sym f ∙ e)), refl))))
+      (gives-and (gives-byte 117) (λ _ _. gives-then gives-fresh (λ v h.
+      gives-pure _ _ (suits-address formals n c v h (λ f. never (sym f ∙ e)), refl)))))))
 
   gives-pattern : Gives (pattern formals n c) Suits
   unfolding pattern addressPattern ownPattern heldPattern readingPattern patternSound isActual bindsAnew patternFits

@@ -15,7 +15,7 @@ use Rattle.readers.proofs.Gives.{fine-unless}
 use Rattle.lexemes.specs.Lexemes.{byteAt, look, fail, byte, word, present, optional, digitOf, digit, longer}
 use Rattle.lexemes.specs.Lexemes.{another, rest, number}
 use Rattle.texts.specs.TextClaims.{TextNumber, astray}
-pub use Rattle.readers.proofs.Gives.{value, stopped, gives-pure, gives-weaken, gives-then, gives-and, gives-each, gives-choice}
+pub use Rattle.readers.proofs.Gives.{value, stopped, gives-pure, gives-weaken, gives-then, gives-and, gives-each, gives-choice, gives-tested}
 
 abbrev pub Fine : {A : Type 0} → (A → Type 0) → Parsed A → Type 0
 Fine = Logic.Fine TextNumber
