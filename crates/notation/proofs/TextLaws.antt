@@ -24,10 +24,10 @@ use Rattle.linking.specs.NameTable.{namesRightIn}
 use Rattle.linking.specs.Placing.{placeAt, linkedCode, movedNet, withLinked, linkedNet}
 use Rattle.linking.specs.State.{State, begun, afterAll, ownNames, FitAll}
 use Rattle.linking.proofs.NameTableLaws.{names-same}
-use Rattle.linking.proofs.Held.{count-all, held-all, resolves-all}
+use Rattle.linking.proofs.Held.{held-all, resolves-all}
 use Rattle.linking.proofs.Linked.{code-all}
 use Rattle.linking.proofs.Moved.{moved-all}
-use Rattle.linking.proofs.Peopled.{SameFrame, peopled-any-counts, peopled-frame}
+use Rattle.linking.proofs.Peopled.{peopled-any-counts, peopled-frame, after-count}
 use Rattle.notation.specs.Types.{Step, Place, Row, Instruction, Net}
 use Rattle.rows.specs.Rows.{rows}
 use Rattle.notation.specs.Lines.{lines, source}
@@ -112,7 +112,7 @@ module _ (rs : List Row) (ls : List Line) (few : length rs ≤ 16) (shape : Shap
 
   counted-all : Now .count ≡ total ls
   unfolding begun
-  counted-all = count-all ls (begun (netOf rs)) ∙ omega arith
+  counted-all = after-count ls (begun (netOf rs)) ∙ omega arith
 
   module _ (whole : total ls ≤ 512) where
     abbrev peopledNet : Net
