@@ -74,6 +74,33 @@ pub fn read_file(path: &[u8], buffer: &mut [u8]) -> Loaded
     loaded
 }
 
+// No program takes a longer text: one that is cut off could be another net.
+pub const LONGEST_TEXT: usize = 1000000;
+
+// What was read of a text file, one byte more than a text may have at most. A longer file is named, and counts as failed.
+fn whole_text(loaded: Loaded, name: &[u8]) -> Loaded
+    ensures { λ r. ⌜ r .count ≡ loaded .count ⌝ }
+{
+    let count = loaded.count;
+    if count <= LONGEST_TEXT {
+        return loaded;
+    }
+    say(name);
+    say(b" is longer than 1000000 bytes\n");
+    Loaded {
+        count,
+        failed: true,
+    }
+}
+
+// Fills the buffer from a text file. A missing file counts as empty.
+pub fn read_text_file(path: &[u8], buffer: &mut [u8; LONGEST_TEXT + 1]) -> Loaded
+    ensures { λ r. ⌜ Counts (r .count) (now (buffer .exit)) ⌝ }
+{
+    let loaded = read_file(path, buffer);
+    whole_text(loaded, path)
+}
+
 // Fills the buffer from standard input, as far as it goes.
 fn read_input(buffer: &mut [u8]) -> Loaded
     ensures { λ r. ⌜ Counts (r .count) (now (buffer .exit)) ⌝ }
@@ -107,4 +134,44 @@ pub fn print_first(buffer: &[u8], n: usize) -> bool {
     } else {
         false
     }
+}
+
+// Writes bytes to a descriptor as far as the device; false where that fails, which is named.
+fn write_out(fd: i32, name: &[u8], bytes: &[u8]) -> bool {
+    let written = io::write_all(fd, bytes) && libc::fsync(fd) == 0;
+    if !written {
+        complain(b"cannot write ", name);
+    }
+    written
+}
+
+// Makes a file with these bytes, where one of that name may be left from before; false where that fails, which is named.
+fn make_file(path: &[u8], bytes: &[u8]) -> bool {
+    os::unlink(path);
+    let fd = os::create(path);
+    if fd < 0 {
+        complain(b"cannot make ", path);
+        return false;
+    }
+    let written = write_out(fd, path, bytes);
+    libc::close(fd);
+    written
+}
+
+// Gives a file that was made the name of another, which it replaces; false where that fails, which is named.
+fn put_in_place(made: &[u8], path: &[u8]) -> bool {
+    let put = os::rename(made, path) == 0;
+    if !put {
+        complain(b"cannot replace ", path);
+    }
+    put
+}
+
+// Writes a file whole, by another name that it has meanwhile. Where that fails, which is named, the file is as it was.
+pub fn replace_file(path: &[u8], meanwhile: &[u8], bytes: &[u8]) -> bool {
+    let done = make_file(meanwhile, bytes) && put_in_place(meanwhile, path);
+    if !done {
+        os::unlink(meanwhile);
+    }
+    done
 }
