@@ -19,6 +19,7 @@ fn number_of(finish: Finish) -> u8
     match finish {
         Finish::Complete => 0,
         Finish::Refused(fault) => fault.number,
+        Finish::RefusedText(n) => n,
         Finish::NoRoom => 35,
     }
 }

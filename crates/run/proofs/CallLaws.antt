@@ -17,8 +17,11 @@ use Rattle.image.specs.Image.{openedOf}
 use Rattle.accepted.specs.ImageClaims.{AcceptedIsSound}
 use Rattle.accepted.proofs.AcceptedSound.{accepted-is-sound}
 use Rattle.net.proofs.Lengths.{net-shaped}
-use Rattle.run.specs.Types.{Net, Fault, Opened, Verdict}
-use Rattle.run.specs.Run.{Outcome, refused, ran, answered, ranFrom, runIn, runOf}
+use Rattle.notation.specs.Text.{readOf}
+use Rattle.texts.specs.TextClaims.{TextIsSound}
+use Rattle.texts.proofs.TextClaims.{textIsSound}
+use Rattle.run.specs.Types.{Net, Fault, Opened, Verdict, TextOpened, TextVerdict}
+use Rattle.run.specs.Run.{Outcome, refused, refused-text, ran, answered, ranFrom, runIn, runOf, runTextIn, runTextOf}
 use Rattle.run.specs.Calls.{Finish, Finished, finished, finishedOf, answersIn}
 use Rattle.run.specs.Making.{Startable, Made}
 
@@ -35,35 +38,70 @@ module _ (image : List ℕ) (o : Opened) (read : o ≡ openedOf image) where
       ∙ accepted-is-sound image (sym (ap (λ (x : Opened). x .answer) read) ∙ a)
 
   module _ (picks : List ℕ) where
+    -- what is made of the answer and the net is the run of the image
+    outcome : runIn (o .answer) (o .net) picks ≡ runOf image picks
+    unfolding runOf
+    outcome = ap (λ (x : Opened). runIn (x .answer) (x .net) picks) read
+
     pub ran-is : o .answer ≡ Verdict.Accepted → ran (ranFrom (o .net) picks) ≡ runOf image picks
-    unfolding runOf runIn
-    ran-is a =
-        ap (λ (x : Verdict). runIn x (o .net) picks) (sym a) ∙ ap (λ (x : Opened). runIn (x .answer) (x .net) picks) read
+    unfolding runIn
+    ran-is a = ap (λ (x : Verdict). runIn x (o .net) picks) (sym a) ∙ outcome
 
     pub refused-is : (f : Fault) → o .answer ≡ Verdict.Refused f → refused f ≡ runOf image picks
-    unfolding runOf runIn
-    refused-is f a =
-        ap (λ (x : Verdict). runIn x (o .net) picks) (sym a) ∙ ap (λ (x : Opened). runIn (x .answer) (x .net) picks) read
+    unfolding runIn
+    refused-is f a = ap (λ (x : Verdict). runIn x (o .net) picks) (sym a) ∙ outcome
 
-    pub accepted-finish :
-        (r : Finished) (room : ℕ) → o .answer ≡ Verdict.Accepted → r ≡ finishedOf (ran (ranFrom (o .net) picks)) room
-        → r ≡ finishedOf (runOf image picks) room
-    accepted-finish r room a e = e ∙ ap (λ (x : Outcome). finishedOf x room) (ran-is a)
+-- ---- a text that was read
+module _ (text : List ℕ) (o : TextOpened) (read : o ≡ readOf text) where
+  pub text-sound : o .answer ≡ TextVerdict.Accepted → soundOf (o .net) ≡ true
+  unfolding TextIsSound
+  text-sound a =
+      ap (λ (x : TextOpened). soundOf (x .net)) read
+      ∙ textIsSound text (sym (ap (λ (x : TextOpened). x .answer) read) ∙ a)
 
-    pub accepted-left :
-        (xs ys : List ℕ) → o .answer ≡ Verdict.Accepted → ys ≡ answersIn (ran (ranFrom (o .net) picks)) xs
-        → ys ≡ answersIn (runOf image picks) xs
-    accepted-left xs ys a e = e ∙ ap (λ (x : Outcome). answersIn x xs) (ran-is a)
+  module _ (picks : List ℕ) where
+    -- what is made of the answer and the net is the run of the text
+    text-outcome : runTextIn (o .answer) (o .net) picks ≡ runTextOf text picks
+    unfolding runTextOf
+    text-outcome = ap (λ (x : TextOpened). runTextIn (x .answer) (x .net) picks) read
 
-    pub refused-finish :
-        (r : Finished) (room : ℕ) (f : Fault) → o .answer ≡ Verdict.Refused f → r ≡ finished (Finish.Refused f) emptyNet
-        → r ≡ finishedOf (runOf image picks) room
+    pub text-ran-is : o .answer ≡ TextVerdict.Accepted → ran (ranFrom (o .net) picks) ≡ runTextOf text picks
+    unfolding runTextIn
+    text-ran-is a = ap (λ (x : TextVerdict). runTextIn x (o .net) picks) (sym a) ∙ text-outcome
+
+    pub text-refused-is : (n : ℕ) → o .answer ≡ TextVerdict.Refused n → refused-text n ≡ runTextOf text picks
+    unfolding runTextIn
+    text-refused-is n a = ap (λ (x : TextVerdict). runTextIn x (o .net) picks) (sym a) ∙ text-outcome
+
+-- ---- what the calls give and leave, by what a run comes to
+module _ (y : Outcome) where
+  module _ (s : Net) (picks : List ℕ) where
+    pub ran-finish :
+        (r : Finished) (room : ℕ) → r ≡ finishedOf (ran (ranFrom s picks)) room → ran (ranFrom s picks) ≡ y
+        → r ≡ finishedOf y room
+    ran-finish r room e a = e ∙ ap (λ (x : Outcome). finishedOf x room) a
+
+    pub ran-left :
+        (xs ys : List ℕ) → ys ≡ answersIn (ran (ranFrom s picks)) xs → ran (ranFrom s picks) ≡ y → ys ≡ answersIn y xs
+    ran-left xs ys e a = e ∙ ap (λ (x : Outcome). answersIn x xs) a
+
+  module _ (r : Finished) (f : Fault) (e : r ≡ finished (Finish.Refused f) emptyNet) (a : refused f ≡ y) where
+    pub refused-finish : (room : ℕ) → r ≡ finishedOf y room
     unfolding finishedOf
-    refused-finish r room f a e = e ∙ ap (λ (x : Outcome). finishedOf x room) (refused-is f a)
+    refused-finish room = e ∙ ap (λ (x : Outcome). finishedOf x room) a
 
-    pub refused-left : (xs : List ℕ) (f : Fault) → o .answer ≡ Verdict.Refused f → xs ≡ answersIn (runOf image picks) xs
+    pub refused-left : (xs : List ℕ) → xs ≡ answersIn y xs
     unfolding answersIn
-    refused-left xs f a = ap (λ (x : Outcome). answersIn x xs) (refused-is f a)
+    refused-left xs = ap (λ (x : Outcome). answersIn x xs) a
+
+  module _ (r : Finished) (n : ℕ) (e : r ≡ finished (Finish.RefusedText n) emptyNet) (a : refused-text n ≡ y) where
+    pub text-refused-finish : (room : ℕ) → r ≡ finishedOf y room
+    unfolding finishedOf
+    text-refused-finish room = e ∙ ap (λ (x : Outcome). finishedOf x room) a
+
+    pub text-refused-left : (xs : List ℕ) → xs ≡ answersIn y xs
+    unfolding answersIn
+    text-refused-left xs = ap (λ (x : Outcome). answersIn x xs) a
 
 -- ---- a run
 pub answers-length : (s : Net) (picks : List ℕ) → length (ranFrom s picks .answers) ≡ length picks

@@ -1,11 +1,12 @@
--- A run (demand 3; document 01, "The tenant rule"): the net of an accepted image, then each pick on the net that the last
--- one left, whatever its answer.
+-- A run (demand 3; document 01, "The tenant rule"): the net of an accepted image, or of an accepted text (document 02,
+-- slip 3), then each pick on the net that the last one left, whatever its answer.
 use Prim.Native.Nat.{ℕ}
 use mathlib.Core.List.{List, [], _∷_, map}
 use Rattle.image.specs.Image.{openedOf}
+use Rattle.notation.specs.Text.{readOf}
 use Rattle.plans.specs.Answer.{numberOf}
 use Rattle.step.specs.Pick.{pickOf}
-use Rattle.run.specs.Types.{Net, Fault, Verdict, Answer}
+use Rattle.run.specs.Types.{Net, Fault, Verdict, TextVerdict, Answer}
 
 -- the answers in order, and the final net
 pub record Ran : Type 0 where
@@ -23,9 +24,10 @@ unfoldable pub ranFrom : Net → List ℕ → Ran
 ranFrom s [] = record { answers = []; net = s }
 ranFrom s (b ∷ bs) = answered (pickOf s b .answer) (ranFrom (pickOf s b .net) bs)
 
--- what a run comes to: a refused image makes none
+-- what a run comes to: a refused image makes none, nor does a refused text, of which the number is known alone
 pub data Outcome : Type 0 where
   refused : Fault → Outcome
+  refused-text : ℕ → Outcome
   ran : Ran → Outcome
 
 unfoldable pub runIn : Verdict → Net → List ℕ → Outcome
@@ -34,3 +36,11 @@ runIn (Verdict.Refused f) s picks = refused f
 
 unfoldable pub runOf : List ℕ → List ℕ → Outcome
 runOf image picks = runIn (openedOf image .answer) (openedOf image .net) picks
+
+-- the same of a text
+unfoldable pub runTextIn : TextVerdict → Net → List ℕ → Outcome
+runTextIn TextVerdict.Accepted s picks = ran (ranFrom s picks)
+runTextIn (TextVerdict.Refused n) s picks = refused-text n
+
+unfoldable pub runTextOf : List ℕ → List ℕ → Outcome
+runTextOf text picks = runTextIn (readOf text .answer) (readOf text .net) picks

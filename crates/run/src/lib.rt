@@ -1,2 +1,2 @@
-// Runs: an image read, then picks made one after another.
+// Runs: an image or a text read, then picks made one after another.
 pub mod run;

@@ -2,6 +2,8 @@
 use image::reader::Verdict;
 use image::reader::read_image;
 use net::network::Net;
+use notation::reading::Verdict as TextVerdict;
+use notation::reading::read_text;
 use plans::answer::number_of;
 use readers::fault::Fault;
 use step::turn::changes_net;
@@ -19,13 +21,15 @@ ghost use lib.ListN.{length};
 ghost use Rattle.net.specs.Records.{emptyNet};
 ghost use Rattle.sound.specs.Soundness.{soundOf};
 ghost use Rattle.run.specs.Calls.{finished, finishedOf, answersIn};
-ghost use Rattle.run.specs.Run.{ran, ranFrom, runOf};
+ghost use Rattle.run.specs.Run.{ran, ranFrom, runOf, runTextOf};
 ghost use Rattle.run.specs.Making.{Startable, Made};
 
-// How a run ended: made, or not made for a refused image or for want of room for the answers.
+// How a run ended: made, or not made for a refused image, for a refused text, of which the number is known alone, or for
+// want of room for the answers.
 pub enum Finish {
     Complete,
     Refused(Fault),
+    RefusedText(u8),
     NoRoom,
 }
 
@@ -105,5 +109,19 @@ pub fn run(image: &[u8], picks: &[u8], answers: &mut [u8]) -> Finished
     match answer {
         Verdict::Accepted => run_net(net, picks, answers),
         Verdict::Refused(fault) => not_made(Finish::Refused(fault)),
+    }
+}
+
+// The run of a text and its picks: their answers go into the buffer.
+pub fn run_text(text: &[u8], picks: &[u8], answers: &mut [u8]) -> Finished
+    ensures { λ r. ⌜ r ≡ finishedOf (runTextOf (now (text .entry)) (now (picks .entry))) (length (now (answers .entry))) ⌝ }
+    ensures { λ _. ⌜ now (answers .exit) ≡ answersIn (runTextOf (now (text .entry)) (now (picks .entry))) (now (answers .entry)) ⌝ }
+{
+    let opened = read_text(text);
+    let answer = opened.answer;
+    let net = opened.net;
+    match answer {
+        TextVerdict::Accepted => run_net(net, picks, answers),
+        TextVerdict::Refused(n) => not_made(Finish::RefusedText(n)),
     }
 }

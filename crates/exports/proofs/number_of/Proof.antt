@@ -13,6 +13,8 @@ number-of-spec =
     (λ c. search needs)
     (λ c. search needs)
     (λ c. search needs)
+    (λ c. search needs)
+    (λ c. search (needs, by finishNumber))
     (λ c. search (needs, by finishNumber))
     (λ c. search (needs, by finishNumber))
     (λ c. search (needs, by finishNumber)))

@@ -1,5 +1,5 @@
 -- `run::run::run` meets its contract. Assumes nothing.
-use Rattle.run.proofs.CallLaws.{opened-sound, accepted-finish, refused-finish, accepted-left, refused-left}
+use Rattle.run.proofs.CallLaws.{opened-sound, ran-is, refused-is, ran-finish, refused-finish, ran-left, refused-left}
 use borrow.Author.Needs.{needs}
 use Rattle.run.proofs.run.run.Statement.{statement}
 use Rattle.run.proofs.run.run.Tie as tie
@@ -14,5 +14,5 @@ run-spec =
     (λ c. search needs)
     (λ c κs. search needs)
     (λ c. search needs)
-    (λ c. (search (needs, accepted-finish, refused-finish), search (needs, accepted-left, refused-left)))
-    (λ c. (search (needs, accepted-finish, refused-finish), search (needs, accepted-left, refused-left))))
+    (λ c. (search (needs, ran-finish, ran-is), search (needs, ran-left, ran-is)))
+    (λ c. (search (needs, refused-finish, refused-is), search (needs, refused-left, refused-is))))
