@@ -1,4 +1,4 @@
--- The claim of `specs/Longest.antt`. Numbers have at most 20 digits; those of a `pick` line fewer.
+-- The claims of `specs/Longest.antt`. Numbers have at most 20 digits; those of a `pick` line fewer.
 -- Assumes nothing.
 use Prim.Native.Nat.{ℕ, zero, suc, _+_, _*_, _/_, _%_, _^_, _<_, _≤_}
 use mathlib.Core.Path.{_≡_, ap, _∙_}
@@ -15,14 +15,14 @@ use Rattle.net.specs.Records.{fieldAt, tupleAt, nodeAt, addressOf}
 use Rattle.net.proofs.Every.{chosen, chosen-lt}
 use Rattle.plans.specs.Answer.{numberOf}
 use Rattle.step.specs.Pick.{hostOf, slotOf}
-use Rattle.run.specs.Run.{Ran, Outcome, refused, ran, numbers}
-use Rattle.registers.specs.Types.{Locality, Item, Tuple, Node, Net, Fault, Answer}
+use Rattle.run.specs.Run.{Ran, Outcome, refused, refused-text, ran, numbers}
+use Rattle.registers.specs.Types.{Locality, Item, Tuple, Node, Net, Answer}
 use Rattle.registers.specs.Words.{Word, name, number, wordText, spaced, lineText, printed}
 use Rattle.registers.specs.Shown.{plain}
-use Rattle.registers.specs.Lines.{fewer, refusedLine, netLine, pickLine, madeLine, nodeLine, itemWord, fieldWords}
-use Rattle.registers.specs.Lines.{tupleLine, tupleLines, nodeLines, netLines, pickLines, registerLines}
-use Rattle.registers.specs.Register.{registerIn, registerOf}
-use Rattle.registers.specs.Longest.{longest, LongestRegister}
+use Rattle.registers.specs.Lines.{fewer, refusalLine, refusedLine, netLine, pickLine, madeLine, nodeLine}
+use Rattle.registers.specs.Lines.{itemWord, fieldWords, tupleLine, tupleLines, nodeLines, netLines, pickLines, registerLines}
+use Rattle.registers.specs.Register.{registerIn, registerOf, registerTextOf}
+use Rattle.registers.specs.Longest.{longest, LongestRegister, LongestTextRegister}
 use Rattle.registers.proofs.WordLaws.{spaced-none, spaced-both, printed-none, printed-both}
 
 -- ---- numbers
@@ -127,9 +127,9 @@ lines-short :
 lines-short line lines m n h k = two-short printed printed-none printed-both (line ∷ []) lines m n h k
 
 -- ---- the lines
-refused-short : (f : Fault) → length (printed (refusedLine plain f ∷ [])) ≤ 29
-unfolding refusedLine bytes
-refused-short f = line-short _ _ 21 (number-more _ _ 0 no-words)
+refused-short : (n : ℕ) → length (printed (refusalLine n ∷ [])) ≤ 29
+unfolding refusalLine bytes
+refused-short n = line-short _ _ 21 (number-more _ _ 0 no-words)
 
 net-short : (n k : ℕ) → length (printed (netLine n k ∷ [])) ≤ 46
 unfolding netLine bytes
@@ -209,14 +209,25 @@ picks-short picks r h g =
 register-short :
     (s : Net) (picks : List ℕ) (x : Outcome) → length picks ≤ 65536 → ((i : ℕ) → getD picks i 0 < 256)
     → length (registerIn s picks x) ≤ longest
-unfolding registerIn registerLines longest
-register-short s picks (refused f) h g = omega (arith, refused-short f)
+unfolding registerIn registerLines refusedLine longest
+register-short s picks (refused f) h g = omega (arith, refused-short (f .number))
+register-short s picks (refused-text n) h g = omega (arith, refused-short n)
 register-short s picks (ran r) h g =
     let rest = two-short printed printed-none printed-both _ _ _ _ (picks-short picks r h g) (net-lines-short (r .net)) in
     let whole = lines-short _ _ 46 _ (net-short (s .addresses) (s .length)) rest in
     omega (arith, whole)
 
+-- of which the first 65,536 count
+first-short :
+    (s : Net) (picks : List ℕ) (x : Outcome) → ((i : ℕ) → getD picks i 0 < 256)
+    → length (registerIn s (take 65536 picks) x) ≤ longest
+first-short s picks x h =
+    register-short s (take 65536 picks) x (omega (arith, length-take 65536 picks)) (take-small picks 65536 h)
+
 pub longestRegister : LongestRegister
 unfolding LongestRegister registerOf
-longestRegister image picks h =
-    register-short _ (take 65536 picks) _ (omega (arith, length-take 65536 picks)) (take-small picks 65536 h)
+longestRegister image picks h = first-short _ picks _ h
+
+pub longestTextRegister : LongestTextRegister
+unfolding LongestTextRegister registerTextOf
+longestTextRegister text picks h = first-short _ picks _ h

@@ -9,26 +9,27 @@ use native.Mathlib.Decide.{decLe}
 use lib.ListN.{length, getD, take, length-map, List·getD-append}
 use lib.Seq.{sets-eq, take-all, take-length, length-take-le}
 use lib.Dec.{leb}
-use borrow.Author.Tests.{le-leb, lt-leb}
+use borrow.Author.Tests.{lt-leb}
 use Rattle.net.specs.Choice.{choose}
 use Rattle.net.specs.Records.{processCount}
-use Rattle.net.proofs.Laws.{choose-true, choose-false}
+use Rattle.net.proofs.Laws.{choose-false}
 use Rattle.text.specs.Buffer.{over}
 use Rattle.text.specs.Writing.{Wrote}
 use Rattle.text.proofs.WritingLaws.{wrote-length, joined-same}
 use Rattle.image.specs.Image.{openedOf}
+use Rattle.notation.specs.Text.{readOf}
 use Rattle.plans.specs.Answer.{numberOf}
 use Rattle.step.specs.Pick.{hostOf, slotOf}
-use Rattle.run.specs.Run.{Outcome, ran, ranFrom, runOf, numbers}
+use Rattle.run.specs.Run.{Outcome, ran, ranFrom, numbers}
 use Rattle.run.specs.Making.{Made}
-use Rattle.run.proofs.CallLaws.{ran-is, refused-is, answers-length}
-use Rattle.registers.specs.Types.{Locality, Node, Net, Fault, Opened, Verdict}
+use Rattle.run.proofs.CallLaws.{ran-is, refused-is, text-ran-is, text-refused-is, answers-length}
+use Rattle.registers.specs.Types.{Locality, Node, Net, Fault, Opened, Verdict, TextOpened, TextVerdict}
 use Rattle.registers.specs.Words.{Word, printed}
 use Rattle.registers.specs.Shown.{plain}
-use Rattle.registers.specs.Lines.{refusedLine, netLine, pickLine, madeLine, nodeLine}
+use Rattle.registers.specs.Lines.{refusalLine, refusedLine, netLine, pickLine, madeLine, nodeLine}
 use Rattle.registers.specs.Lines.{tupleLines, nodeLines, netLines, pickLines, registerLines}
-use Rattle.registers.specs.Register.{registerIn, registerOf}
-use Rattle.registers.specs.Calls.{Registered, registeredOf, registeredNumber, roomNumber}
+use Rattle.registers.specs.Register.{registerIn, registerOf, registerTextOf}
+use Rattle.registers.specs.Calls.{Registered, writtenIn, registeredOf, registeredNumber, roomNumber}
 use Rattle.registers.proofs.WordLaws.{printed-none, printed-both, parts-then, lines-then}
 
 -- ---- lines whose numbers a callee gave
@@ -52,39 +53,34 @@ unfolding choose registeredNumber
 chosen-number true n = refl
 chosen-number false n = refl
 
-by-lengths : (text : List ℕ) (room : ℕ) → registeredNumber (registeredOf text room) ≡ roomNumber (length text) room
-unfolding registeredOf roomNumber
-by-lengths text room = chosen-number (leb (length text) room) (length text)
+by-lengths : (n room : ℕ) → registeredNumber (writtenIn n room) ≡ roomNumber n room
+unfolding writtenIn roomNumber
+by-lengths n room = chosen-number (leb n room) n
 
+-- what is answered at the place where it ends
 module _ (xs text ys : List ℕ) (r : ℕ) (w : Wrote xs 0 text ys r) where
-  pub written-whole : r ≤ length ys → Registered.Written r ≡ registeredOf text (length xs)
-  unfolding registeredOf
-  written-whole h =
-      let long = wrote-length xs 0 text ys r w in
-      let fits : length text ≤ length xs = fitting (decLe (length text) (length xs)) (omega (arith, long)) in
-      let end : r ≡ length text = w .fits (omega arith) ∙ omega arith in
-      ap Registered.Written end ∙ sym (choose-true _ _ _ (le-leb _ _ fits))
-    where
-      fitting : Dec (length text ≤ length xs) → r ≤ length xs → length text ≤ length xs
-      fitting (yes f) g = f
-      fitting (no f) g = absurd (let past = w .full (omega arith) in omega arith)
+  ends-whole : length text ≤ length xs → writtenIn r (length xs) ≡ writtenIn (length text) (length xs)
+  ends-whole h = ap (λ (n : ℕ). writtenIn n (length xs)) (w .fits (omega arith) ∙ omega arith)
 
-  pub written-cut : length ys < r → Registered.NoRoom ≡ registeredOf text (length xs)
+  ends-cut : length xs < length text → writtenIn r (length xs) ≡ writtenIn (length text) (length xs)
+  unfolding writtenIn
+  ends-cut h =
+      choose-false _ _ _ (lt-leb _ _ (w .full (omega arith))) ∙ sym (choose-false _ _ _ (lt-leb _ _ h))
+
+  ends : Dec (length text ≤ length xs) → writtenIn r (length xs) ≡ writtenIn (length text) (length xs)
+  ends (yes h) = ends-whole h
+  ends (no h) = ends-cut (omega arith)
+
+  pub written-as : (x : Registered) → x ≡ writtenIn r (length ys) → x ≡ registeredOf text (length xs)
   unfolding registeredOf
-  written-cut h =
-      let long = wrote-length xs 0 text ys r w in
-      sym (choose-false _ _ _ (lt-leb _ _ (cutting (decLe (length text) (length xs)) (omega (arith, long)))))
-    where
-      cutting : Dec (length text ≤ length xs) → length xs < r → length xs < length text
-      cutting (yes f) g = absurd (let here = w .fits (omega arith) in omega arith)
-      cutting (no f) g = omega arith
+  written-as x e =
+      e ∙ ap (writtenIn r) (wrote-length xs 0 text ys r w) ∙ ends (decLe (length text) (length xs))
 
   -- and its number
-  pub whole-number : r ≤ length ys → registeredNumber (Registered.Written r) ≡ roomNumber (length text) (length xs)
-  whole-number h = ap registeredNumber (written-whole h) ∙ by-lengths text (length xs)
-
-  pub cut-number : length ys < r → registeredNumber Registered.NoRoom ≡ roomNumber (length text) (length xs)
-  cut-number h = ap registeredNumber (written-cut h) ∙ by-lengths text (length xs)
+  pub number-as :
+      (x : Registered) → x ≡ writtenIn r (length ys) → registeredNumber x ≡ roomNumber (length text) (length xs)
+  unfolding registeredOf
+  number-as x e = ap registeredNumber (written-as x e) ∙ by-lengths (length text) (length xs)
 
 -- the answers that the buffer holds are those of the run
 over-at : (xs text : List ℕ) (i : ℕ) → length text ≤ length xs → i < length text → getD (over xs 0 text) i 0 ≡ getD text i 0
@@ -118,27 +114,43 @@ module _ (s : Net) (picks xs ys : List ℕ) (last : Net) (m : Made s picks xs ys
       (subst (λ (t : List (List Word)). Wrote out₁ p (printed t) out₂ q) lines-same b)
       (subst (λ (z : Net). Wrote out₂ q (printed (netLines plain z)) out₃ r) (m .net-is) c))
 
-module _ (image picks : List ℕ) (o : Opened) (read : o ≡ openedOf image) (xs ys : List ℕ) (r : ℕ) where
-  -- what a register says, of the outcome that the image has
-  accepted-register :
-      (x : Outcome) → x ≡ runOf image (take 65536 picks) → Wrote xs 0 (registerIn (o .net) (take 65536 picks) x) ys r
-      → Wrote xs 0 (registerOf image picks) ys r
-  unfolding registerOf
-  accepted-register x e w =
-      subst (λ (z : Outcome). Wrote xs 0 (registerIn (openedOf image .net) (take 65536 picks) z) ys r) e
-      (subst (λ (z : Opened). Wrote xs 0 (registerIn (z .net) (take 65536 picks) x) ys r) read w)
+-- of the net and the outcome that the image or the text has
+register-as :
+    (picks xs ys : List ℕ) (r : ℕ) (s t : Net) (x y : Outcome) → s ≡ t → x ≡ y → Wrote xs 0 (registerIn s picks x) ys r
+    → Wrote xs 0 (registerIn t picks y) ys r
+register-as picks xs ys r s t x y d e w = rw (← d, ← e) w
 
+module _ (image picks : List ℕ) (o : Opened) (read : o ≡ openedOf image) (xs ys : List ℕ) (r : ℕ) where
   pub register-accepted :
       o .answer ≡ Verdict.Accepted
       → Wrote xs 0 (registerIn (o .net) (take 65536 picks) (ran (ranFrom (o .net) (take 65536 picks)))) ys r
       → Wrote xs 0 (registerOf image picks) ys r
-  register-accepted a w = accepted-register _ (ran-is image o read (take 65536 picks) a) w
+  unfolding registerOf
+  register-accepted a w =
+      register-as _ xs ys r _ _ _ _ (ap (λ (z : Opened). z .net) read) (ran-is image o read (take 65536 picks) a) w
 
   pub register-refused :
       (f : Fault) → o .answer ≡ Verdict.Refused f → Wrote xs 0 (printed (refusedLine plain f ∷ [])) ys r
       → Wrote xs 0 (registerOf image picks) ys r
-  unfolding registerIn registerLines
-  register-refused f a w = accepted-register _ (refused-is image o read (take 65536 picks) f a) w
+  unfolding registerOf registerIn registerLines
+  register-refused f a w =
+      register-as _ xs ys r _ _ _ _ (ap (λ (z : Opened). z .net) read) (refused-is image o read (take 65536 picks) f a) w
+
+module _ (text picks : List ℕ) (o : TextOpened) (read : o ≡ readOf text) (xs ys : List ℕ) (r : ℕ) where
+  pub text-accepted :
+      o .answer ≡ TextVerdict.Accepted
+      → Wrote xs 0 (registerIn (o .net) (take 65536 picks) (ran (ranFrom (o .net) (take 65536 picks)))) ys r
+      → Wrote xs 0 (registerTextOf text picks) ys r
+  unfolding registerTextOf
+  text-accepted a w =
+      register-as _ xs ys r _ _ _ _ (ap (λ (z : TextOpened). z .net) read) (text-ran-is text o read (take 65536 picks) a) w
+
+  pub text-refused :
+      (n : ℕ) → o .answer ≡ TextVerdict.Refused n → Wrote xs 0 (printed (refusalLine n ∷ [])) ys r
+      → Wrote xs 0 (registerTextOf text picks) ys r
+  unfolding registerTextOf registerIn registerLines
+  text-refused n a w =
+      register-as _ xs ys r _ _ _ _ (ap (λ (z : TextOpened). z .net) read) (text-refused-is text o read (take 65536 picks) n a) w
 
 -- ---- the picks that count
 pub first-all : (picks : List ℕ) → length picks < 65536 → take (length picks) picks ≡ take 65536 picks

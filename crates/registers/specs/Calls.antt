@@ -7,8 +7,11 @@ use lib.Dec.{leb}
 use Rattle.net.specs.Choice.{choose}
 
 -- a register's length, or 35 where the buffer is too short for it: then the buffer holds as much of it as fits
+unfoldable pub writtenIn : ℕ → ℕ → Registered
+writtenIn n room = choose (leb n room) (Registered.Written n) Registered.NoRoom
+
 unfoldable pub registeredOf : List ℕ → ℕ → Registered
-registeredOf text room = choose (leb (length text) room) (Registered.Written (length text)) Registered.NoRoom
+registeredOf text room = writtenIn (length text) room
 
 -- the paper's number of that answer, and what it is by the two lengths alone
 unfoldable pub registeredNumber : Registered → ℕ

@@ -8,7 +8,7 @@ use Rattle.text.specs.Joined.{joined}
 use Rattle.net.specs.Choice.{choose}
 use Rattle.net.specs.Records.{fieldAt, tupleAt, nodeAt, addressOf, processCount}
 use Rattle.step.specs.Pick.{hostOf, slotOf}
-use Rattle.run.specs.Run.{Outcome, refused, ran, numbers}
+use Rattle.run.specs.Run.{Outcome, refused, refused-text, ran, numbers}
 use Rattle.registers.specs.Types.{Locality, Item, Tuple, Node, Net, Fault}
 use Rattle.registers.specs.Words.{Word, name, number, reading, address}
 use Rattle.registers.specs.Shown.{Shown}
@@ -17,9 +17,12 @@ use Rattle.registers.specs.Shown.{Shown}
 unfoldable pub fewer : ℕ → ℕ → ℕ
 fewer count size = choose (ltb count size) count size
 
--- refused N
+-- refused N: of a text by its number alone, of an image by its fault
+unfoldable pub refusalLine : ℕ → List Word
+refusalLine n = name (bytes "refused") ∷ number n ∷ []
+
 unfoldable pub refusedLine : Shown → Fault → List Word
-refusedLine shown f = name (bytes "refused") ∷ number (f .number) ∷ []
+refusedLine shown f = refusalLine (f .number)
 
 -- net, the image's address count and code length
 unfoldable pub netLine : ℕ → ℕ → List Word
@@ -66,5 +69,6 @@ pickLines picks answers = joined (length picks) (λ i. madeLine (i + 1) (getD pi
 -- of a net and its picks, by what their run comes to: the one line of a refusal, or the net, its picks and the net after
 unfoldable pub registerLines : Shown → Net → List ℕ → Outcome → List (List Word)
 registerLines shown s picks (refused f) = refusedLine shown f ∷ []
+registerLines shown s picks (refused-text n) = refusalLine n ∷ []
 registerLines shown s picks (ran r) =
     netLine (s .addresses) (s .length) ∷ (pickLines picks (numbers r) ++ netLines shown (r .net))

@@ -2,7 +2,7 @@
 use Prim.Native.Nat.{ℕ, _<_, _≤_}
 use mathlib.Core.List.{List}
 use lib.ListN.{length, getD}
-use Rattle.registers.specs.Register.{registerOf}
+use Rattle.registers.specs.Register.{registerOf, registerTextOf}
 
 -- so many bytes
 unfoldable pub longest : ℕ
@@ -12,3 +12,8 @@ longest = 1300000
 unfoldable pub LongestRegister : Type 0
 LongestRegister =
     (image picks : List ℕ) → ((i : ℕ) → getD picks i 0 < 256) → length (registerOf image picks) ≤ longest
+
+-- nor is one of a text and picks
+unfoldable pub LongestTextRegister : Type 0
+LongestTextRegister =
+    (text picks : List ℕ) → ((i : ℕ) → getD picks i 0 < 256) → length (registerTextOf text picks) ≤ longest

@@ -1,9 +1,10 @@
--- The register of an image and its picks, of which the first 65,536 count (document 01, "The register").
+-- The register of an image or a text and its picks, of which the first 65,536 count (document 01, "The register").
 use Prim.Native.Nat.{ℕ}
 use mathlib.Core.List.{List}
 use lib.ListN.{take}
 use Rattle.image.specs.Image.{openedOf}
-use Rattle.run.specs.Run.{Outcome, runOf}
+use Rattle.notation.specs.Text.{readOf}
+use Rattle.run.specs.Run.{Outcome, runOf, runTextOf}
 use Rattle.registers.specs.Types.{Net}
 use Rattle.registers.specs.Words.{printed}
 use Rattle.registers.specs.Shown.{plain}
@@ -15,3 +16,7 @@ registerIn s picks outcome = printed (registerLines plain s picks outcome)
 
 unfoldable pub registerOf : List ℕ → List ℕ → List ℕ
 registerOf image picks = registerIn (openedOf image .net) (take 65536 picks) (runOf image (take 65536 picks))
+
+-- the same of a text (document 02, slip 3)
+unfoldable pub registerTextOf : List ℕ → List ℕ → List ℕ
+registerTextOf text picks = registerIn (readOf text .net) (take 65536 picks) (runTextOf text (take 65536 picks))

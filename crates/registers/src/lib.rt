@@ -1,4 +1,4 @@
-// The register of an image and its picks (document 01, "The register").
+// The register of an image or a text and its picks (document 01, "The register").
 mod lines;
 pub mod register;
 pub mod room;

@@ -18,8 +18,8 @@ ghost use lib.ListN.{length};
 ghost use Rattle.text.specs.Writing.{Wrote};
 ghost use Rattle.registers.specs.Words.{spaced, printed};
 ghost use Rattle.registers.specs.Shown.{plain};
-ghost use Rattle.registers.specs.Lines.{fewer, refusedLine, netLine, pickLine, madeLine, nodeLine, fieldWords, tupleLine};
-ghost use Rattle.registers.specs.Lines.{tupleLines, nodeLines, netLines, pickLines};
+ghost use Rattle.registers.specs.Lines.{fewer, refusalLine, refusedLine, netLine, pickLine, madeLine, nodeLine};
+ghost use Rattle.registers.specs.Lines.{fieldWords, tupleLine, tupleLines, nodeLines, netLines, pickLines};
 
 // A count, or the size of its array where the count is larger.
 fn at_most(count: usize, size: usize) -> usize
@@ -28,12 +28,19 @@ fn at_most(count: usize, size: usize) -> usize
     if count < size { count } else { size }
 }
 
+// A refusal by its number alone.
+pub fn put_refusal(out: &mut [u8], at: usize, n: u8) -> usize
+    ensures { λ r. ⌜ Wrote (now (out .entry)) at (printed (refusalLine n ∷ [])) (now (out .exit)) r ⌝ }
+{
+    let first = put_bytes(out, at, b"refused");
+    let second = put_number(out, first, n as usize);
+    put(out, second, 10)
+}
+
 pub fn put_refused(out: &mut [u8], at: usize, fault: Fault) -> usize
     ensures { λ r. ⌜ Wrote (now (out .entry)) at (printed (refusedLine plain fault ∷ [])) (now (out .exit)) r ⌝ }
 {
-    let first = put_bytes(out, at, b"refused");
-    let second = put_number(out, first, fault.number as usize);
-    put(out, second, 10)
+    put_refusal(out, at, fault.number)
 }
 
 pub fn put_net(out: &mut [u8], at: usize, n: usize, k: usize) -> usize

@@ -1,11 +1,14 @@
-// The register of an image and its picks (document 01, "The register").
+// The register of an image or a text and its picks (document 01, "The register").
 use crate::lines::put_net;
 use crate::lines::put_nodes;
 use crate::lines::put_picks;
+use crate::lines::put_refusal;
 use crate::lines::put_refused;
 use image::reader::Verdict;
 use image::reader::read_image;
 use net::network::Net;
+use notation::reading::Verdict as TextVerdict;
+use notation::reading::read_text;
 use run::run::make;
 ghost use Prim.Native.Nat.{_≤_};
 ghost use mathlib.Core.Bool.{true};
@@ -15,8 +18,8 @@ ghost use Rattle.text.specs.Buffer.{over};
 ghost use Rattle.text.specs.Writing.{Wrote};
 ghost use Rattle.sound.specs.Soundness.{soundOf};
 ghost use Rattle.run.specs.Run.{ran, ranFrom};
-ghost use Rattle.registers.specs.Calls.{registeredOf, registeredNumber, roomNumber};
-ghost use Rattle.registers.specs.Register.{registerIn, registerOf};
+ghost use Rattle.registers.specs.Calls.{writtenIn, registeredOf, registeredNumber, roomNumber};
+ghost use Rattle.registers.specs.Register.{registerIn, registerOf, registerTextOf};
 
 // A register was written whole, with its length, or the buffer is too short.
 pub enum Registered {
@@ -69,6 +72,30 @@ fn put_register(image: &[u8], picks: &[u8], out: &mut [u8]) -> usize
     }
 }
 
+// The register of a text and its picks, from the buffer's start.
+fn put_text_register(text: &[u8], picks: &[u8], out: &mut [u8]) -> usize
+    ensures { λ r. ⌜ Wrote (now (out .entry)) 0 (registerTextOf (now (text .entry)) (now (picks .entry))) (now (out .exit)) r ⌝ }
+{
+    let opened = read_text(text);
+    let answer = opened.answer;
+    let net = opened.net;
+    match answer {
+        TextVerdict::Accepted => put_first(net, picks, out),
+        TextVerdict::Refused(n) => put_refusal(out, 0, n),
+    }
+}
+
+// What is answered where a register ends at a place, in a buffer of so many bytes.
+fn answer_at(end: usize, room: usize) -> Registered
+    ensures { λ r. ⌜ r ≡ writtenIn end room ⌝ }
+{
+    if end <= room {
+        Registered::Written(end)
+    } else {
+        Registered::NoRoom
+    }
+}
+
 // Writes the register of an image and its picks into the buffer.
 pub fn register(image: &[u8], picks: &[u8], out: &mut [u8]) -> Registered
     ensures { λ r. ⌜ r ≡ registeredOf (registerOf (now (image .entry)) (now (picks .entry))) (length (now (out .entry))) ⌝ }
@@ -76,9 +103,15 @@ pub fn register(image: &[u8], picks: &[u8], out: &mut [u8]) -> Registered
     ensures { λ _. ⌜ now (out .exit) ≡ over (now (out .entry)) 0 (registerOf (now (image .entry)) (now (picks .entry))) ⌝ }
 {
     let end = put_register(image, picks, out);
-    if end <= out.len() {
-        Registered::Written(end)
-    } else {
-        Registered::NoRoom
-    }
+    answer_at(end, out.len())
+}
+
+// Writes the register of a text and its picks into the buffer.
+pub fn register_text(text: &[u8], picks: &[u8], out: &mut [u8]) -> Registered
+    ensures { λ r. ⌜ r ≡ registeredOf (registerTextOf (now (text .entry)) (now (picks .entry))) (length (now (out .entry))) ⌝ }
+    ensures { λ r. ⌜ registeredNumber r ≡ roomNumber (length (registerTextOf (now (text .entry)) (now (picks .entry)))) (length (now (out .entry))) ⌝ }
+    ensures { λ _. ⌜ now (out .exit) ≡ over (now (out .entry)) 0 (registerTextOf (now (text .entry)) (now (picks .entry))) ⌝ }
+{
+    let end = put_text_register(text, picks, out);
+    answer_at(end, out.len())
 }

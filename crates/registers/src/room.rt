@@ -1,4 +1,4 @@
-// Room for every register (proved: `LongestRegister`).
+// Room for every register (proved: `LongestRegister`, `LongestTextRegister`).
 ghost use mathlib.Core.Path.{_≡_};
 ghost use lib.ListN.{length};
 ghost use Rattle.registers.specs.Longest.{longest};

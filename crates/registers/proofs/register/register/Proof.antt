@@ -1,5 +1,5 @@
 -- `registers::register::register` meets its contract. Assumes nothing.
-use Rattle.registers.proofs.RegisterLaws.{written-whole, written-cut, whole-number, cut-number}
+use Rattle.registers.proofs.RegisterLaws.{written-as, number-as}
 use borrow.Author.Needs.{needs}
 use Rattle.registers.proofs.register.register.Statement.{statement}
 use Rattle.registers.proofs.register.register.Tie as tie
@@ -9,7 +9,6 @@ register-spec =
     tie.close
     (tie.spec
     (λ c κs. search needs)
+    (λ c κs. search needs)
     (λ c. search needs)
-    (λ c. (search (needs, written-whole, written-cut), (search (needs, whole-number, cut-number), search needs)))
-    (λ c. search needs)
-    (λ c. (search (needs, written-whole, written-cut), (search (needs, whole-number, cut-number), search needs))))
+    (λ c. (search (needs, written-as), (search (needs, number-as), search needs))))
