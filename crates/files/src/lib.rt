@@ -118,6 +118,35 @@ pub fn read_first(buffer: &mut [u8], n: usize) -> bool {
     }
 }
 
+// The number that two bytes write, lower first.
+fn number_of(low: u8, high: u8) -> usize {
+    let units = low as usize;
+    let rest = high as usize;
+    units + rest * 256
+}
+
+// Fills the buffer with what comes next on standard input: its length in two bytes, lower first, then its bytes. Failed
+// where there is not all of it, as at the end of the input, or where the buffer is shorter.
+pub fn read_next(buffer: &mut [u8]) -> Loaded
+    ensures { λ r. ⌜ Counts (r .count) (now (buffer .exit)) ⌝ }
+{
+    let mut head = [0u8; 2];
+    if read_first(&mut head, 2) {
+        let count = number_of(head[0], head[1]);
+        if count <= buffer.len() {
+            let there = read_first(buffer, count);
+            return Loaded {
+                count,
+                failed: !there,
+            };
+        }
+    }
+    Loaded {
+        count: 0,
+        failed: true,
+    }
+}
+
 // Prints bytes; false where that fails.
 pub fn print(bytes: &[u8]) -> bool {
     let printed = io::write_all(STDOUT_FILENO, bytes);

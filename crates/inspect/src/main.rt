@@ -4,7 +4,7 @@
 // number of the refusal, then the net as the crate `dump` lays it out. It ends where the input does.
 use dump::put_net;
 use files::print;
-use files::read_first;
+use files::read_next;
 use image::reader::Verdict;
 use image::reader::read_image;
 ghost use mathlib.Core.Path.{_≡_};
@@ -31,31 +31,12 @@ fn answer(image: &[u8]) -> bool {
     print(&out)
 }
 
-// The same for the first bytes of a buffer.
-fn answer_first(buffer: &[u8], length: usize) -> bool {
-    if length <= buffer.len() {
-        answer(&buffer[..length])
-    } else {
-        false
-    }
-}
-
-// Reads an image of that length and writes what is made of it.
-fn answer_next(length: usize) -> bool {
-    let mut image = [0u8; 65535];
-    read_first(&mut image, length) && answer_first(&image, length)
-}
-
-fn length_of(low: u8, high: u8) -> usize {
-    let units = low as usize;
-    let rest = high as usize;
-    units + rest * 256
-}
-
 // Reads one image and writes what is made of it; false at the end of the input.
 fn take_turn() -> bool {
-    let mut head = [0u8; 2];
-    read_first(&mut head, 2) && answer_next(length_of(head[0], head[1]))
+    let mut image = [0u8; 65535];
+    let next = read_next(&mut image);
+    let n = next.count;
+    !next.failed && answer(&image[..n])
 }
 
 // A proved loop has to end, and nothing says that the input does: no run uses up these turns.
