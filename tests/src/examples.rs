@@ -73,13 +73,15 @@ impl Example {
         format!(
             "# {title}\n\n{about}\n\
              ## The net\n\n\
-             In the planners' notation, as `net.txt` has it; `net.bin` holds the same net as an image.\n\n\
+             In the planners' notation, as `net.txt` has it; `net.bin` holds the same net as an image, which \
+             `../../target/bin/pack` makes of the text.\n\n\
              ```\n{notation}```\n\n\
              ## The picks\n\n\
              One byte each in `picks.bin`.\n\n\
              {table}\n\
              ## The register\n\n\
-             Run in this directory, `../../target/bin/register` prints what `register.txt` holds:\n\n\
+             Run in this directory, `../../target/bin/register` prints what `register.txt` holds, and so does \
+             `../../target/bin/register_text`, which reads the text:\n\n\
              ```\n{register}```\n"
         )
     }

@@ -5,14 +5,31 @@ use crate::by_hand::*;
 use crate::dump::{dump, framed};
 use crate::image::write_image;
 use crate::net::*;
+use crate::notation::edges::{deepest, widest};
+use crate::notation::from_net::from_net;
+use crate::notation::print::text;
+use crate::notation::read_text;
 use crate::program::{program, TestDirectory};
 use crate::random::Random;
-use crate::register::{register, MOST_PICKS};
+use crate::register::{register, register_text, MOST_PICKS};
 use crate::replay::{expected, Run};
 use crate::stored::repository;
 use std::fs::{self, File};
 use std::path::Path;
 use std::process::{Command, Output};
+
+/// Kilobytes of stack that each program has to do with. What it needs is
+/// less: `cargo run --bin measure_stack` says how much.
+pub const BOUNDS: [(&str, usize); 8] = [
+    ("register", 2_048),
+    ("repack", 1_024),
+    ("edges", 1_024),
+    ("inspect", 1_024),
+    ("replay", 1_024),
+    ("inspect_text", 1_024),
+    ("pack", 2_048),
+    ("register_text", 4_096),
+];
 
 /// A net, and as many picks as a register takes.
 pub struct Load {
@@ -117,6 +134,9 @@ pub fn jobs(name: &str) -> Vec<Job> {
         "edges" => vec![edging()],
         "inspect" => vec![inspecting()],
         "replay" => loads().map(replaying).into(),
+        "inspect_text" => vec![inspecting_texts()],
+        "register_text" => texts().map(|text| registering_text(&text)).into(),
+        "pack" => texts().map(|text| packing(&text)).into(),
         _ => panic!("{name} is no program"),
     }
 }
@@ -144,6 +164,33 @@ fn inspecting() -> Job {
     let input = loads().map(|load| framed(&load.image())).concat();
     let printed = loads().map(|load| [vec![0], dump(&load.net)].concat());
     Job::new(&[], &input, printed.concat())
+}
+
+/// The deepest text, the widest, and one with every action.
+pub fn texts() -> [Vec<u8>; 3] {
+    [deepest(), widest(), text(&from_net(&busy()))]
+}
+
+fn net_of(text: &[u8]) -> Net {
+    read_text(text).expect("it is accepted")
+}
+
+fn inspecting_texts() -> Job {
+    let input = texts().map(|text| framed(&text)).concat();
+    let printed = texts().map(|text| [vec![0], dump(&net_of(&text))].concat());
+    Job::new(&[], &input, printed.concat())
+}
+
+fn registering_text(text: &[u8]) -> Job {
+    let [_, Load { picks, .. }] = loads();
+    let printed = register_text(text, &picks).into_bytes();
+    Job::new(&[("net.txt", text), ("picks.bin", &picks)], &[], printed)
+}
+
+fn packing(text: &[u8]) -> Job {
+    let length = write_image(&net_of(text)).len();
+    let printed = format!("packed {length}\n").into_bytes();
+    Job::new(&[("net.txt", text)], &[], printed)
 }
 
 // Fewer picks: of each the whole net is compared.

@@ -1,27 +1,59 @@
-//! The examples: that the stored files are the model's, that the program
-//! prints the stored registers, and that the tenant's fence holds.
+//! The examples: that the stored files are the model's, that the programs
+//! print the stored registers and write the stored images, and that the
+//! tenant's fence holds.
 
 use cavindorum_tests::examples::{examples, stored_files, Example};
 use cavindorum_tests::image::read_image;
 use cavindorum_tests::net::*;
-use cavindorum_tests::program::{print_register, TestDirectory};
+use cavindorum_tests::program::{printed_by, TestDirectory};
 use cavindorum_tests::step::{pick, pick_address};
 use cavindorum_tests::stored::{self, repository};
+use std::fs;
+use std::path::{Path, PathBuf};
 
 #[test]
 fn the_stored_files_are_the_model_s() {
     stored::compare(&stored_files(), "write_examples");
 }
 
+/// The directories of the examples.
+fn directories() -> Vec<PathBuf> {
+    let all = fs::read_dir(repository().join("examples")).expect("they are stored");
+    let all: Vec<_> = all.map(|one| one.expect("it can be read").path()).collect();
+    assert_eq!(all.len(), examples().len());
+    all
+}
+
+fn file(directory: &Path, name: &str) -> Vec<u8> {
+    fs::read(directory.join(name)).expect("a stored file")
+}
+
+/// From the image and from the text.
 #[test]
-fn the_program_prints_the_stored_register() {
-    for example in examples() {
-        let stored = repository().join("examples").join(example.name);
-        let file = |name: &str| std::fs::read(stored.join(name)).expect("a stored file");
-        let (image, picks) = (file("net.bin"), file("picks.bin"));
-        let directory = TestDirectory::with(Some(&image), Some(&picks));
-        let printed = print_register(&directory.path);
-        assert!(printed == file("register.txt"), "{}", example.name);
+fn the_programs_print_the_stored_register() {
+    for stored in directories() {
+        for (program, net) in [("register", "net.bin"), ("register_text", "net.txt")] {
+            let files = [net, "picks.bin"].map(|name| (name, file(&stored, name)));
+            let files = files.each_ref().map(|(name, bytes)| (*name, &bytes[..]));
+            let here = TestDirectory::holding(files);
+            let printed = printed_by(program, &here.path);
+            let register = file(&stored, "register.txt");
+            assert!(printed == register, "{program} in {}", stored.display());
+        }
+    }
+}
+
+/// Byte for byte what the text is packed to.
+#[test]
+fn the_program_writes_the_stored_image() {
+    for stored in directories() {
+        let (text, image) = (file(&stored, "net.txt"), file(&stored, "net.bin"));
+        let here = TestDirectory::holding([("net.txt", &text[..])]);
+        let printed = printed_by("pack", &here.path);
+        let says = format!("packed {}\n", image.len());
+        assert_eq!(String::from_utf8_lossy(&printed), says);
+        let packed = file(&here.path, "net.bin");
+        assert!(packed == image, "{}", stored.display());
     }
 }
 

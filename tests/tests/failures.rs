@@ -15,9 +15,14 @@ use std::os::unix::net::UnixStream;
 use std::path::Path;
 use std::process::Stdio;
 
+/// The paper's net.
+const TEXT: &[u8] = b"0 has 0:o\n0 :: out(5)@self.nil\n";
+
 /// The programs that read files, and the files of each.
-const READERS: [(&str, &[&str]); 3] = [
+const READERS: [(&str, &[&str]); 5] = [
     ("register", &["net.bin", "picks.bin"]),
+    ("register_text", &["net.txt", "picks.bin"]),
+    ("pack", &["net.txt"]),
     ("repack", &["net.bin"]),
     ("edges", &["edges.bin", "creation.bin"]),
 ];
@@ -99,6 +104,10 @@ fn a_missing_file() {
     assert_eq!(said("register", &empty.path, Stdio::null()), refused);
     let nothing = (Vec::new(), String::new());
     assert_eq!(said("repack", &empty.path, Stdio::null()), nothing);
+    let refused = (b"refused 31\n".to_vec(), String::new());
+    for name in ["register_text", "pack"] {
+        assert_eq!(said(name, &empty.path, Stdio::null()), refused);
+    }
 }
 
 /// Each file that fails is named.
@@ -141,6 +150,10 @@ fn an_input_that_fails_midway() {
     let (input, _other) = failing_after(&[&whole[..], &part[..8]].concat());
     let (printed, errors) = said("inspect", &here.path, input);
     assert_eq!((printed.len(), &errors[..]), (23_268, INPUT_FAILS));
+    let text = framed(TEXT);
+    let (input, _other) = failing_after(&[&text[..], &text[..8]].concat());
+    let (printed, errors) = said("inspect_text", &here.path, input);
+    assert_eq!((printed.len(), &errors[..]), (23_268, INPUT_FAILS));
     let run = paper_run();
     let (input, _other) = failing_after(&run[..run.len() - 1]);
     let (printed, errors) = said("replay", &here.path, input);
@@ -152,9 +165,11 @@ fn an_input_that_fails_midway() {
 fn an_input_that_ends_midway() {
     let part = &framed(&PAPER_IMAGE)[..8];
     let here = TestDirectory::holding([("input", part)]);
-    let input = File::open(here.path.join("input")).expect("it is there");
-    let nothing = (Vec::new(), String::new());
-    assert_eq!(said("inspect", &here.path, input.into()), nothing);
+    for name in ["inspect", "inspect_text"] {
+        let input = File::open(here.path.join("input")).expect("it is there");
+        let nothing = (Vec::new(), String::new());
+        assert_eq!(said(name, &here.path, input.into()), nothing);
+    }
 }
 
 /// A register that `edges` has no room for: it says so, and stops there.
@@ -176,17 +191,21 @@ fn an_edge_with_too_long_a_register() {
 #[test]
 fn an_output_that_fails() {
     let edge = [1, 0, b'e', 0, 0, 0, 0];
-    let files: [(&str, &[u8]); 4] = [
+    let files: [(&str, &[u8]); 5] = [
         ("net.bin", &PAPER_IMAGE),
+        ("net.txt", TEXT),
         ("picks.bin", &[0, 0, 0]),
         ("edges.bin", &[edge; 3].concat()),
         ("input", &[]),
     ];
-    let inputs: [(&str, Vec<u8>); 5] = [
+    let inputs: [(&str, Vec<u8>); 8] = [
         ("register", Vec::new()),
+        ("register_text", Vec::new()),
+        ("pack", Vec::new()),
         ("repack", Vec::new()),
         ("edges", Vec::new()),
         ("inspect", framed(&PAPER_IMAGE).repeat(3)),
+        ("inspect_text", framed(TEXT).repeat(3)),
         ("replay", paper_run()),
     ];
     let here = TestDirectory::holding(files);

@@ -1,26 +1,21 @@
-//! The page docs/NOTATION.md: each text on it has the result that the page
-//! gives, each form and each number is there.
+//! The page docs/NOTATION.md: by the proved reader each text on it has the
+//! result that the page gives; each form and each number is there.
 
-use cavindorum_tests::net::Net;
-use cavindorum_tests::notation::page::{blocks, Block, Outcome};
-use cavindorum_tests::notation::read_text;
-
-fn net(block: &Block) -> Net {
-    let (line, read) = (block.line, read_text(block.text.as_bytes()));
-    read.unwrap_or_else(|number| panic!("line {line}: refused {number}"))
-}
+use cavindorum_tests::dump::{inspect_text, Opened};
+use cavindorum_tests::notation::page::{blocks, Outcome};
 
 #[test]
 fn each_text_has_its_result() {
+    let blocks = blocks();
+    let texts: Vec<_> = blocks.iter().map(|block| block.bytes()).collect();
     let mut before = None;
-    for block in blocks() {
+    for (block, read) in blocks.iter().zip(inspect_text(&texts)) {
+        let number = block.outcome.number();
+        assert_eq!(read.number, number, "line {}", block.line);
         match block.outcome {
-            Outcome::Accepted => before = Some(net(&block)),
-            Outcome::Same => assert_eq!(Some(net(&block)), before, "line {}", block.line),
-            Outcome::Refused(number) | Outcome::Shortest(number) => {
-                let read = read_text(block.text.as_bytes());
-                assert_eq!(read, Err(number), "line {}", block.line);
-            }
+            Outcome::Accepted => before = Some(read),
+            Outcome::Same => assert!(Some(read) == before, "line {}", block.line),
+            _ => {}
         }
     }
 }
@@ -42,14 +37,24 @@ fn nothing_can_be_left_away() {
         let Outcome::Shortest(number) = block.outcome else {
             continue;
         };
-        let text = block.text.as_bytes();
-        for from in 0..text.len().saturating_sub(1) {
-            for to in from + 1..text.len() {
-                let less = [&text[..from], &text[to..]].concat();
-                assert_ne!(read_text(&less), Err(number), "line {}", block.line);
-            }
+        for (less, read) in less(&block.bytes()) {
+            let less = String::from_utf8_lossy(&less);
+            assert_ne!(read.number, number, "line {}: {less:?}", block.line);
         }
     }
+}
+
+/// A text without some bytes that stand together before its last, each way,
+/// and what the program makes of it.
+fn less(text: &[u8]) -> Vec<(Vec<u8>, Opened)> {
+    let mut all = Vec::new();
+    for from in 0..text.len().saturating_sub(1) {
+        for to in from + 1..text.len() {
+            all.push([&text[..from], &text[to..]].concat());
+        }
+    }
+    let read = inspect_text(&all);
+    all.into_iter().zip(read).collect()
 }
 
 /// Words that show the forms of rows, processes, actions, targets, fields,

@@ -1,16 +1,6 @@
 //! Each program within a stack of a stated size, which nothing proves.
 
-use cavindorum_tests::stack::jobs;
-
-/// Kilobytes of stack that each program has to do with. What it needs is
-/// less: `cargo run --bin measure_stack` says how much.
-const BOUNDS: [(&str, usize); 5] = [
-    ("register", 2_048),
-    ("repack", 1_024),
-    ("edges", 1_024),
-    ("inspect", 1_024),
-    ("replay", 1_024),
-];
+use cavindorum_tests::stack::{jobs, BOUNDS};
 
 #[test]
 fn each_program_runs_within_its_bound() {

@@ -1,20 +1,20 @@
 //! The programs for texts beside the model: `register_text` in its whole
 //! output, `pack` in the image that it writes.
-#![cfg(feature = "texts")]
 
-use cavindorum_tests::examples::examples;
+use cavindorum_tests::by_hand::ONE_STOP;
 use cavindorum_tests::generate::picks;
 use cavindorum_tests::image::write_image;
 use cavindorum_tests::notation::edges::{chain, deepest, widest};
 use cavindorum_tests::notation::generate::damage::faulty_text;
 use cavindorum_tests::notation::generate::valid_text;
 use cavindorum_tests::notation::read_text;
-use cavindorum_tests::program::{printed_by, run_on, TestDirectory};
+use cavindorum_tests::program::{printed_by, program, run_on, TestDirectory};
 use cavindorum_tests::random::Random;
 use cavindorum_tests::register::{answers_in, register_text};
 use std::fs;
+use std::os::unix::fs::symlink;
 use std::path::Path;
-use std::process::Stdio;
+use std::process::{Command, Stdio};
 
 fn shown(text: &[u8]) -> String {
     let start = String::from_utf8_lossy(&text[..text.len().min(3_000)]);
@@ -167,18 +167,6 @@ fn a_first_image() {
     }
 }
 
-/// The stored images are those that the texts are packed to, and the stored
-/// registers those of the texts.
-#[test]
-fn the_examples() {
-    for example in examples() {
-        let text = example.notation.as_bytes();
-        assert_eq!(packed(text), Some(example.image()), "{}", example.name);
-        let register = compare_register(&files(text, &example.pick_bytes()));
-        assert_eq!(register, example.register(), "{}", example.name);
-    }
-}
-
 // Texts that are too long, and an image that cannot be written.
 
 /// What a program prints in a directory, and what it says on standard error.
@@ -200,21 +188,81 @@ fn a_million_bytes_and_one_more() {
         let here = TestDirectory::holding([("net.txt", &text[..])]);
         let (printed, errors) = said(name, &here.path);
         assert_eq!(printed, "", "{name}");
-        assert!(errors.contains("net.txt"), "{name}: {errors}");
-        assert_eq!(errors.matches('\n').count(), 1, "{name}: {errors}");
+        assert_eq!(errors, "net.txt is longer than 1000000 bytes\n", "{name}");
         assert_eq!(names_in(&here.path), ["net.txt"]);
     }
 }
 
+const SMALL: &[u8] = b"0 has\nA0 = nil\n";
+
 /// What stands in the way of the image is named and stays.
 #[test]
-fn an_image_that_cannot_be_written() {
-    let here = TestDirectory::holding([("net.txt", &b"0 has\n0 :: nil\n"[..])]);
+fn an_image_that_cannot_be_put_in_its_place() {
+    let here = TestDirectory::holding([("net.txt", SMALL)]);
     let image = here.path.join("net.bin");
     fs::create_dir(&image).expect("it can be made");
     fs::write(image.join("file"), "kept").expect("it can be written");
-    let (printed, errors) = said("pack", &here.path);
-    assert!(!printed.contains("packed"), "{printed}");
-    assert!(errors.contains("net.bin"), "{errors}");
+    let says = "cannot replace net.bin: Is a directory\n".to_string();
+    assert_eq!(said("pack", &here.path), (String::new(), says));
     assert_eq!(names_in(&image), ["file"]);
+    assert_eq!(names_in(&here.path), ["net.bin", "net.txt"]);
+}
+
+/// What is left under the name that an image has meanwhile goes, and a file
+/// that it leads to stays.
+#[test]
+fn an_image_left_from_before() {
+    let other: &[u8] = b"another file";
+    let left: [fn(&Path); 2] = [
+        |path| fs::write(path, "a part").expect("it can be written"),
+        |path| symlink("other", path).expect("it can be made"),
+    ];
+    for leave in left {
+        let here = TestDirectory::holding([("net.txt", SMALL), ("other", other)]);
+        leave(&here.path.join("net.bin.new"));
+        assert_eq!(printed_by("pack", &here.path), b"packed 5\n");
+        assert_eq!(names_in(&here.path), ["net.bin", "net.txt", "other"]);
+        let file = |name: &str| fs::read(here.path.join(name)).expect("it is there");
+        assert_eq!(file("net.bin"), ONE_STOP);
+        assert_eq!(file("other"), other);
+    }
+}
+
+/// A name that cannot be used meanwhile.
+#[test]
+fn an_image_that_cannot_be_made() {
+    let here = TestDirectory::holding([("net.txt", SMALL), ("net.bin", b"old")]);
+    fs::create_dir(here.path.join("net.bin.new")).expect("it can be made");
+    let says = "cannot make net.bin.new: File exists\n".to_string();
+    assert_eq!(said("pack", &here.path), (String::new(), says));
+    assert_eq!(
+        fs::read(here.path.join("net.bin")).ok(),
+        Some(b"old".to_vec())
+    );
+}
+
+/// A write that fails, or fails midway, leaves the old image and nothing
+/// else.
+#[test]
+fn an_image_that_cannot_be_written() {
+    let old: &[u8] = b"old";
+    let here = TestDirectory::holding([("net.txt", &widest()[..]), ("net.bin", old)]);
+    for blocks in ["0", "4"] {
+        // No file may have more blocks than this, of 512 or 1,024 bytes.
+        let script = "trap '' XFSZ && ulimit -f \"$1\" && exec \"$0\"";
+        let mut command = Command::new("sh");
+        command
+            .args(["-c", script])
+            .arg(program("pack"))
+            .arg(blocks);
+        let output = command.current_dir(&here.path).output().expect("sh runs");
+        let errors = String::from_utf8_lossy(&output.stderr);
+        assert_eq!(errors, "cannot write net.bin.new: File too large\n");
+        assert!(output.stdout.is_empty());
+        assert_eq!(
+            fs::read(here.path.join("net.bin")).ok().as_deref(),
+            Some(old)
+        );
+        assert_eq!(names_in(&here.path), ["net.bin", "net.txt"]);
+    }
 }

@@ -23,6 +23,22 @@ pub struct Block {
     pub outcome: Outcome,
 }
 
+impl Outcome {
+    /// The number of a refusal, 0 for a text that is accepted.
+    pub fn number(self) -> u8 {
+        match self {
+            Outcome::Accepted | Outcome::Same => 0,
+            Outcome::Refused(number) | Outcome::Shortest(number) => number,
+        }
+    }
+}
+
+impl Block {
+    pub fn bytes(&self) -> Vec<u8> {
+        self.text.clone().into_bytes()
+    }
+}
+
 /// The texts on the page, in their order.
 pub fn blocks() -> Vec<Block> {
     let path = repository().join("docs/NOTATION.md");
