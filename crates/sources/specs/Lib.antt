@@ -1,0 +1,4 @@
+pub mod Printed
+pub mod SourceClaims
+pub mod Types
+pub mod WellFormed

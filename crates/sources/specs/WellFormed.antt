@@ -1,0 +1,112 @@
+-- What is asked of a source (document 01, "The planners' notation"; document 02, slip 3), with the numbers that a text
+-- which breaks it is refused with. n is the number of rows. Nothing here reads a text.
+use Prim.Native.Nat.{ℕ, suc, _-_, _<_, _≤_}
+use mathlib.Core.Path.{_≡_}
+use mathlib.Core.Bool.{Bool, true, false}
+use mathlib.Core.List.{List, [], _∷_, _++_, map}
+use lib.ListN.{length, replicate}
+use Rattle.net.specs.Records.{zeroField, zeroTemplateField, zeroInstruction}
+use Rattle.sound.specs.Soundness.{itemSound, rowSound, targetSound, patternSound, isActual, bindsAnew}
+use Rattle.fresh.specs.Fresh.{itemFits, patternFits}
+use Rattle.keeping.specs.Admission.{admits}
+use Rattle.terms.specs.Terms.{Process, Action, nil, name, fork, act, out, input, read, eval, newloc}
+use Rattle.notation.specs.Source.{Line, definition, process, tuple, Source}
+use Rattle.notation.specs.Lines.{processesIn, tuplesIn, counted}
+use Rattle.notation.specs.Compiled.{total, compiled}
+use Rattle.notation.specs.Names.{namesRight}
+use Rattle.sources.specs.Types.{Locality, Item, Tuple, Row, Target, Pattern, Instruction}
+
+-- of each element of ys holds R, with those that stand before it: xs, and the elements of ys before it
+pub data Each {A : Type 0} (R : List A → A → Type 0) : List A → List A → Type 0 where
+  none : {xs : List A} → Each R xs []
+  more : {xs : List A} {y : A} {ys : List A} → R xs y → Each R (xs ++ (y ∷ [])) ys → Each R xs (y ∷ ys)
+
+-- ---- rows: 16 rights, none over an address without a row (23)
+pub record RowFormed (n : ℕ) (r : Row) : Type 0 where
+  pub whole : length (r .rights) ≡ 16
+  pub within : rowSound n r ≡ true
+
+-- ---- tuples: one to four fields (22), addresses with a row (23), readings of 32 bits (31)
+pub record ItemFormed (n : ℕ) (before : List Item) (x : Item) : Type 0 where
+  pub in-range : itemSound n x ≡ true
+  pub fits : itemFits x ≡ true
+
+-- the tuple of these fields, with zero records behind them
+unfoldable pub tupleOf : List Item → Tuple
+tupleOf xs = record {
+  count = length xs;
+  fields = map (λ x. record { item = x }) xs ++ replicate (4 - length xs) zeroField;
+}
+
+pub record TupleFormed (n : ℕ) (t : Tuple) : Type 0 where
+  pub items : List Item
+  pub some : 1 ≤ length items
+  pub few : length items ≤ 4
+  pub each : Each (ItemFormed n) [] items
+  pub is : tupleOf items ≡ t
+
+-- ---- templates: one to four fields (22), addresses with a row (23), variables below 8 and readings of 32 bits (31)
+
+-- the template of these fields, with zero records behind them and no action yet
+unfoldable pub templateOf : List Pattern → Instruction
+templateOf xs = record {
+  action = zeroInstruction .action;
+  count = length xs;
+  template = map (λ x. record { pattern = x }) xs ++ replicate (4 - length xs) zeroTemplateField;
+}
+
+-- a field behind those before it: no formal where none is allowed (26), no variable formal twice (27)
+pub record PatternFormed (formals : Bool) (n : ℕ) (before : List Pattern) (x : Pattern) : Type 0 where
+  pub in-range : patternSound n x ≡ true
+  pub fits : patternFits x ≡ true
+  pub actual : formals ≡ false → isActual x ≡ true
+  pub anew : bindsAnew (templateOf before) (length before) x ≡ true
+
+pub record TemplateFormed (formals : Bool) (n : ℕ) (c : Instruction) : Type 0 where
+  pub patterns : List Pattern
+  pub some : 1 ≤ length patterns
+  pub few : length patterns ≤ 4
+  pub each : Each (PatternFormed formals n) [] patterns
+  pub is : templateOf patterns ≡ c
+
+-- ---- targets: an address with a row (23), a variable below 8 (31)
+pub record TargetFormed (n : ℕ) (t : Target) : Type 0 where
+  pub in-range : targetSound n t ≡ true
+
+-- ---- processes, at most d deep in brackets and evals together (32); names from A0 to A511, variables below 8 (31)
+mutual
+  pub data ProcessFormed (n : ℕ) : ℕ → Process → Type 0 where
+    stop : {d : ℕ} → ProcessFormed n d nil
+    call : {d k : ℕ} → k < 512 → ProcessFormed n d (name k)
+    both : {d : ℕ} {p q : Process} → ProcessFormed n d p → ProcessFormed n d q → ProcessFormed n (suc d) (fork p q)
+    first : {d : ℕ} {a : Action} {p : Process} → ActionFormed n d a → ProcessFormed n d p → ProcessFormed n d (act a p)
+
+  -- an out has no formals; an eval's process is one level deeper
+  pub data ActionFormed (n : ℕ) : ℕ → Action → Type 0 where
+    puts : {d : ℕ} {c : Instruction} {t : Target} → TemplateFormed false n c → TargetFormed n t → ActionFormed n d (out c t)
+    takes : {d : ℕ} {c : Instruction} {t : Target} → TemplateFormed true n c → TargetFormed n t → ActionFormed n d (input c t)
+    reads : {d : ℕ} {c : Instruction} {t : Target} → TemplateFormed true n c → TargetFormed n t → ActionFormed n d (read c t)
+    sends : {d : ℕ} {p : Process} {t : Target} → ProcessFormed n d p → TargetFormed n t → ActionFormed n (suc d) (eval p t)
+    opens : {d v : ℕ} → v < 8 → ActionFormed n d (newloc v)
+
+-- ---- a line, behind those before it: an address with a row (23), fewer than four processes and fewer than sixteen tuples
+-- there before (22)
+pub data LineFormed (n : ℕ) : List Line → Line → Type 0 where
+  defines : {ls : List Line} {k : ℕ} {p : Process} → k < 512 → ProcessFormed n 32 p → LineFormed n ls (definition k p)
+  runs :
+      {ls : List Line} {a : Locality} {p : Process}
+      → a .0 < n → counted (processesIn a) ls < 4 → ProcessFormed n 32 p → LineFormed n ls (process a p)
+  holds :
+      {ls : List Line} {a : Locality} {t : Tuple}
+      → a .0 < n → counted (tuplesIn a) ls < 16 → TupleFormed n t → LineFormed n ls (tuple a t)
+
+-- ---- the whole: 1 to 16 rows (31, 22), right names (33), 1 to 512 instructions (22), each process within its row (30)
+pub record WellFormed (x : Source) : Type 0 where
+  pub some : 1 ≤ length (x .rows)
+  pub few : length (x .rows) ≤ 16
+  pub each-row : Each (λ before. RowFormed (length (x .rows))) [] (x .rows)
+  pub each-line : Each (LineFormed (length (x .rows))) [] (x .lines)
+  pub names : namesRight (x .lines) ≡ true
+  pub least : 1 ≤ total (x .lines)
+  pub most : total (x .lines) ≤ 512
+  pub admitted : admits (compiled x) ≡ true
