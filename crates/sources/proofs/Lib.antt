@@ -1,0 +1,2 @@
+pub mod ReadsPrints
+pub mod Stands

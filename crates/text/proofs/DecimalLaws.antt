@@ -28,7 +28,7 @@ alike n x y z f = go (ltb n 10) refl
     go false e = ap (choose (ltb n 10) x) (f (ltb-false n 10 (sym e)))
 
 -- one more digit allowed than a number has makes no difference
-digits-more : (k n : ℕ) → n < 10 ^ suc k → digits (suc k) n ≡ digits (suc (suc k)) n
+pub digits-more : (k n : ℕ) → n < 10 ^ suc k → digits (suc k) n ≡ digits (suc (suc k)) n
 unfolding digits
 digits-more zero n h = alike n _ _ _ (λ l. absurd (omega arith))
 digits-more (suc k) n h =
@@ -36,12 +36,12 @@ digits-more (suc k) n h =
     alike n _ _ _ (λ l. ap (λ (ds : List ℕ). ds ++ digit (n % 10) ∷ []) (digits-more k (n / 10) (omega (arith, power))))
 
 -- a number below 10 is its digit
-decimal-digit : (n : ℕ) → n < 10 → digit n ∷ [] ≡ decimal n
+pub decimal-digit : (n : ℕ) → n < 10 → digit n ∷ [] ≡ decimal n
 unfolding decimal digits
 decimal-digit n h = sym (choose-true _ _ _ (lt-ltb n 10 h))
 
 -- any other ends with a digit
-decimal-more : (n : ℕ) → 10 ≤ n → n < 2 ^ 64 → decimal (n / 10) ++ digit (n % 10) ∷ [] ≡ decimal n
+pub decimal-more : (n : ℕ) → 10 ≤ n → n < 2 ^ 64 → decimal (n / 10) ++ digit (n % 10) ∷ [] ≡ decimal n
 unfolding decimal digits
 decimal-more n h l =
     ap (λ (ds : List ℕ). ds ++ digit (n % 10) ∷ []) (sym (digits-more 18 (n / 10) (omega arith)))
