@@ -125,7 +125,7 @@ module _ {A B : Type 0} {R : A → List ℕ → Type 0} {Q : A → B → List �
           let d′ : F (byteAt s (p + length u + length v)) = subst (λ (z : ℕ). F (byteAt s z)) at d in
           let rest = stands-rest s p u v st′ in
           let next : E (byteAt s (p + length u)) =
-              subst E (sym (stands-opens s (p + length u) v rest)) (opens (h .one) b u v _ (h .prints) (h .goes-on) d′) in
+          subst E (sym (stands-opens s (p + length u) v rest)) (opens (h .one) b u v _ (h .prints) (h .goes-on) d′) in
           ap (λ o. andThen o s f) (r .back s p (h .one) u (h .prints) (stands-first s p u v st′) next)
           ∙ g (h .one) u (h .prints) .back s (p + length u) b v (h .goes-on) rest d′
           ∙ ap (got b) (sym at)
