@@ -1,3 +1,6 @@
+pub mod Fields
+pub mod Listed
 pub mod Numbers
 pub mod ReadsPrints
 pub mod Stands
+pub mod Templates

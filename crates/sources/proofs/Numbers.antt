@@ -77,13 +77,13 @@ unfolding Decimal.digit
 decimal-first n h = decimal-digit n h
 
 -- ---- a number with one digit more
-record LongerBy (limit v w : ℕ) (u : List ℕ) : Type 0 where
-  last : ℕ
-  small : last < 10
-  prints : (48 + last) ∷ [] ≡ u
-  some : 1 ≤ v
-  within : v * 10 + last ≤ limit
-  is : v * 10 + last ≡ w
+pub record LongerBy (limit v w : ℕ) (u : List ℕ) : Type 0 where
+  pub last : ℕ
+  pub small : last < 10
+  pub prints : (48 + last) ∷ [] ≡ u
+  pub some : 1 ≤ v
+  pub within : v * 10 + last ≤ limit
+  pub is : v * 10 + last ≡ w
 
 reads-longer : (limit v : ℕ) → Reads (longer limit v) (LongerBy limit v) Any
 unfolding longer
@@ -108,7 +108,7 @@ at-least : (v k : ℕ) → 1 ≤ v → k ≤ v * k
 at-least (suc v) k h = omega arith
 
 -- and with any digits more
-data Longer (limit : ℕ) : ℕ → ℕ → List ℕ → Type 0 where
+pub data Longer (limit : ℕ) : ℕ → ℕ → List ℕ → Type 0 where
   same : {v a : ℕ} {x : List ℕ} → v ≡ a → [] ≡ x → Longer limit v a x
   more : {v w a : ℕ} {u t x : List ℕ} → LongerBy limit v w u → Longer limit w a t → u ++ t ≡ x → Longer limit v a x
 
@@ -250,12 +250,12 @@ module _ (limit : ℕ) where
       subst (λ (k : ℕ). v * 10 ^ k ≤ a) (sym n) (omega arith)
 
   -- a number within the limit has a first digit, and those after it
-  record Digits (n : ℕ) : Type 0 where
-    first : ℕ
-    after : List ℕ
-    small : first < 10
-    longer : Longer limit first n after
-    is : (48 + first) ∷ after ≡ decimal n
+  pub record Digits (n : ℕ) : Type 0 where
+    pub first : ℕ
+    pub after : List ℕ
+    pub small : first < 10
+    pub longer : Longer limit first n after
+    pub is : (48 + first) ∷ after ≡ decimal n
 
   digits-up : (n : ℕ) → limit < 2 ^ 64 → n ≤ limit → 10 ≤ n → Digits (n / 10) → Digits n
   digits-up n h l g x =
@@ -327,3 +327,21 @@ module _ (limit : ℕ) where
         is = x .is ∙ e;
       })
       (λ d e. e)
+
+-- ---- how a number opens
+pub decimal-digits : (limit v : ℕ) → limit < 10 ^ 10 → v ≤ limit → Digits limit v
+decimal-digits limit v h l = digits-of limit (omega arith) v v (omega arith) l
+
+pub decimal-opens : (limit v d : ℕ) → limit < 10 ^ 10 → v ≤ limit → isDigit (getD (decimal v) 0 d) ≡ true
+decimal-opens limit v d h l =
+    let x = decimal-digits limit v h l in
+    ap (λ (y : List ℕ). isDigit (getD y 0 d)) (sym (x .is)) ∙ digit-is (x .first) (x .small)
+
+pub decimal-some : (limit v : ℕ) → limit < 10 ^ 10 → v ≤ limit → 1 ≤ length (decimal v)
+decimal-some limit v h l =
+    let x = decimal-digits limit v h l in
+    let e = ap length (x .is) in omega arith
+
+-- a digit is no other byte
+pub no-other : (b c : ℕ) → isDigit b ≡ true → isDigit c ≡ false → b ≡ c → ⊥
+no-other b c h g e = let z : _≡_ {A = ℕ} 0 1 = cc in omega arith
