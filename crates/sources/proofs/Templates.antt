@@ -185,3 +185,103 @@ module _ (formals : Bool) (n : ℕ) (before : List Pattern) where
       (λ x u d y e. other₁ x u d y)
       .looked)
       pattern-to pattern-from (λ d e. e)
+
+-- ---- templates
+template-next : (xs : List Pattern) (x : Pattern) → length xs < 4 → withPattern (templateOf xs) (record { pattern = x }) ≡ templateOf (xs ++ (x ∷ []))
+unfolding withPattern templateOf
+template-next xs x h =
+    let l : length xs + 1 ≡ length (xs ++ (x ∷ [])) = sym (length-append xs (x ∷ [])) in
+    choose-true _ _ _ (lt-ltb (length xs) 4 h)
+    ∙ ap (λ (k : ℕ). record { action = zeroInstruction .action; count = k; template = set (templateOf xs .template) (length xs) (record { pattern = x }) }) l
+    ∙ ap (λ ys. record { action = zeroInstruction .action; count = length (xs ++ (x ∷ [])); template = ys })
+    (filled-next (λ (y : Pattern). record { pattern = y }) zeroTemplateField xs x h)
+
+template-text : (xs : List Pattern) → templateText (templateOf xs) ≡ separated (map patternText xs)
+unfolding templateText templateOf
+template-text xs =
+    ap separated
+    (filled-text (λ (y : Pattern). record { pattern = y }) zeroTemplateField (λ (f : TemplateField). patternText (f .pattern)) xs
+    (replicate (4 - length xs) zeroTemplateField))
+
+pub record TemplateText (formals : Bool) (n : ℕ) (c : Instruction) (u : List ℕ) : Type 0 where
+  pub formed : TemplateFormed formals n c
+  pub prints : templateText c ≡ u
+
+module _ (formals : Bool) (n : ℕ) where
+  template-to : (c : Instruction) (u : List ℕ) → Fields templateOf patternText (PatternFormed formals n) [] c u → TemplateText formals n c u
+  template-to c u f =
+      let few = f .few in record {
+        formed = record { patterns = f .ys; some = f .some; few = omega arith; each = f .each; is = f .is };
+        prints = ap templateText (sym (f .is)) ∙ template-text (f .ys) ∙ f .prints;
+      }
+
+  template-from : (c : Instruction) (u : List ℕ) → TemplateText formals n c u → Fields templateOf patternText (PatternFormed formals n) [] c u
+  template-from c u x =
+      let y = x .formed in
+      let few = y .few in record {
+        ys = y .patterns;
+        each = y .each;
+        some = y .some;
+        few = omega arith;
+        is = y .is;
+        prints = sym (template-text (y .patterns)) ∙ ap templateText (y .is) ∙ x .prints;
+      }
+
+  template-step : (xs : List Pattern) → length xs < 4 → (s : List ℕ) (p : ℕ)
+      → templateField formals n (templateOf xs) s p ≡ (pattern formals n (templateOf xs) >>= (λ x. pure (templateOf (xs ++ (x ∷ []))))) s p
+  unfolding templateField
+  template-step xs l s p =
+      then-same (pattern formals n (templateOf xs)) _ _ s p (λ x q. ap (λ (c : Instruction). pure c s q) (template-next xs x l))
+
+  pub reads-template : n ≤ 16 → Reads (template formals n) (TemplateText formals n) FieldEnd
+  unfolding template zeroInstruction templateOf
+  reads-template h =
+      reads-as
+      (reads-fields templateOf patternText (PatternFormed formals n) (templateField formals n) (λ xs. pattern formals n (templateOf xs))
+      template-step (λ xs l. reads-pattern formals n xs h) 4 [] refl)
+      template-to template-from (λ d e. e)
+
+-- ---- targets
+pub record TargetText (n : ℕ) (t : Target) (u : List ℕ) : Type 0 where
+  pub formed : TargetFormed n t
+  pub prints : targetText t ≡ u
+
+module _ (n : ℕ) where
+  abbrev Target₂ : Target → List ℕ → Type 0
+  Target₂ = Or (Image Target.Held Variable) (Image Target.Written (AddressText n))
+
+  target-to : (t : Target) (u : List ℕ) → Or (Self Target.Own) Target₂ t u → TargetText n t u
+  unfolding targetText targetSound bytes
+  target-to t u (inl (w, (is, e), f)) =
+      subst (λ (y : Target). TargetText n y u) is
+      (record { formed = record { in-range = refl }; prints = ap (λ (y : List ℕ). bytes "self" ++ y) e ∙ f })
+  target-to t u (inr (inl (v, (w, a, e), is))) =
+      subst (λ (y : Target). TargetText n y u) is
+      (record { formed = record { in-range = lt-ltb v 8 (a .in-range) }; prints = ap (λ (y : List ℕ). 118 ∷ y) (a .prints) ∙ e })
+  target-to t u (inr (inr (l, a, is))) =
+      subst (λ (y : Target). TargetText n y u) is
+      (record { formed = record { in-range = lt-ltb (l .0) n (a .in-range) }; prints = a .prints })
+
+  target-from : (t : Target) (u : List ℕ) → targetSound n t ≡ true → targetText t ≡ u → Or (Self Target.Own) Target₂ t u
+  unfolding targetText targetSound bytes
+  target-from (Target.Written l) u h e = inr (inr (l, record { in-range = ltb-true (l .0) n h; prints = e }, refl))
+  target-from Target.Own u h e = inl ([], (refl, refl), e)
+  target-from (Target.Held v) u h e =
+      inr (inl (v, (decimal v, record { in-range = ltb-true v 8 h; prints = refl }, e), refl))
+
+  module _ (h : n ≤ 16) where
+    target-other : (t : Target) (u : List ℕ) (d : ℕ) → Target₂ t u → getD u 0 d ≡ 115 → ⊥
+    target-other t u d (inl y) e = let g = opens _ u d (y .1 .2) in omega arith
+    target-other t u d (inr y) e = no-other _ 115 (address-opens n h (y .0) u d (y .1)) letter-s e
+
+    pub reads-target : Reads (target n) (TargetText n) NoDigit
+    unfolding target ownTarget heldTarget writtenTarget own held bytes
+    reads-target =
+        reads-as
+        (reads-choice 115 (reads-from-word (bytes "self") (reads-pure Target.Own))
+        (reads-choice 118 (reads-map Target.Held (reads-from-byte 118 reads-variable)) (reads-last (reads-map Target.Written (reads-address n h)))
+        (λ t u d y e. opens _ u d (y .1 .2))
+        (λ t u d y e. no-other _ 118 (address-opens n h (y .0) u d (y .1)) letter-v))
+        (λ t u d y e. opens _ u d (y .2)) (λ t u d y e. target-other t u d y)
+        .looked)
+        target-to (λ t u x. target-from t u (x .formed .in-range) (x .prints)) (λ d e. e)
