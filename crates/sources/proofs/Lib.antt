@@ -1,6 +1,7 @@
 pub mod Fields
 pub mod Listed
 pub mod Numbers
+pub mod Processes
 pub mod ReadsPrints
 pub mod Stands
 pub mod Templates
