@@ -24,6 +24,11 @@ pub record Bears {A : Type 0} (R : A → List ℕ → Type 0) (s : List ℕ) (p 
   pub stands : Stands s p text
   pub ends : q ≡ p + length text
 
+pub bears-as :
+    {A : Type 0} {R R′ : A → List ℕ → Type 0} {s : List ℕ} {p : ℕ} {a : A} {q : ℕ} → ((u : List ℕ) → R a u → R′ a u)
+    → Bears R s p a q → Bears R′ s p a q
+bears-as f x = record { text = x .text; prints = f (x .text) (x .prints); stands = x .stands; ends = x .ends }
+
 -- m gives exactly the values that R prints, where their bytes stand and the byte behind them is as E asks
 pub record Reads {A : Type 0} (m : Reader A) (R : A → List ℕ → Type 0) (E : ℕ → Type 0) : Type 0 where
   pub only : (s : List ℕ) (p : ℕ) (a : A) (q : ℕ) → m s p ≡ got a q → Bears R s p a q
@@ -41,9 +46,7 @@ module _ {A : Type 0} {R R′ : A → List ℕ → Type 0} {E E′ : ℕ → Typ
       Reads m R E → ((a : A) (u : List ℕ) → R a u → R′ a u) → ((a : A) (u : List ℕ) → R′ a u → R a u)
       → ((d : ℕ) → E′ d → E d) → Reads m R′ E′
   reads-as r f g e = record {
-    only = λ s p a q h.
-        let x = r .only s p a q h in
-        record { text = x .text; prints = f a (x .text) (x .prints); stands = x .stands; ends = x .ends };
+    only = λ s p a q h. bears-as (f a) (r .only s p a q h);
     back = λ s p a u h st d. r .back s p a u (g a u h) st (e _ d);
   }
 
@@ -281,16 +284,10 @@ module _ {A : Type 0} {R Q : A → List ℕ → Type 0} {E : ℕ → Type 0} whe
     looked = record { only = λ s p a k e. only s p a k (test (byteAt s p)) e; back = back };
   }
     where
-      left : (s : List ℕ) (p : ℕ) (a : A) (k : ℕ) → Bears R s p a k → Bears (Or R Q) s p a k
-      left s p a k x = record { text = x .text; prints = inl (x .prints); stands = x .stands; ends = x .ends }
-
-      right : (s : List ℕ) (p : ℕ) (a : A) (k : ℕ) → Bears Q s p a k → Bears (Or R Q) s p a k
-      right s p a k x = record { text = x .text; prints = inr (x .prints); stands = x .stands; ends = x .ends }
-
       only : (s : List ℕ) (p : ℕ) (a : A) (k : ℕ) (b : Bool) → choose b m (rest (byteAt s p)) s p ≡ got a k
           → Bears (Or R Q) s p a k
-      only s p a k true e = left s p a k (r .only s p a k e)
-      only s p a k false e = right s p a k (q .looked .only s p a k e)
+      only s p a k true e = bears-as (λ u x. inl x) (r .only s p a k e)
+      only s p a k false e = bears-as (λ u x. inr x) (q .looked .only s p a k e)
 
       back : (s : List ℕ) (p : ℕ) (a : A) (u : List ℕ) → Or R Q a u → Stands s p u → E (byteAt s (p + length u))
           → choose (test (byteAt s p)) m (rest (byteAt s p)) s p ≡ got a (p + length u)
