@@ -1,8 +1,11 @@
+pub mod AllRows
 pub mod Fields
+pub mod Grants
 pub mod Listed
 pub mod Numbers
 pub mod Processes
 pub mod ReadsPrints
+pub mod Rights
 pub mod Rows
 pub mod Stands
 pub mod Templates

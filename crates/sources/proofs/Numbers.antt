@@ -110,7 +110,7 @@ at-least (suc v) k h = omega arith
 -- and with any digits more
 pub data Longer (limit : ℕ) : ℕ → ℕ → List ℕ → Type 0 where
   same : {v a : ℕ} {x : List ℕ} → v ≡ a → [] ≡ x → Longer limit v a x
-  more : {v w a : ℕ} {u t x : List ℕ} → LongerBy limit v w u → Longer limit w a t → u ++ t ≡ x → Longer limit v a x
+  again : {v w a : ℕ} {u t x : List ℕ} → LongerBy limit v w u → Longer limit w a t → u ++ t ≡ x → Longer limit v a x
 
 module _ (limit : ℕ) where
   abbrev Tail : ℕ → ℕ → ℕ → List ℕ → Type 0
@@ -132,7 +132,7 @@ module _ (limit : ℕ) where
         let few = y .prints .1 in
         record {
           text = x .text ++ y .text;
-          prints = (more (x .prints) (y .prints .0) refl, omega arith);
+          prints = (again (x .prints) (y .prints .0) refl, omega arith);
           stands = stands-append s p (x .text) (y .text) (x .stands) (subst (λ (z : ℕ). Stands s z (y .text)) at (y .stands));
           ends = omega (arith, y .ends);
         }
@@ -175,11 +175,11 @@ module _ (limit : ℕ) where
       let l = ap length g in
       let at : p + length x ≡ p = omega arith in
       quiet k i v s p (ap (λ (z : ℕ). isDigit (byteAt s z)) (sym at) ∙ d) ∙ ap (λ (w : ℕ). got w p) f ∙ ap (got a) (sym at)
-  back-turns zero i {x = x} s p (more {u = u} {t = t} b r e) h st d =
+  back-turns zero i {x = x} s p (again {u = u} {t = t} b r e) h st d =
       let l = ap length e in
       let l′ = length-append u t in
       let one = ap length (b .prints) in absurd (omega arith)
-  back-turns (suc k) i {v} {a} {x} s p (more {w = w} {u = u} {t = t} b r e) h st d =
+  back-turns (suc k) i {v} {a} {x} s p (again {w = w} {u = u} {t = t} b r e) h st d =
       let l = ap length e in
       let l′ = length-append u t in
       let one = ap length (b .prints) in
@@ -203,12 +203,12 @@ module _ (limit : ℕ) where
   -- ---- digits and decimal numbers
   longer-within : {v a : ℕ} {x : List ℕ} → v ≤ limit → Longer limit v a x → a ≤ limit
   longer-within h (same f g) = omega arith
-  longer-within h (more b r e) = longer-within (let w = b .within in omega (arith, b .is)) r
+  longer-within h (again b r e) = longer-within (let w = b .within in omega (arith, b .is)) r
 
   longer-decimal : {v a : ℕ} {x : List ℕ} → limit < 2 ^ 64 → Longer limit v a x → decimal v ++ x ≡ decimal a
   longer-decimal {v} {a} {x} h (same f g) =
       ap (λ (y : List ℕ). decimal v ++ y) (sym g) ∙ append-nil (decimal v) ∙ ap decimal f
-  longer-decimal {v} {a} {x} h (more {w = w} {u = u} {t = t} b r e) =
+  longer-decimal {v} {a} {x} h (again {w = w} {u = u} {t = t} b r e) =
       let d = b .last in
       let some = b .some in
       let small = b .small in
@@ -226,18 +226,18 @@ module _ (limit : ℕ) where
 
   longer-least : {v a : ℕ} {x : List ℕ} → Longer limit v a x → a ≤ limit → v ≤ limit
   longer-least (same f g) h = omega arith
-  longer-least (more b r e) h = let w = b .within in omega arith
+  longer-least (again b r e) h = let w = b .within in omega arith
 
   longer-also : {v a w : ℕ} {x u : List ℕ} → Longer limit v a x → LongerBy limit a w u → Longer limit v w (x ++ u)
   longer-also {v} {a} {w} {x} {u} (same f g) c =
-      more (subst (λ (z : ℕ). LongerBy limit z w u) (sym f) c) (same refl refl)
+      again (subst (λ (z : ℕ). LongerBy limit z w u) (sym f) c) (same refl refl)
       (append-nil u ∙ ap (λ (y : List ℕ). y ++ u) g)
-  longer-also {u = u} (more {u = u₀} {t = t} b r e) c =
-      more b (longer-also r c) (sym (append-assoc u₀ t u) ∙ ap (λ (y : List ℕ). y ++ u) e)
+  longer-also {u = u} (again {u = u₀} {t = t} b r e) c =
+      again b (longer-also r c) (sym (append-assoc u₀ t u) ∙ ap (λ (y : List ℕ). y ++ u) e)
 
   longer-grows : {v a : ℕ} {x : List ℕ} → Longer limit v a x → v * 10 ^ length x ≤ a
   longer-grows {v} {a} {x} (same f g) = subst (λ (y : List ℕ). v * 10 ^ length y ≤ a) g (omega arith)
-  longer-grows {v} {a} {x} (more {w = w} {u = u} {t = t} b r e) =
+  longer-grows {v} {a} {x} (again {w = w} {u = u} {t = t} b r e) =
       let l = ap length e in
       let l′ = length-append u t in
       let one = ap length (b .prints) in
@@ -291,13 +291,13 @@ module _ (limit : ℕ) where
   -- fewer than ten digits follow the first
   few-digits : limit < 10 ^ 10 → {v a : ℕ} (x : List ℕ) → v ≤ limit → Longer limit v a x → length x ≤ 10
   few-digits h x l (same f g) = let e = ap length g in omega arith
-  few-digits h {v} {a} x l (more {w = w} {u = u} {t = t} b r e) = go (decLe (length x) 10)
+  few-digits h {v} {a} x l (again {w = w} {u = u} {t = t} b r e) = go (decLe (length x) 10)
     where
       go : Dec (length x ≤ 10) → length x ≤ 10
       go (yes k) = k
       go (no k) =
-          let grows = longer-grows (more b r e) in
-          let within = longer-within l (more b r e) in
+          let grows = longer-grows (again b r e) in
+          let within = longer-within l (again b r e) in
           let some = b .some in
           let power : 10 ^ 10 ≤ 10 ^ length x = pow-le-pow-right {n = 10} (omega arith) {i = 10} {j = length x} (omega arith) in
           let wide : 10 ^ length x ≤ v * 10 ^ length x = at-least v (10 ^ length x) some in

@@ -1,148 +1,228 @@
--- One row (`Rows.antt` of `notation`): what is read is what is printed. Assumes nothing.
+-- One row, with its newline (`row` of `Rows.antt` of `notation`): what is read is what is printed. Assumes nothing.
 use Prim.Native.Nat.{ℕ, zero, suc, _+_, _-_, _<_, _≤_}
 use mathlib.Core.Path.{_≡_, refl, sym, ap, subst, _∙_}
 use mathlib.Core.Logic.{_⊎_, inl, inr}
-use mathlib.Core.Bool.{Bool, true, false, not}
-use mathlib.Core.List.{List, [], _∷_, _++_, append-nil}
+use mathlib.Core.Bool.{Bool, true, false}
+use mathlib.Core.List.{List, [], _∷_, _++_, append-nil, append-assoc}
 use native.Mathlib.Omega.{arith}
-use lib.ListN.{length, getD, set, drop, replicate, length-append, length-replicate, length-set, getD-replicate, drop-of-length-le}
-use lib.Seq.{sets, sets-eq, set-getD, getD-set-other}
-use lib.Dec.{eqb, leb}
-use borrow.Author.Tests.{leb-true, le-leb, eqb-true, eq-eqb}
+use lib.ListN.{length, getD, replicate, length-replicate, getD-replicate, drop-of-length-le}
+use lib.Seq.{sets, sets-eq}
+use lib.Dec.{eqb}
+use borrow.Author.Tests.{eqb-true, eq-eqb}
 use Rattle.net.specs.Choice.{choose}
 use Rattle.net.specs.Choice as Choice
-use Rattle.net.specs.Records.{noRights, zeroRow, rightsAt, withRights, addressOf}
-use Rattle.net.proofs.ReadingLaws.{never}
+use Rattle.net.specs.Records.{noRights, zeroRow}
+use Rattle.net.proofs.Laws.{choose-true, choose-false}
 use Rattle.net.proofs.Past.{pastRights}
-use Rattle.sound.specs.Soundness.{isNone}
-use Rattle.readers.specs.Reader.{Parsed, got, fault, Reader, pure, andThen, _>>=_, _>>_, require}
+use Rattle.readers.specs.Reader.{Parsed, got, fault, Reader, pure, andThen, _>>=_, _>>_}
 use Rattle.text.specs.Bytes.{bytes}
 use Rattle.text.specs.Decimal.{decimal}
-use Rattle.lexemes.specs.Lexemes.{byteAt, isDigit, byte, word, optional, number}
-use Rattle.notation.specs.Rows.{isGot, standsAt, anyRight, rights, granted, grants, creates, opening, row}
+use Rattle.lexemes.specs.Lexemes.{byteAt, isDigit, byte, word, number}
+use Rattle.notation.specs.Rows.{isGot, standsAt, grants, creates, opening, row}
 use Rattle.sources.specs.Types.{Rights, Row}
-use Rattle.sources.specs.Printed.{newline, given, rightsText, grantText, grantsText, rowText}
-use Rattle.sources.proofs.Stands.{Stands, stands-first, stands-opens}
-use Rattle.sources.proofs.ReadsPrints.{Bears, bears-as, Reads, Any, Is, After, Or, Then, Image, reads-as, reads-equal, reads-pure, reads-then}
-use Rattle.sources.proofs.ReadsPrints.{reads-behind, reads-word, reads-from-byte, reads-from-word, reads-require, reads-closed, reads-optional}
-use Rattle.sources.proofs.Numbers.{NoDigit, reads-number, decimal-digits, digit-is, no-other}
+use Rattle.sources.specs.Printed.{newline, given, grantsText, rowText}
+use Rattle.sources.proofs.Stands.{Stands, stands-first}
+use Rattle.sources.proofs.ReadsPrints.{Bears, bears-as, Reads, Any, Is, After, Or, Then, Image, reads-as, reads-pure, reads-then, reads-behind}
+use Rattle.sources.proofs.ReadsPrints.{reads-word, reads-from-word, reads-require, reads-closed}
+use Rattle.sources.proofs.Numbers.{NoDigit, reads-number, no-other}
+use Rattle.sources.proofs.Grants.{Blank, GrantsText, GrantEnd, filled, grants-open, reads-grants}
 
--- ---- rights: letters that may stand, in their order
+-- ---- the number of the row's address, and ` has`
+space : isDigit 32 ≡ false
+unfolding isDigit Choice.both
+space = refl
 
--- behind the letters stands none of them
-pub record NoLetter (d : ℕ) : Type 0 where
-  pub no-take : d ≡ 105 → ⊥
-  pub no-read : d ≡ 114 → ⊥
-  pub no-put : d ≡ 111 → ⊥
-  pub no-send : d ≡ 101 → ⊥
+reads-opening : (i : ℕ) → i ≤ 15 → Reads (opening i) (λ a u. decimal i ++ bytes " has" ≡ u) Any
+unfolding opening bytes
+reads-opening i h =
+    reads-as
+    (reads-then (reads-number 15 (omega arith)) (λ l u x. reads-require (eqb l i) 31 (reads-word (bytes " has")))
+    (λ l a u v d x y e. subst (λ (w : List ℕ). NoDigit (getD w 0 d)) (y .1) space))
+    (λ a t x.
+    let is = eqb-true (x .one) i (x .goes-on .0) in
+    ap (λ (k : ℕ). decimal k ++ bytes " has") (sym is) ∙ ap (λ (w : List ℕ). w ++ bytes " has") (x .prints .1)
+    ∙ ap (λ (w : List ℕ). x .text ++ w) (x .goes-on .1) ∙ x .is)
+    (λ a t e. record {
+      one = i;
+      text = decimal i;
+      rest = bytes " has";
+      prints = (h, refl);
+      goes-on = (eq-eqb i i refl, refl);
+      is = e;
+    })
+    (λ d e. e)
 
-abbrev Lettered : {A : Type 0} → ℕ → (Bool → A → List ℕ → Type 0) → A → List ℕ → Type 0
-Lettered c R a t = (b : Bool) × (v : List ℕ) × R b a v × (given b (c ∷ []) ++ v ≡ t)
+-- ---- a word stands here, or does not
+got-fault : (b : Bool) → true ≡ b → false ≡ b → ⊥
+got-fault b e f = let z : _≡_ {A = ℕ} 0 1 = cc in omega arith
 
-reads-lettered :
-    {A : Type 0} {E : ℕ → Type 0} (c : ℕ) (f : Bool → Reader A) (R : Bool → A → List ℕ → Type 0) → ((b : Bool) → Reads (f b) (R b) E)
-    → ((a : A) (u : List ℕ) (d : ℕ) → R false a u → E d → getD u 0 d ≡ c → ⊥) → Reads (optional c >>= f) (Lettered c R) E
-unfolding given choose
-reads-lettered {A} {E} c f R r other =
-    reads-as (reads-optional c f (r true) (r false) other) to from (λ d e. e)
+pub stands-word : (w s : List ℕ) (p : ℕ) → Stands s p w → standsAt w s p ≡ true
+unfolding standsAt isGot
+stands-word w s p st = ap isGot (reads-word w .back s p tt w refl st tt)
+
+word-stands : (w s : List ℕ) (p : ℕ) → standsAt w s p ≡ true → Stands s p w
+unfolding standsAt isGot
+word-stands w s p e = go (word w s p) refl e
   where
-    to : (a : A) (u : List ℕ) → Or (After (c ∷ []) (R true)) (R false) a u → Lettered c R a u
-    to a u (inl (v, x, e)) = (true, v, x, e)
-    to a u (inr x) = (false, u, x, refl)
+    go : (o : Parsed (Unit {0})) → word w s p ≡ o → isGot o ≡ true → Stands s p w
+    go (got a q) d f = let x = reads-word w .only s p a q d in subst (Stands s p) (sym (x .prints)) (x .stands)
+    go (fault n) d f = absurd (got-fault false (sym f) refl)
 
-    from : (a : A) (u : List ℕ) → Lettered c R a u → Or (After (c ∷ []) (R true)) (R false) a u
-    from a u (true, v, x, e) = inl (v, x, e)
-    from a u (false, v, x, e) = inr (subst (R false a) e x)
+pub stands-no-word : (w s : List ℕ) (p : ℕ) → (Stands s p w → ⊥) → standsAt w s p ≡ false
+stands-no-word w s p f = go (standsAt w s p) refl
+  where
+    go : (b : Bool) → standsAt w s p ≡ b → standsAt w s p ≡ false
+    go true e = absurd (f (word-stands w s p e))
+    go false e = e
 
--- a letter that may stand is no other letter
-letter-other : (b : Bool) (c x : ℕ) (v : List ℕ) (d : ℕ) → (c ≡ x → ⊥) → (getD v 0 d ≡ x → ⊥) → getD (given b (c ∷ []) ++ v) 0 d ≡ x → ⊥
-unfolding given choose
-letter-other true c x v d g h e = g e
-letter-other false c x v d g h e = h e
+-- two texts that stand at one place agree
+pub stands-agree : (s : List ℕ) (p : ℕ) (u v : List ℕ) (i : ℕ) → i < length u → i < length v → Stands s p u → Stands s p v → getD u i 0 ≡ getD v i 0
+stands-agree s p u v i h g f e = sym (f .each i h) ∙ e .each i g
 
-abbrev Whole : Bool → Bool → Bool → Bool → Rights → List ℕ → Type 0
-Whole i r o e x u =
-    (anyRight (record { take = i; read = r; put = o; send = e }) ≡ true) × Is (record { take = i; read = r; put = o; send = e }) x u
+-- ---- ` n` where it is held, and what follows
+module _ {A : Type 0} (f : Bool → Reader A) (R : Bool → A → List ℕ → Type 0)
+    (r : (b : Bool) → Reads (f b) (R b) Any)
+    (other : (a : A) (v : List ℕ) (s : List ℕ) (p : ℕ) → R false a v → Stands s p v → Stands s p (bytes " n") → ⊥) where
+  abbrev Created : A → List ℕ → Type 0
+  Created a t = (b : Bool) × (v : List ℕ) × R b a v × (given b (bytes " n") ++ v ≡ t)
 
-abbrev FromSend : Bool → Bool → Bool → Rights → List ℕ → Type 0
-FromSend i r o = Lettered 101 (Whole i r o)
+  held-then : (s : List ℕ) (p : ℕ) → ((word (bytes " n") >> pure true) >>= f) s p ≡ (word (bytes " n") >> f true) s p
+  unfolding _>>_ _>>=_ pure andThen
+  held-then s p = go (word (bytes " n") s p)
+    where
+      go : (o : Parsed (Unit {0})) → andThen (andThen o s (λ a. pure true)) s f ≡ andThen o s (λ a. f true)
+      go (got a q) = refl
+      go (fault n) = refl
 
-abbrev FromPut : Bool → Bool → Rights → List ℕ → Type 0
-FromPut i r = Lettered 111 (FromSend i r)
+  reads-creates : Reads (creates >>= f) Created Any
+  unfolding creates _>>=_ choose given pure andThen
+  reads-creates = record {
+    only = λ s p a q e. only s p a q (standsAt (bytes " n") s p) e;
+    back = back;
+  }
+    where
+      only : (s : List ℕ) (p : ℕ) (a : A) (q : ℕ) (b : Bool)
+          → andThen (choose b (word (bytes " n") >> pure true) (pure false) s p) s f ≡ got a q → Bears Created s p a q
+      only s p a q true e =
+          bears-as (λ u (v, x, d). (true, v, x, d)) (reads-from-word (bytes " n") (r true) .only s p a q (sym (held-then s p) ∙ e))
+      only s p a q false e = bears-as (λ u x. (false, u, x, refl)) (r false .only s p a q e)
 
-abbrev FromRead : Bool → Rights → List ℕ → Type 0
-FromRead i = Lettered 114 (FromPut i)
+      back : (s : List ℕ) (p : ℕ) (a : A) (u : List ℕ) → Created a u → Stands s p u → Any (byteAt s (p + length u))
+          → andThen (choose (standsAt (bytes " n") s p) (word (bytes " n") >> pure true) (pure false) s p) s f ≡ got a (p + length u)
+      back s p a u (true, v, x, e) st d =
+          let st′ : Stands s p (bytes " n" ++ v) = subst (Stands s p) (sym e) st in
+          ap (λ (m : Reader Bool). andThen (m s p) s f)
+          (choose-true _ _ _ (stands-word (bytes " n") s p (stands-first s p (bytes " n") v st′)))
+          ∙ held-then s p ∙ reads-from-word (bytes " n") (r true) .back s p a u (v, x, e) st tt
+      back s p a u (false, v, x, e) st d =
+          ap (λ (m : Reader Bool). andThen (m s p) s f)
+          (choose-false _ _ _ (stands-no-word (bytes " n") s p (other a v s p x (subst (Stands s p) (sym e) st))))
+          ∙ r false .back s p a u (subst (R false a) e x) st tt
 
-send-other : (c : ℕ) (i r o : Bool) (x : Rights) (u : List ℕ) (d : ℕ) → (101 ≡ c → ⊥) → FromSend i r o x u → (d ≡ c → ⊥) → getD u 0 d ≡ c → ⊥
-send-other c i r o x u d g (b, v, (t, (is, n)), e) h f =
-    letter-other b 101 c v d g (λ k. h (ap (λ (w : List ℕ). getD w 0 d) n ∙ k)) (ap (λ (w : List ℕ). getD w 0 d) e ∙ f)
+-- ---- the row
+blank-row : Blank 0 (zeroRow .rights)
+unfolding zeroRow
+blank-row = record {
+  size-is = length-replicate 16 noRights;
+  none-at = λ l h g. getD-replicate 16 l noRights pastRights g;
+}
 
-put-other : (c : ℕ) (i r : Bool) (x : Rights) (u : List ℕ) (d : ℕ) → (101 ≡ c → ⊥) → (111 ≡ c → ⊥) → FromPut i r x u → (d ≡ c → ⊥) → getD u 0 d ≡ c → ⊥
-put-other c i r x u d g₁ g₂ (b, v, y, e) h f =
-    letter-other b 111 c v d g₂ (send-other c i r b x v d g₁ y h) (ap (λ (w : List ℕ). getD w 0 d) e ∙ f)
+line-end : GrantEnd 10
+line-end = record {
+  no-letter = record { no-take = λ e. omega arith; no-read = λ e. omega arith; no-put = λ e. omega arith; no-send = λ e. omega arith };
+  no-space = λ e. omega arith;
+}
 
-read-other : (c : ℕ) (i : Bool) (x : Rights) (u : List ℕ) (d : ℕ) → (101 ≡ c → ⊥) → (111 ≡ c → ⊥) → (114 ≡ c → ⊥) → FromRead i x u → (d ≡ c → ⊥) → getD u 0 d ≡ c → ⊥
-read-other c i x u d g₁ g₂ g₃ (b, v, y, e) h f =
-    letter-other b 114 c v d g₃ (put-other c i b x v d g₁ g₂ y h) (ap (λ (w : List ℕ). getD w 0 d) e ∙ f)
+-- the row that is filled
+abbrev started : Bool → Row
+started b = record { create = b; rights = zeroRow .rights }
 
-pub record RightsText (x : Rights) (u : List ℕ) : Type 0 where
-  pub some : anyRight x ≡ true
-  pub prints : rightsText x ≡ u
+abbrev Granted : Bool → Row → List ℕ → Type 0
+Granted b = Image (λ r. r) (λ r t. (u : List ℕ) × GrantsText 0 (started b) r u × (u ++ (10 ∷ []) ≡ t))
 
-rights-to : (x : Rights) (u : List ℕ) → Lettered 105 FromRead x u → RightsText x u
-unfolding rightsText bytes
-rights-to x u (i, v₁, (r, v₂, (o, v₃, (s, v₄, (t, (is, e₅)), e₄), e₃), e₂), e₁) =
-    subst (λ (y : Rights). RightsText y u) is (record {
-      some = t;
+reads-granted : (b : Bool) → Reads (grants 16 0 (started b) >>= (λ r. byte 10 >> pure r)) (Granted b) Any
+reads-granted b = reads-closed 10 (λ r. r) (reads-grants 16 0 (started b) (omega arith) (omega arith) blank-row) line-end
+
+-- what follows ` has` where ` n` is not held does not open with ` n`
+letter-n : isDigit 110 ≡ false
+unfolding isDigit Choice.both
+letter-n = refl
+
+not-held : (r : Row) (v s : List ℕ) (p : ℕ) → Granted false r v → Stands s p v → Stands s p (bytes " n") → ⊥
+unfolding bytes
+not-held r v s p (r′, (u, g, e), is) st sn = go (grants-open 0 (g .later) (let s = g .size in omega arith))
+  where
+    go : (grantsText 0 (g .later) ≡ []) ⊎ ((c : ℕ) × (w : List ℕ) × (32 ∷ c ∷ w ≡ grantsText 0 (g .later)) × (isDigit c ≡ true)) → ⊥
+    go (inl f) =
+        let is : 10 ∷ [] ≡ v = ap (λ (w : List ℕ). w ++ (10 ∷ [])) (sym f ∙ g .prints) ∙ e in
+        let same = stands-agree s p (10 ∷ []) (32 ∷ 110 ∷ []) 0 (omega arith) (omega arith) (subst (Stands s p) (sym is) st) sn in
+        omega arith
+    go (inr (c, w, f, d)) =
+        let is : 32 ∷ c ∷ (w ++ (10 ∷ [])) ≡ v = ap (λ (w : List ℕ). w ++ (10 ∷ [])) (f ∙ g .prints) ∙ e in
+        let same = stands-agree s p (32 ∷ c ∷ (w ++ (10 ∷ []))) (32 ∷ 110 ∷ []) 1 (omega arith) (omega arith) (subst (Stands s p) (sym is) st) sn in
+        no-other c 110 d letter-n same
+
+sets-all : (xs zs : List Rights) → length zs ≡ length xs → sets xs 0 zs ≡ zs
+sets-all xs zs e =
+    sets-eq zs xs 0 (omega arith) ∙ ap (λ ys. zs ++ ys) (drop-of-length-le xs {i = 0 + length zs} (omega arith)) ∙ append-nil zs
+
+filled-all : (b : Bool) (zs : List Rights) → length zs ≡ 16 → filled (started b) 0 zs ≡ record { create = b; rights = zs }
+filled-all b zs e =
+    ap (λ ys. record { create = b; rights = ys }) (sets-all (zeroRow .rights) zs (e ∙ sym (blank-row .size-is)))
+
+pub record RowText (i : ℕ) (r : Row) (u : List ℕ) : Type 0 where
+  pub whole : length (r .rights) ≡ 16
+  pub prints : rowText i r ≡ u
+
+abbrev Opened : ℕ → Row → List ℕ → Type 0
+Opened i = After (decimal i ++ bytes " has") (λ r t. (b : Bool) × (v : List ℕ) × Granted b r v × (given b (bytes " n") ++ v ≡ t))
+
+row-to : (i : ℕ) (r : Row) (u : List ℕ) → Opened i r u → RowText i r u
+unfolding rowText newline
+row-to i r u (w, (b, v, (r′, (y, g, e₁), is), e₂), e₃) =
+    let size : length (g .later) ≡ 16 = let s = g .size in omega arith in
+    subst (λ (z : Row). RowText i z u) (sym (filled-all b (g .later) size) ∙ g .is ∙ is) (record {
+      whole = size;
       prints =
-          ap (λ (w : List ℕ). given i (105 ∷ []) ++ (given r (114 ∷ []) ++ (given o (111 ∷ []) ++ w)))
-          (sym (append-nil (given s (101 ∷ []))) ∙ ap (λ (w : List ℕ). given s (101 ∷ []) ++ w) e₅ ∙ e₄)
-          ∙ ap (λ (w : List ℕ). given i (105 ∷ []) ++ (given r (114 ∷ []) ++ w)) e₃
-          ∙ ap (λ (w : List ℕ). given i (105 ∷ []) ++ w) e₂
-          ∙ e₁;
+          sym (append-assoc (decimal i) (bytes " has") _)
+          ∙ ap (λ (z : List ℕ). (decimal i ++ bytes " has") ++ (given b (bytes " n") ++ (z ++ (10 ∷ [])))) (g .prints)
+          ∙ ap (λ (z : List ℕ). (decimal i ++ bytes " has") ++ (given b (bytes " n") ++ z)) e₁
+          ∙ ap (λ (z : List ℕ). (decimal i ++ bytes " has") ++ z) e₂
+          ∙ e₃;
     })
 
-rights-from : (x : Rights) (u : List ℕ) → RightsText x u → Lettered 105 FromRead x u
-unfolding rightsText bytes
-rights-from x u y =
-    (x .take, _, (x .read, _, (x .put, _, (x .send, [], (y .some, (refl, refl)), append-nil (given (x .send) (101 ∷ []))), refl), refl), y .prints)
+row-from : (i : ℕ) (r : Row) (u : List ℕ) → RowText i r u → Opened i r u
+unfolding rowText newline
+row-from i r u x =
+    let gs = grantsText 0 (r .rights) in
+    let n = given (r .create) (bytes " n") in (
+      n ++ (gs ++ (10 ∷ [])),
+      (
+        r .create,
+        gs ++ (10 ∷ []),
+        (
+          r,
+          (
+            gs,
+            record {
+              later = r .rights;
+              size = let w = x .whole in omega arith;
+              is = filled-all (r .create) (r .rights) (x .whole);
+              prints = refl;
+            },
+            refl,
+          ),
+          refl,
+        ),
+        refl,
+      ),
+      append-assoc (decimal i) (bytes " has") (n ++ (gs ++ (10 ∷ []))) ∙ x .prints,
+    )
 
-pub reads-rights : Reads rights RightsText NoLetter
-unfolding rights
-reads-rights =
+pub reads-row : (i : ℕ) → i ≤ 15 → Reads (row i) (RowText i) Any
+unfolding row
+reads-row i h =
     reads-as
-    (reads-lettered 105 _ FromRead
-    (λ i. reads-lettered 114 _ (FromPut i)
-    (λ r. reads-lettered 111 _ (FromSend i r)
-    (λ o. reads-lettered 101 _ (Whole i r o) (λ e. reads-require _ 31 (reads-pure _))
-    (λ x u d y n f. n .no-send (ap (λ (w : List ℕ). getD w 0 d) (y .1 .1) ∙ f)))
-    (λ x u d y n. send-other 111 i r false x u d (λ f. omega arith) y (n .no-put)))
-    (λ x u d y n. put-other 114 i false x u d (λ f. omega arith) (λ f. omega arith) y (n .no-read)))
-    (λ x u d y n. read-other 105 false x u d (λ f. omega arith) (λ f. omega arith) (λ f. omega arith) y (n .no-take)))
-    rights-to rights-from (λ d e. e)
-
--- ---- some right, or none
-any-bits : (a b c d : Bool) → choose a true (choose b true (choose c true d)) ≡ not (Choice.both (Choice.both (not a) (not b)) (Choice.both (not c) (not d)))
-unfolding choose Choice.both
-any-bits true b c d = refl
-any-bits false true c d = refl
-any-bits false false true d = refl
-any-bits false false false true = refl
-any-bits false false false false = refl
-
-pub any-some : (x : Rights) → anyRight x ≡ not (isNone x)
-unfolding anyRight isNone
-any-some x = any-bits (x .take) (x .read) (x .put) (x .send)
-
-none-bits : (a b c d : Bool) → Choice.both (Choice.both (not a) (not b)) (Choice.both (not c) (not d)) ≡ true
-    → record { take = a; read = b; put = c; send = d } ≡ noRights
-unfolding noRights Choice.both
-none-bits true b c d e = never e
-none-bits false true c d e = never e
-none-bits false false true d e = never e
-none-bits false false false true e = never e
-none-bits false false false false e = refl
-
-none-is : (x : Rights) → isNone x ≡ true → x ≡ noRights
-unfolding isNone
-none-is x e = none-bits (x .take) (x .read) (x .put) (x .send) e
+    (reads-behind (decimal i ++ bytes " has") tt (reads-opening i h)
+    (reads-creates (λ c. grants 16 0 (started c) >>= (λ r. byte 10 >> pure r)) Granted reads-granted not-held))
+    (row-to i) (row-from i) (λ d e. e)
