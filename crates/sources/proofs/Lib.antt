@@ -1,11 +1,13 @@
 pub mod AllRows
 pub mod Fields
 pub mod Grants
+pub mod Lines
 pub mod Listed
 pub mod Numbers
 pub mod Processes
 pub mod ReadsPrints
 pub mod Rights
 pub mod Rows
+pub mod SourceClaims
 pub mod Stands
 pub mod Templates

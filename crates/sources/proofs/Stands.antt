@@ -70,6 +70,13 @@ pub stands-within : (s : List ℕ) (p : ℕ) (u : List ℕ) → 1 ≤ length u �
 stands-within s p u h f = let w = f .within (length u - 1) (omega arith) in omega arith
 
 -- ---- the whole text
+pub stands-fits : (s u : List ℕ) → Stands s 0 u → length u ≤ length s
+stands-fits s u f = go (decLe (length u) (length s))
+  where
+    go : Dec (length u ≤ length s) → length u ≤ length s
+    go (yes h) = h
+    go (no h) = let w = f .within (length s) (omega arith) in absurd (omega arith)
+
 pub stands-whole : (s u : List ℕ) → length u ≡ length s → Stands s 0 u → u ≡ s
 unfolding byteAt
 stands-whole s u e f =
