@@ -12,8 +12,8 @@ use Rattle.net.specs.Choice.{choose, both, implies, all}
 use Rattle.net.specs.Records.{zeroRow, rightsAt, addressOf}
 use Rattle.net.proofs.Laws.{choose-true, choose-false, both-i, all-i, all-e}
 use Rattle.sound.specs.Soundness.{isNone, rowSound}
-use Rattle.readers.specs.Reader.{Parsed, got, fault, Reader, pure, andThen, _>>=_, _>>_, require, numbered}
-use Rattle.readers.proofs.ReaderLaws.{no-fault, choose-got}
+use Rattle.readers.specs.Reader.{Parsed, got, fault, Reader, pure, andThen, _>>=_, _>>_, require}
+use Rattle.readers.proofs.ReaderLaws.{no-fault}
 use Rattle.text.specs.Bytes.{bytes}
 use Rattle.text.specs.Decimal.{decimal}
 use Rattle.lexemes.specs.Lexemes.{byteAt, isDigit, fail}
@@ -23,9 +23,9 @@ use Rattle.sources.specs.Printed.{rowText, rowsText}
 use Rattle.sources.specs.WellFormed.{Each, none, more, RowFormed}
 use Rattle.sources.proofs.Stands.{Stands, stands-none, stands-append, stands-first, stands-rest, stands-opens, stands-within}
 use Rattle.sources.proofs.ReadsPrints.{Bears, bears-as, Reads, Any, Is, reads-pure, reads-require}
-use Rattle.sources.proofs.Numbers.{NoDigit, Longer, same, again, digit-is, decimal-digits, decimal-opens, decimal-some}
+use Rattle.sources.proofs.Numbers.{low-byte, NoDigit, Longer, same, again, digit-is, decimal-digits, decimal-opens, decimal-some}
 use Rattle.sources.proofs.Rights.{any-some}
-use Rattle.sources.proofs.Rows.{stands-word, stands-no-word, stands-agree, RowText, reads-row}
+use Rattle.sources.proofs.Rows.{stands-word, stands-no-word, stands-agree, reads-row}
 
 -- ---- digits that open a line
 data Digital : List ℕ → Type 0 where
@@ -55,10 +55,6 @@ count-digits (suc k) s p (digit-more {c = c} {u = u} d r) h st e =
     ∙ ap suc (count-digits k s (suc p) r (omega arith) (subst (λ (z : ℕ). Stands s z u) at (stands-rest s p (c ∷ []) u st))
     (subst (λ (z : ℕ). NoDigit (byteAt s z)) to e))
 
-space : isDigit 32 ≡ false
-unfolding isDigit both
-space = refl
-
 -- the digits of an address, and a space behind them
 address-digits : (i : ℕ) (s : List ℕ) (p : ℕ) (v : List ℕ) → i ≤ 15 → Stands s p (decimal i ++ (32 ∷ v)) → digitsFrom (length s) s p ≡ length (decimal i)
 address-digits i s p v h st =
@@ -66,7 +62,7 @@ address-digits i s p v h st =
     let rest = stands-rest s p (decimal i) (32 ∷ v) st in
     let l = stands-within s p (decimal i) (decimal-some 15 i (omega arith) h) one in
     count-digits (length s) s p (digital-decimal i h) (omega arith) one
-    (ap isDigit (stands-opens s (p + length (decimal i)) (32 ∷ v) rest) ∙ space)
+    (ap isDigit (stands-opens s (p + length (decimal i)) (32 ∷ v) rest) ∙ (low-byte 32 (omega arith)))
 
 address-first : (i : ℕ) (s : List ℕ) (p : ℕ) (v : List ℕ) → i ≤ 15 → Stands s p (decimal i ++ v) → isDigit (byteAt s p) ≡ true
 address-first i s p v h st =

@@ -1,35 +1,34 @@
 -- Readings, addresses, tuples, templates and targets (`Fields.antt` of `fields`): what is read is what is printed. n is the
 -- number of rows. Assumes nothing.
-use Prim.Native.Nat.{ℕ, zero, suc, _+_, _-_, _<_, _≤_}
+use Prim.Native.Nat.{ℕ, suc, _+_, _-_, _<_, _≤_}
 use mathlib.Core.Path.{_≡_, refl, sym, ap, subst, _∙_}
-use mathlib.Core.Logic.{_⊎_, inl, inr}
-use mathlib.Core.Bool.{Bool, true, false}
-use mathlib.Core.List.{List, [], _∷_, _++_, append-nil, append-assoc, map}
+use mathlib.Core.Logic.{inl, inr}
+use mathlib.Core.Bool.{true, false}
+use mathlib.Core.List.{List, [], _∷_, _++_, append-assoc, map}
 use native.Mathlib.Omega.{arith}
 use lib.ListN.{length, getD, take, set, replicate, length-append, length-map}
 use lib.Seq.{set-at}
 use lib.IntN.{ℤ}
 use lib.Dec.{leb, ltb}
 use borrow.Author.Tests.{leb-true, le-leb, ltb-true, lt-ltb}
-use Rattle.net.specs.Choice.{choose, both}
-use Rattle.net.specs.Records.{addressOf, zeroField, zeroTuple, zeroTemplateField, zeroInstruction, withField, withPattern}
+use Rattle.net.specs.Choice.{both}
+use Rattle.net.specs.Records.{addressOf, zeroField, zeroTuple, withField}
 use Rattle.net.proofs.Laws.{choose-true}
-use Rattle.net.proofs.ReadingLaws.{never}
 use Rattle.readers.specs.Reader.{Parsed, got, fault, Reader, pure, andThen, _>>=_, _>>_}
 use Rattle.text.specs.Bytes.{bytes}
 use Rattle.text.specs.Decimal.{decimal, signedDecimal}
 use Rattle.lexemes.specs.Lexemes.{isDigit, number}
-use Rattle.fields.specs.Fields.{address, variable, negative, positive, reading, atAddress, own, held, addressItem, readingItem, item}
+use Rattle.fields.specs.Fields.{address, variable, negative, positive, reading, atAddress, addressItem, readingItem, item}
 use Rattle.fields.specs.Fields.{tupleField, tuple}
 use Rattle.sound.specs.Soundness.{itemSound}
 use Rattle.fresh.specs.Fresh.{readingFits, itemFits}
 use Rattle.sources.specs.Types.{Locality, Item, Field, Tuple}
 use Rattle.sources.specs.Printed.{separated, addressText, itemText, tupleText}
 use Rattle.sources.specs.WellFormed.{ItemFormed, tupleOf, TupleFormed}
-use Rattle.sources.proofs.ReadsPrints.{Reads, Any, Is, After, Or, Image, Opens, reads-as, reads-pure, reads-word, reads-from-byte, reads-from-word}
+use Rattle.sources.proofs.ReadsPrints.{Reads, Any, After, Or, Image, reads-as, reads-from-byte}
 use Rattle.sources.proofs.ReadsPrints.{reads-map, reads-tested, reads-closed, reads-choice, reads-last}
 use Rattle.sources.proofs.Listed.{FieldEnd, Fields, reads-fields}
-use Rattle.sources.proofs.Numbers.{NoDigit, reads-number, decimal-opens, no-other}
+use Rattle.sources.proofs.Numbers.{low-byte, high-byte, NoDigit, reads-number, decimal-opens, no-other}
 
 -- ---- addresses and variables
 pub record AddressText (n : ℕ) (l : Locality) (u : List ℕ) : Type 0 where
@@ -75,10 +74,6 @@ Negative =
 abbrev Positive : ℤ → List ℕ → Type 0
 Positive = Image ℤ.pos (λ v u. (v ≤ 2147483647) × (decimal v ≡ u))
 
-minus : isDigit 45 ≡ false
-unfolding isDigit both
-minus = refl
-
 positive-opens : (x : ℤ) (u : List ℕ) (d : ℕ) → Positive x u → isDigit (getD u 0 d) ≡ true
 positive-opens x u d (v, (h, e), is) =
     ap (λ (w : List ℕ). isDigit (getD w 0 d)) (sym e) ∙ decimal-opens 2147483647 v d (omega arith) h
@@ -111,7 +106,7 @@ reads-reading =
     (reads-from-byte 45 (reads-tested (leb 1) 31 (λ v. ℤ.negsuc (v - 1)) (reads-number 2147483648 (omega arith))))
     (reads-last (reads-map ℤ.pos (reads-number 2147483647 (omega arith))))
     (λ x u d y e. ap (λ (w : List ℕ). getD w 0 d) (sym (y .2)))
-    (λ x u d y e. no-other _ 45 (positive-opens x u d y) minus)
+    (λ x u d y e. no-other _ 45 (positive-opens x u d y) (low-byte 45 (omega arith)))
     .looked)
     reading-to (λ x u y. reading-from x u (y .fits) (y .prints)) (λ d e. e)
 
@@ -129,10 +124,6 @@ ItemText n before x u = ItemFormed n before x × (itemText x ≡ u)
 
 abbrev Named : ℕ → Locality → List ℕ → Type 0
 Named n = After (64 ∷ []) (AddressText n)
-
-at-sign : isDigit 64 ≡ false
-unfolding isDigit both
-at-sign = refl
 
 module _ (n : ℕ) (before : List Item) where
   item-to : (x : Item) (u : List ℕ) → Or (Image Item.Address (Named n)) (Image Item.Reading ReadingText) x u → ItemText n before x u
@@ -157,7 +148,7 @@ module _ (n : ℕ) (before : List Item) where
       reads-as
       (reads-choice 64 (reads-map Item.Address (reads-from-byte 64 (reads-address n h))) (reads-last (reads-map Item.Reading reads-reading))
       (λ x u d y e. ap (λ (w : List ℕ). getD w 0 d) (sym (y .1 .2)))
-      (λ x u d y e. reading-opens 64 at-sign (λ z. omega arith) (y .0) u d (y .1))
+      (λ x u d y e. reading-opens 64 (high-byte 64 (omega arith)) (λ z. omega arith) (y .0) u d (y .1))
       .looked)
       item-to item-from (λ d e. e)
 

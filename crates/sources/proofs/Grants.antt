@@ -6,7 +6,7 @@ use mathlib.Core.Logic.{_⊎_, inl, inr}
 use mathlib.Core.Bool.{Bool, true, false, not}
 use mathlib.Core.List.{List, [], _∷_, _++_, append-nil, append-assoc}
 use native.Mathlib.Omega.{arith}
-use lib.ListN.{length, getD, set, replicate, length-append, length-replicate, length-set, getD-replicate}
+use lib.ListN.{length, getD, set, replicate, length-append, length-replicate, length-set}
 use lib.Seq.{sets, set-getD, getD-set-other}
 use lib.Dec.{leb}
 use borrow.Author.Tests.{leb-true, le-leb}
@@ -15,7 +15,6 @@ use Rattle.net.specs.Choice as Choice
 use Rattle.net.specs.Records.{noRights, withRights, addressOf}
 use Rattle.net.proofs.Past.{pastRights}
 use Rattle.sound.specs.Soundness.{isNone}
-use Rattle.readers.specs.Reader.{Reader, pure, _>>=_, _>>_}
 use Rattle.text.specs.Bytes.{bytes}
 use Rattle.text.specs.Decimal.{decimal}
 use Rattle.lexemes.specs.Lexemes.{isDigit}
@@ -23,7 +22,7 @@ use Rattle.notation.specs.Rows.{anyRight, rights, granted, grants}
 use Rattle.sources.specs.Types.{Rights, Row}
 use Rattle.sources.specs.Printed.{given, rightsText, grantText, grantsText}
 use Rattle.sources.proofs.ReadsPrints.{Reads, Any, Is, After, Or, Then, reads-as, reads-pure, reads-then, reads-from-byte, reads-require, reads-optional}
-use Rattle.sources.proofs.Numbers.{NoDigit, reads-number, decimal-digits, digit-is}
+use Rattle.sources.proofs.Numbers.{high-byte, NoDigit, reads-number, decimal-digits, digit-is}
 use Rattle.sources.proofs.Rights.{NoLetter, RightsText, reads-rights, any-some, none-is}
 
 -- ---- an address and a colon
@@ -32,16 +31,12 @@ record GrantedText (low l : ℕ) (u : List ℕ) : Type 0 where
   within : l ≤ 15
   prints : decimal l ++ (58 ∷ []) ≡ u
 
-colon : isDigit 58 ≡ false
-unfolding isDigit Choice.both
-colon = refl
-
 reads-granted : (low : ℕ) → Reads (granted low) (GrantedText low) Any
 unfolding granted
 reads-granted low =
     reads-as
     (reads-then (reads-number 15 (omega arith)) (λ l u x. reads-require {E = Any} (leb low l) 31 (reads-from-byte 58 (reads-pure l)))
-    (λ l b u v d x y e. subst (λ (w : List ℕ). NoDigit (getD w 0 d)) (y .1 .2) colon))
+    (λ l b u v d x y e. subst (λ (w : List ℕ). NoDigit (getD w 0 d)) (y .1 .2) (high-byte 58 (omega arith))))
     (λ l t x.
     let (h, e) = x .prints in
     let (ok, (v, (is, n), f)) = x .goes-on in

@@ -3,6 +3,7 @@ pub mod Fields
 pub mod Grants
 pub mod Lines
 pub mod Listed
+pub mod NameStands
 pub mod Numbers
 pub mod Processes
 pub mod ReadsPrints

@@ -1,16 +1,15 @@
 -- The lines after the rows, and the whole text (`Lines.antt` of `notation`): what is read is what is printed. n is the number
 -- of rows. Assumes nothing.
-use Prim.Native.Nat.{ℕ, zero, suc, _+_, _-_, _<_, _≤_}
+use Prim.Native.Nat.{ℕ, zero, suc, _+_, _-_, _≤_}
 use mathlib.Core.Path.{_≡_, refl, sym, ap, subst, _∙_}
-use mathlib.Core.Logic.{_⊎_, inl, inr}
+use mathlib.Core.Logic.{inl, inr}
 use mathlib.Core.Bool.{Bool, true, false}
 use mathlib.Core.List.{List, [], _∷_, _++_, append-nil, append-assoc}
 use native.Mathlib.Omega.{arith}
 use lib.ListN.{length, getD, length-append, List·getD-eq-default}
 use lib.Dec.{leb, ltb}
-use borrow.Author.Tests.{leb-true, leb-false, le-leb, lt-leb, ltb-true, lt-ltb}
+use borrow.Author.Tests.{leb-true, le-leb, lt-leb, ltb-true, lt-ltb}
 use Rattle.net.specs.Choice.{choose}
-use Rattle.net.specs.Choice as Choice
 use Rattle.net.proofs.Laws.{choose-true, choose-false}
 use Rattle.readers.specs.Reader.{Parsed, got, fault, Reader, pure, andThen, _>>=_, _>>_}
 use Rattle.readers.proofs.ReaderLaws.{no-fault}
@@ -22,36 +21,16 @@ use Rattle.processes.specs.Reading as Reading
 use Rattle.notation.specs.Rows.{isRow, rows}
 use Rattle.notation.specs.Source.{Line, definition, process, tuple, Source}
 use Rattle.notation.specs.Lines.{processesIn, tuplesIn, counted, definitionLine, processLine, tupleLine, locatedLine, line, linesAfter, lines, source}
-use Rattle.sources.specs.Types.{Locality, Tuple, Row}
+use Rattle.sources.specs.Types.{Locality, Row}
 use Rattle.sources.specs.Printed.{newline, addressText, tupleText, processText, actionText, lineText, linesText, rowsText, printed}
-use Rattle.sources.specs.WellFormed.{Each, none, more, ProcessFormed, LineFormed, defines, runs, holds, RowFormed}
-use Rattle.sources.proofs.Stands.{Stands, stands-none, stands-append, stands-first, stands-rest, stands-opens, stands-fits, stands-whole, stands-self}
-use Rattle.sources.proofs.ReadsPrints.{Bears, bears-as, Reads, Any, Is, After, Or, Then, Image, reads-as, reads-pure, reads-then}
+use Rattle.sources.specs.WellFormed.{Each, none, more, LineFormed, defines, runs, holds, RowFormed}
+use Rattle.sources.proofs.Stands.{Stands, stands-append, stands-first, stands-rest, stands-opens, stands-fits, stands-whole, stands-self}
+use Rattle.sources.proofs.ReadsPrints.{opens-with, Bears, bears-as, Reads, Any, After, Or, Then, Image, reads-as, reads-pure, reads-then}
 use Rattle.sources.proofs.ReadsPrints.{reads-from-word, reads-require, reads-closed, reads-choice, reads-last}
-use Rattle.sources.proofs.Numbers.{NoDigit, no-other}
+use Rattle.sources.proofs.Numbers.{low-byte, high-byte, NoDigit, no-other}
 use Rattle.sources.proofs.Fields.{AddressText, reads-address, address-opens, TupleText, reads-tuple}
 use Rattle.sources.proofs.Processes.{NameText, reads-named, ProcessText, reads-process}
 use Rattle.sources.proofs.AllRows.{no-row-located, no-row-other, RowsText, only-all, back-all}
-
--- ---- bytes that are no digits
-space : isDigit 32 ≡ false
-unfolding isDigit Choice.both
-space = refl
-
-line-end : isDigit 10 ≡ false
-unfolding isDigit Choice.both
-line-end = refl
-
-letter-a : isDigit 65 ≡ false
-unfolding isDigit Choice.both
-letter-a = refl
-
-past-end : isDigit 0 ≡ false
-unfolding isDigit Choice.both
-past-end = refl
-
-opens-with : (w u : List ℕ) (d : ℕ) → w ≡ u → getD u 0 d ≡ getD w 0 d
-opens-with w u d e = ap (λ (v : List ℕ). getD v 0 d) (sym e)
 
 opens-append : (u v : List ℕ) (d : ℕ) → getD (u ++ v) 0 d ≡ getD u 0 (getD v 0 d)
 opens-append [] v d = refl
@@ -168,8 +147,8 @@ module _ (n : ℕ) where
       unfolding definitionLine Reading.process bytes
       reads-definitionLine =
           reads-then reads-named
-          (λ k u x. reads-from-word (bytes " = ") (reads-closed 10 (definition k) (reads-process n h 32) line-end))
-          (λ k l u v d x y e. subst NoDigit (sym (opens-with _ v d (y .2))) space)
+          (λ k u x. reads-from-word (bytes " = ") (reads-closed 10 (definition k) (reads-process n h 32) (low-byte 10 (omega arith))))
+          (λ k l u v d x y e. subst NoDigit (sym (opens-with _ v d (y .2))) (low-byte 32 (omega arith)))
 
       reads-tupleLine : (a : Locality) → Reads (tupleLine n ls a) (Tuples a) Any
       unfolding tupleLine
@@ -177,7 +156,7 @@ module _ (n : ℕ) where
 
       reads-processLine : (a : Locality) → Reads (processLine n ls a) (Processes a) Any
       unfolding processLine Reading.process
-      reads-processLine a = reads-require _ 22 (reads-closed 10 (process a) (reads-process n h 32) line-end)
+      reads-processLine a = reads-require _ 22 (reads-closed 10 (process a) (reads-process n h 32) (low-byte 10 (omega arith)))
 
       tuple-opens : (a : Locality) (l : Line) (u : List ℕ) (d : ℕ) → Tuples a l u → getD u 0 d ≡ 60
       unfolding tupleText bytes
@@ -196,7 +175,7 @@ module _ (n : ℕ) where
           (reads-choice 60 (reads-tupleLine a) (reads-last (reads-processLine a))
           (λ l u d y e. tuple-opens a l u d y) (λ l u d y e. process-opens a l u d y)
           .looked))
-          (λ a l u v d x y e. subst NoDigit (sym (opens-with _ v d (y .2))) space)
+          (λ a l u v d x y e. subst NoDigit (sym (opens-with _ v d (y .2))) (low-byte 32 (omega arith)))
 
       definition-opens : (l : Line) (u : List ℕ) (d : ℕ) → Definition l u → getD u 0 d ≡ 65
       unfolding bytes
@@ -212,7 +191,7 @@ module _ (n : ℕ) where
       reads-line =
           reads-as
           (reads-choice 65 reads-definitionLine (reads-last reads-locatedLine)
-          (λ l u d x e. definition-opens l u d x) (λ l u d x e. no-other _ 65 (located-opens l u d x) letter-a)
+          (λ l u d x e. definition-opens l u d x) (λ l u d x e. no-other _ 65 (located-opens l u d x) (high-byte 65 (omega arith)))
           .looked)
           line-to (λ l u x. line-from l u (x .formed) (x .prints)) (λ d e. e)
 
@@ -230,7 +209,7 @@ definition-here s p v k q st = stands-opens s p (lineText (definition k q) ++ v)
 -- and is no row
 line-no-row : (n : ℕ) (ls : List Line) (l : Line) (s : List ℕ) (p : ℕ) (v : List ℕ) → n ≤ 16 → LineFormed n ls l → Stands s p (lineText l ++ v) → isRow s p ≡ false
 unfolding lineText addressText
-line-no-row n ls l s p v h (defines {k = k} {p = q} g x) st = no-row-other s p (ap isDigit (definition-here s p v k q st) ∙ letter-a)
+line-no-row n ls l s p v h (defines {k = k} {p = q} g x) st = no-row-other s p (ap isDigit (definition-here s p v k q st) ∙ (high-byte 65 (omega arith)))
 line-no-row n ls l s p v h (runs {a = a} {p = q} g few x) st = no-row-located (a .0) s p (processText q ++ newline) (omega arith) (stands-first s p _ v st)
 line-no-row n ls l s p v h (holds {a = a} {t = t} g few x) st = no-row-located (a .0) s p (tupleText t ++ newline) (omega arith) (stands-first s p _ v st)
 
@@ -321,7 +300,7 @@ module _ (n : ℕ) (h : n ≤ 16) (s : List ℕ) where
   -- what stands behind the rows is no row
   lines-no-row : (later : List Line) (p : ℕ) → Each (LineFormed n) [] later → Stands s p (linesText later) → p + length (linesText later) ≡ length s → isRow s p ≡ false
   unfolding linesText byteAt
-  lines-no-row [] p e st end = no-row-other s p (ap isDigit (List·getD-eq-default s 0 (omega arith)) ∙ past-end)
+  lines-no-row [] p e st end = no-row-other s p (ap isDigit (List·getD-eq-default s 0 (omega arith)) ∙ (low-byte 0 (omega arith)))
   lines-no-row (l ∷ later) p (more f e) st end = line-no-row n [] l s p (linesText later) h f st
 
 -- ---- the whole text

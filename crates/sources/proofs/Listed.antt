@@ -1,29 +1,25 @@
 -- One to four fields with commas between them (`fields` of `Fields.antt`, `separated` of `specs/Printed.antt`): what is read
 -- is what is printed. One law over the fields and what they make. Assumes nothing.
 use Prim.Native.Nat.{ℕ, zero, suc, _+_, _-_, _<_, _≤_}
-use mathlib.Core.Path.{_≡_, refl, sym, ap, subst, _∙_}
-use mathlib.Core.Logic.{_⊎_, inl, inr}
-use mathlib.Core.Bool.{Bool, true, false}
+use mathlib.Core.Path.{_≡_, refl, sym, ap, _∙_}
+use mathlib.Core.Logic.{inl, inr}
+use mathlib.Core.Bool.{false}
 use mathlib.Core.List.{List, [], _∷_, _++_, append-nil, append-assoc, map}
 use native.Mathlib.Omega.{arith}
 use lib.ListN.{length, getD, length-append}
-use Rattle.net.specs.Choice.{choose, both}
+use Rattle.net.specs.Choice.{choose}
 use Rattle.readers.specs.Reader.{Parsed, got, fault, Reader, pure, andThen, _>>=_, _>>_}
-use Rattle.lexemes.specs.Lexemes.{isDigit, optional}
+use Rattle.lexemes.specs.Lexemes.{isDigit}
 use Rattle.fields.specs.Fields.{fields}
 use Rattle.sources.specs.Printed.{separated}
 use Rattle.sources.specs.WellFormed.{Each, none, more}
 use Rattle.sources.proofs.ReadsPrints.{Reads, Is, After, Or, Then, reads-as, reads-equal, reads-pure, reads-fail, reads-then, reads-optional}
-use Rattle.sources.proofs.Numbers.{NoDigit}
+use Rattle.sources.proofs.Numbers.{low-byte, NoDigit}
 
 -- behind the last field stands neither a digit nor a comma
 pub record FieldEnd (d : ℕ) : Type 0 where
   pub no-digit : isDigit d ≡ false
   pub no-comma : d ≡ 44 → ⊥
-
-comma : isDigit 44 ≡ false
-unfolding isDigit both
-comma = refl
 
 separated-more : (x : List ℕ) (ys : List (List ℕ)) → 1 ≤ length ys → separated (x ∷ ys) ≡ x ++ (44 ∷ separated ys)
 unfolding separated
@@ -150,5 +146,5 @@ module _ {X A : Type 0} (make : List X → A) (text : X → List ℕ) (R : List 
         (λ b t x. fields-to xs b t (omega arith) x) (λ b t x. fields-from xs b t x) (λ d x. x)
       where
         opens : (x : X) (b : A) (v : List ℕ) (d : ℕ) → Rest xs x b v → FieldEnd d → NoDigit (getD v 0 d)
-        opens x b v d (inl y) f = ap (λ (w : List ℕ). isDigit (getD w 0 d)) (sym (y .2)) ∙ comma
+        opens x b v d (inl y) f = ap (λ (w : List ℕ). isDigit (getD w 0 d)) (sym (y .2)) ∙ (low-byte 44 (omega arith))
         opens x b v d (inr y) f = ap (λ (w : List ℕ). isDigit (getD w 0 d)) (sym (y .1)) ∙ f .no-digit

@@ -20,11 +20,23 @@ use Rattle.text.proofs.DecimalLaws.{decimal-digit, decimal-more}
 use Rattle.lexemes.specs.Lexemes.{byteAt, look, fail, byte, isDigit, digitOf, digit, longer, another, rest, number}
 use Rattle.lexemes.proofs.NumberLaws.{digit-least, digit-most}
 use Rattle.sources.proofs.Stands.{Stands, stands-append, stands-first, stands-rest, stands-opens}
-use Rattle.sources.proofs.ReadsPrints.{Bears, Reads, Any, reads-as, reads-pure, reads-then, reads-from-byte, reads-require, Image, reads-tested}
+use Rattle.sources.proofs.ReadsPrints.{Bears, Reads, Any, reads-as, reads-pure, reads-then, reads-from-byte, reads-require, reads-tested}
 
 -- no digit follows
 abbrev pub NoDigit : ℕ → Type 0
 NoDigit d = isDigit d ≡ false
+
+-- bytes that are no digits
+pub low-byte : (c : ℕ) → c < 48 → isDigit c ≡ false
+unfolding isDigit both
+low-byte c h = rw (lt-leb 48 c h)
+
+pub high-byte : (c : ℕ) → 57 < c → isDigit c ≡ false
+high-byte c h = go (isDigit c) refl
+  where
+    go : (b : Bool) → isDigit c ≡ b → isDigit c ≡ false
+    go true e = let l = digit-least c e in let m = digit-most c e in absurd (omega arith)
+    go false e = e
 
 -- ---- digits
 pub digit-is : (d : ℕ) → d < 10 → isDigit (48 + d) ≡ true

@@ -2,19 +2,18 @@
 -- Assumes nothing.
 use Prim.Native.Nat.{ℕ, zero, suc, _+_, _-_, _<_, _≤_}
 use mathlib.Core.Path.{_≡_, refl, sym, ap, subst, _∙_}
-use mathlib.Core.Logic.{_⊎_, inl, inr}
+use mathlib.Core.Logic.{inl, inr}
 use mathlib.Core.Bool.{Bool, true, false}
 use mathlib.Core.List.{List, [], _∷_, _++_}
 use native.Mathlib.Omega.{arith}
 use lib.ListN.{length, getD, length-append}
-use lib.Dec.{eqb}
 use Rattle.net.specs.Choice.{choose}
 use Rattle.net.specs.Choice as Choice
 use Rattle.net.proofs.Laws.{choose-true, choose-false}
-use Rattle.readers.specs.Reader.{Parsed, got, Reader, pure, _>>=_, _>>_}
+use Rattle.readers.specs.Reader.{got, Reader, pure, _>>=_, _>>_}
 use Rattle.text.specs.Bytes.{bytes}
 use Rattle.text.specs.Decimal.{decimal}
-use Rattle.lexemes.specs.Lexemes.{byteAt, isDigit}
+use Rattle.lexemes.specs.Lexemes.{byteAt}
 use Rattle.terms.specs.Terms.{Process, Action, nil, name, fork, act, out, input, read, eval, newloc}
 use Rattle.processes.specs.Reading.{named, atTarget, communication, evaluation, creation, simple, action, forked, stopped, called}
 use Rattle.processes.specs.Reading.{endsChain, ended, acting, chain, processAt}
@@ -22,31 +21,16 @@ use Rattle.sources.specs.Types.{Target, Instruction}
 use Rattle.sources.specs.Printed.{templateText, targetText, processText, actionText}
 use Rattle.sources.specs.WellFormed.{ProcessFormed, stop, call, both, first, ActionFormed, puts, takes, reads, sends, opens}
 use Rattle.sources.proofs.Stands.{Stands, stands-within}
-use Rattle.sources.proofs.ReadsPrints.{Bears, bears-as, Reads, Any, Is, After, Or, Then, Image, reads-as, reads-pure, reads-fail, reads-then, reads-from-byte}
+use Rattle.sources.proofs.ReadsPrints.{opens-with, Bears, bears-as, Reads, Is, After, Or, Then, Image, reads-as, reads-pure, reads-fail, reads-then, reads-from-byte}
 use Rattle.sources.proofs.ReadsPrints.{reads-from-word, reads-map, reads-closed, reads-choice, reads-last}
-use Rattle.sources.proofs.Numbers.{NoDigit, reads-number, decimal-digits}
+use Rattle.sources.proofs.Numbers.{low-byte, NoDigit, reads-number, decimal-digits}
 use Rattle.sources.proofs.Listed.{FieldEnd}
 use Rattle.sources.proofs.Fields.{VariableText, reads-variable}
 use Rattle.sources.proofs.Templates.{TemplateText, reads-template, TargetText, reads-target}
 
 -- ---- bytes that end a number or the fields of a template
-closes : isDigit 41 ≡ false
-unfolding isDigit Choice.both
-closes = refl
-
-dot : isDigit 46 ≡ false
-unfolding isDigit Choice.both
-dot = refl
-
-blank : isDigit 32 ≡ false
-unfolding isDigit Choice.both
-blank = refl
-
 closes-fields : FieldEnd 41
-closes-fields = record { no-digit = closes; no-comma = λ e. omega arith }
-
-opens-with : (w u : List ℕ) (d : ℕ) → w ≡ u → getD u 0 d ≡ getD w 0 d
-opens-with w u d e = ap (λ (v : List ℕ). getD v 0 d) (sym e)
+closes-fields = record { no-digit = (low-byte 41 (omega arith)); no-comma = λ e. omega arith }
 
 -- ---- names
 pub record NameText (k : ℕ) (u : List ℕ) : Type 0 where
@@ -96,12 +80,12 @@ module _ (n : ℕ) (h : n ≤ 16) where
   unfolding evaluation
   reads-evaluation inner Inner r =
       reads-from-word (bytes "eval(")
-      (reads-then r (λ p u x. reads-atTarget (eval p)) (λ p a u v d x y e. subst NoDigit (sym (target-closes (eval p) a v d y)) closes))
+      (reads-then r (λ p u x. reads-atTarget (eval p)) (λ p a u v d x y e. subst NoDigit (sym (target-closes (eval p) a v d y)) (low-byte 41 (omega arith))))
 
 reads-creation : Reads creation Creation NoDigit
 unfolding creation
 reads-creation =
-    reads-as (reads-from-word (bytes "newloc(u") (reads-closed 41 newloc reads-variable closes)) (λ a u x. x) (λ a u x. x) (λ d e. tt)
+    reads-as (reads-from-word (bytes "newloc(u") (reads-closed 41 newloc reads-variable (low-byte 41 (omega arith)))) (λ a u x. x) (λ a u x. x) (λ d e. tt)
 
 abbrev Simple₃ : ℕ → Action → List ℕ → Type 0
 Simple₃ n = Or (Communication (bytes "read(") true read n) Creation
@@ -383,8 +367,8 @@ module _ (n : ℕ) where
   reads-forked d inner r =
       reads-as
       (reads-from-byte 40
-      (reads-then r (λ p u x. reads-from-word (bytes " | ") (reads-closed 41 (fork p) r closes))
-      (λ p a u v e x y f. subst NoDigit (sym (opens-with _ v e (y .2))) blank)))
+      (reads-then r (λ p u x. reads-from-word (bytes " | ") (reads-closed 41 (fork p) r (low-byte 41 (omega arith))))
+      (λ p a u v e x y f. subst NoDigit (sym (opens-with _ v e (y .2))) (low-byte 32 (omega arith)))))
       (λ p u x. x) (λ p u x. x) (λ e f. tt)
 
   reads-ended : (d : ℕ) (inner : Reader Process) → Reads inner (Deeper n d) NoDigit → Reads (ended inner) (EndText n d) NoDigit
@@ -472,7 +456,7 @@ module _ (n : ℕ) where
         reads-as
         (reads-by-two endsChain (ended inner) _ (reads-ended d inner r)
         (reads-then (reads-action n h d inner r) (λ a u x. reads-from-byte 46 (reads-map (act a) (reads-chain k)))
-        (λ a p u v e x y f. subst NoDigit (sym (opens-with _ v e (y .2))) dot))
+        (λ a p u v e x y f. subst NoDigit (sym (opens-with _ v e (y .2))) (low-byte 46 (omega arith))))
         (λ p u x. subst (Two endsChain true) (x .text .prints) (end-two d p (x .text .formed) (x .bare)))
         (λ p u x.
         subst (Two endsChain false) (x .is)

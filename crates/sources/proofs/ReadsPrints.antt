@@ -1,7 +1,7 @@
 -- A logic of readers and printings: a reader (`Reader.antt` of `readers`) gives a value exactly where the bytes that are
 -- printed for it stand, and goes on behind them. What stands behind a printing may be asked not to go on with it, as a
 -- number's digits. One law for each way to make a reader. Assumes nothing.
-use Prim.Native.Nat.{ℕ, zero, suc, _+_, _<_, _≤_}
+use Prim.Native.Nat.{ℕ, _+_}
 use mathlib.Core.Path.{_≡_, refl, sym, ap, subst, _∙_}
 use mathlib.Core.Bool.{Bool, true, false}
 use mathlib.Core.Logic.{_⊎_, inl, inr}
@@ -9,10 +9,10 @@ use mathlib.Core.List.{List, [], _∷_, _++_, append-nil}
 use native.Mathlib.Omega.{arith}
 use lib.ListN.{length, getD, length-append}
 use lib.Dec.{eqb, ltb}
-use borrow.Author.Tests.{ltb-true, lt-ltb, eqb-true, eqb-false, eq-eqb, ne-eqb}
+use borrow.Author.Tests.{ltb-true, lt-ltb, eqb-true, eq-eqb, ne-eqb}
 use Rattle.net.specs.Choice.{choose, both}
 use Rattle.net.proofs.Laws.{both-i, both-l, both-r, choose-true, choose-false}
-use Rattle.readers.specs.Reader.{Parsed, got, fault, Reader, pure, andThen, _>>=_, _>>_, require, numbered}
+use Rattle.readers.specs.Reader.{Parsed, got, fault, Reader, pure, andThen, _>>=_, _>>_, require}
 use Rattle.readers.proofs.ReaderLaws.{no-fault, choose-got}
 use Rattle.lexemes.specs.Lexemes.{byteAt, look, fail, byte, word, present, optional}
 use Rattle.sources.proofs.Stands.{Stands, stands-none, stands-one, stands-append, stands-first, stands-rest, stands-opens}
@@ -269,6 +269,10 @@ Or R Q a u = R a u ⊎ Q a u
 -- R prints something that begins with a byte as X says, where what follows is as E asks
 abbrev pub Opens : {A : Type 0} → (A → List ℕ → Type 0) → (ℕ → Type 0) → (ℕ → Type 0) → Type 0
 Opens {A} R E X = (a : A) (u : List ℕ) (d : ℕ) → R a u → E d → X (getD u 0 d)
+
+-- what a text opens with
+pub opens-with : (w u : List ℕ) (d : ℕ) → w ≡ u → getD u 0 d ≡ getD w 0 d
+opens-with w u d e = ap (λ (v : List ℕ). getD v 0 d) (sym e)
 
 -- readers that the byte here decides on
 pub record Looks {A : Type 0} (f : ℕ → Reader A) (R : A → List ℕ → Type 0) (E : ℕ → Type 0) : Type 0 where

@@ -1,31 +1,24 @@
 -- The rights over an address (`rights` of `Rows.antt` of `notation`): what is read is what is printed. Assumes nothing.
-use Prim.Native.Nat.{ℕ, zero, suc, _+_, _-_, _<_, _≤_}
+use Prim.Native.Nat.{ℕ, _+_, _-_}
 use mathlib.Core.Path.{_≡_, refl, sym, ap, subst, _∙_}
-use mathlib.Core.Logic.{_⊎_, inl, inr}
+use mathlib.Core.Logic.{inl, inr}
 use mathlib.Core.Bool.{Bool, true, false, not}
 use mathlib.Core.List.{List, [], _∷_, _++_, append-nil}
 use native.Mathlib.Omega.{arith}
-use lib.ListN.{length, getD, set, drop, replicate, length-append, length-replicate, length-set, getD-replicate, drop-of-length-le}
-use lib.Seq.{sets, sets-eq, set-getD, getD-set-other}
-use lib.Dec.{eqb, leb}
-use borrow.Author.Tests.{leb-true, le-leb, eqb-true, eq-eqb}
+use lib.ListN.{getD}
 use Rattle.net.specs.Choice.{choose}
 use Rattle.net.specs.Choice as Choice
-use Rattle.net.specs.Records.{noRights, zeroRow, rightsAt, withRights, addressOf}
+use Rattle.net.specs.Records.{noRights}
 use Rattle.net.proofs.ReadingLaws.{never}
-use Rattle.net.proofs.Past.{pastRights}
 use Rattle.sound.specs.Soundness.{isNone}
-use Rattle.readers.specs.Reader.{Parsed, got, fault, Reader, pure, andThen, _>>=_, _>>_, require}
+use Rattle.readers.specs.Reader.{Reader, _>>=_, _>>_}
 use Rattle.text.specs.Bytes.{bytes}
-use Rattle.text.specs.Decimal.{decimal}
-use Rattle.lexemes.specs.Lexemes.{byteAt, isDigit, byte, word, optional, number}
-use Rattle.notation.specs.Rows.{isGot, standsAt, anyRight, rights, granted, grants, creates, opening, row}
-use Rattle.sources.specs.Types.{Rights, Row}
-use Rattle.sources.specs.Printed.{newline, given, rightsText, grantText, grantsText, rowText}
-use Rattle.sources.proofs.Stands.{Stands, stands-first, stands-opens}
-use Rattle.sources.proofs.ReadsPrints.{Bears, bears-as, Reads, Any, Is, After, Or, Then, Image, reads-as, reads-equal, reads-pure, reads-then}
-use Rattle.sources.proofs.ReadsPrints.{reads-behind, reads-word, reads-from-byte, reads-from-word, reads-require, reads-closed, reads-optional}
-use Rattle.sources.proofs.Numbers.{NoDigit, reads-number, decimal-digits, digit-is, no-other}
+use Rattle.lexemes.specs.Lexemes.{optional}
+use Rattle.notation.specs.Rows.{anyRight, rights}
+use Rattle.sources.specs.Types.{Rights}
+use Rattle.sources.specs.Printed.{given, rightsText}
+use Rattle.sources.proofs.ReadsPrints.{Reads, Is, After, Or, reads-as, reads-pure}
+use Rattle.sources.proofs.ReadsPrints.{reads-require, reads-optional}
 
 -- ---- rights: letters that may stand, in their order
 

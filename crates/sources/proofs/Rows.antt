@@ -1,16 +1,15 @@
 -- One row, with its newline (`row` of `Rows.antt` of `notation`): what is read is what is printed. Assumes nothing.
-use Prim.Native.Nat.{ℕ, zero, suc, _+_, _-_, _<_, _≤_}
+use Prim.Native.Nat.{ℕ, _+_, _-_, _<_, _≤_}
 use mathlib.Core.Path.{_≡_, refl, sym, ap, subst, _∙_}
 use mathlib.Core.Logic.{_⊎_, inl, inr}
 use mathlib.Core.Bool.{Bool, true, false}
 use mathlib.Core.List.{List, [], _∷_, _++_, append-nil, append-assoc}
 use native.Mathlib.Omega.{arith}
-use lib.ListN.{length, getD, replicate, length-replicate, getD-replicate, drop-of-length-le}
+use lib.ListN.{length, getD, length-replicate, getD-replicate, drop-of-length-le}
 use lib.Seq.{sets, sets-eq}
 use lib.Dec.{eqb}
 use borrow.Author.Tests.{eqb-true, eq-eqb}
 use Rattle.net.specs.Choice.{choose}
-use Rattle.net.specs.Choice as Choice
 use Rattle.net.specs.Records.{noRights, zeroRow}
 use Rattle.net.proofs.Laws.{choose-true, choose-false}
 use Rattle.net.proofs.Past.{pastRights}
@@ -22,22 +21,18 @@ use Rattle.notation.specs.Rows.{isGot, standsAt, grants, creates, opening, row}
 use Rattle.sources.specs.Types.{Rights, Row}
 use Rattle.sources.specs.Printed.{newline, given, grantsText, rowText}
 use Rattle.sources.proofs.Stands.{Stands, stands-first}
-use Rattle.sources.proofs.ReadsPrints.{Bears, bears-as, Reads, Any, Is, After, Or, Then, Image, reads-as, reads-pure, reads-then, reads-behind}
+use Rattle.sources.proofs.ReadsPrints.{Bears, bears-as, Reads, Any, After, Image, reads-as, reads-then, reads-behind}
 use Rattle.sources.proofs.ReadsPrints.{reads-word, reads-from-word, reads-require, reads-closed}
-use Rattle.sources.proofs.Numbers.{NoDigit, reads-number, no-other}
+use Rattle.sources.proofs.Numbers.{low-byte, high-byte, NoDigit, reads-number, no-other}
 use Rattle.sources.proofs.Grants.{Blank, GrantsText, GrantEnd, filled, grants-open, reads-grants}
 
 -- ---- the number of the row's address, and ` has`
-space : isDigit 32 ≡ false
-unfolding isDigit Choice.both
-space = refl
-
 reads-opening : (i : ℕ) → i ≤ 15 → Reads (opening i) (λ a u. decimal i ++ bytes " has" ≡ u) Any
 unfolding opening bytes
 reads-opening i h =
     reads-as
     (reads-then (reads-number 15 (omega arith)) (λ l u x. reads-require (eqb l i) 31 (reads-word (bytes " has")))
-    (λ l a u v d x y e. subst (λ (w : List ℕ). NoDigit (getD w 0 d)) (y .1) space))
+    (λ l a u v d x y e. subst (λ (w : List ℕ). NoDigit (getD w 0 d)) (y .1) (low-byte 32 (omega arith))))
     (λ a t x.
     let is = eqb-true (x .one) i (x .goes-on .0) in
     ap (λ (k : ℕ). decimal k ++ bytes " has") (sym is) ∙ ap (λ (w : List ℕ). w ++ bytes " has") (x .prints .1)
@@ -144,10 +139,6 @@ reads-granted : (b : Bool) → Reads (grants 16 0 (started b) >>= (λ r. byte 10
 reads-granted b = reads-closed 10 (λ r. r) (reads-grants 16 0 (started b) (omega arith) (omega arith) blank-row) line-end
 
 -- what follows ` has` where ` n` is not held does not open with ` n`
-letter-n : isDigit 110 ≡ false
-unfolding isDigit Choice.both
-letter-n = refl
-
 not-held : (r : Row) (v s : List ℕ) (p : ℕ) → Granted false r v → Stands s p v → Stands s p (bytes " n") → ⊥
 unfolding bytes
 not-held r v s p (r′, (u, g, e), is) st sn = go (grants-open 0 (g .later) (let s = g .size in omega arith))
@@ -160,7 +151,7 @@ not-held r v s p (r′, (u, g, e), is) st sn = go (grants-open 0 (g .later) (let
     go (inr (c, w, f, d)) =
         let is : 32 ∷ c ∷ (w ++ (10 ∷ [])) ≡ v = ap (λ (w : List ℕ). w ++ (10 ∷ [])) (f ∙ g .prints) ∙ e in
         let same = stands-agree s p (32 ∷ c ∷ (w ++ (10 ∷ []))) (32 ∷ 110 ∷ []) 1 (omega arith) (omega arith) (subst (Stands s p) (sym is) st) sn in
-        no-other c 110 d letter-n same
+        no-other c 110 d (high-byte 110 (omega arith)) same
 
 sets-all : (xs zs : List Rights) → length zs ≡ length xs → sets xs 0 zs ≡ zs
 sets-all xs zs e =

@@ -1,11 +1,10 @@
 -- A text is accepted with a net exactly when a well-formed source prints it and is compiled to the net: the claims of
 -- `specs/SourceClaims.antt`. Assumes nothing.
-use Prim.Native.Nat.{ℕ, _≤_}
-use mathlib.Core.Path.{_≡_, refl, sym, ap, _∙_}
+use Prim.Native.Nat.{ℕ}
+use mathlib.Core.Path.{_≡_, refl, ap, _∙_}
 use mathlib.Core.Bool.{Bool, true, false}
 use mathlib.Core.List.{List}
 use native.Mathlib.Omega.{arith}
-use lib.ListN.{length}
 use Rattle.net.specs.Choice.{choose, inRange}
 use Rattle.net.proofs.Laws.{choose-true, in-range, in-range-low, in-range-high}
 use Rattle.keeping.specs.Admission.{admits}

@@ -2,55 +2,32 @@
 -- Assumes nothing.
 use Prim.Native.Nat.{ℕ, _+_, _-_, _<_, _≤_}
 use mathlib.Core.Path.{_≡_, refl, sym, ap, subst, _∙_}
-use mathlib.Core.Logic.{_⊎_, inl, inr}
+use mathlib.Core.Logic.{inl, inr}
 use mathlib.Core.Bool.{Bool, true, false}
 use mathlib.Core.List.{List, [], _∷_, _++_, map}
 use native.Mathlib.Omega.{arith}
 use lib.ListN.{length, getD, set, replicate, length-append}
-use lib.Dec.{ltb}
 use borrow.Author.Tests.{ltb-true, lt-ltb}
-use Rattle.net.specs.Choice.{both}
 use Rattle.net.specs.Records.{zeroTemplateField, zeroInstruction, withPattern}
 use Rattle.net.proofs.Laws.{choose-true}
 use Rattle.net.proofs.ReadingLaws.{never}
-use Rattle.readers.specs.Reader.{Reader, pure, _>>=_, _>>_}
+use Rattle.readers.specs.Reader.{pure, _>>=_, _>>_}
 use Rattle.text.specs.Bytes.{bytes}
-use Rattle.text.specs.Decimal.{decimal, signedDecimal}
+use Rattle.text.specs.Decimal.{decimal}
 use Rattle.lexemes.specs.Lexemes.{isDigit}
 use Rattle.fields.specs.Fields.{own, held, atAddress, addressPattern, ownPattern, heldPattern, readingPattern, fresh, formalReading}
 use Rattle.fields.specs.Fields.{formalAddress, bound, formal, pattern, templateField, template, ownTarget, heldTarget, writtenTarget, target}
 use Rattle.sound.specs.Soundness.{targetSound, patternSound, isActual, unboundBefore, bindsAnew}
-use Rattle.fresh.specs.Fresh.{readingFits, patternFits}
+use Rattle.fresh.specs.Fresh.{patternFits}
 use Rattle.sources.specs.Types.{Locality, Target, Pattern, TemplateField, Instruction}
 use Rattle.sources.specs.Printed.{separated, addressText, patternText, templateText, targetText}
 use Rattle.sources.specs.WellFormed.{PatternFormed, templateOf, TemplateFormed, TargetFormed}
-use Rattle.sources.proofs.ReadsPrints.{Reads, Any, Is, After, Or, Image, reads-as, reads-pure, reads-from-byte, reads-from-word, reads-require}
+use Rattle.sources.proofs.ReadsPrints.{opens-with, Reads, Is, After, Or, Image, reads-as, reads-pure, reads-from-byte, reads-from-word, reads-require}
 use Rattle.sources.proofs.ReadsPrints.{reads-map, reads-tested, reads-choice, reads-last}
-use Rattle.sources.proofs.Numbers.{NoDigit, no-other}
+use Rattle.sources.proofs.Numbers.{low-byte, high-byte, NoDigit, no-other}
 use Rattle.sources.proofs.Listed.{FieldEnd, Fields, reads-fields}
 use Rattle.sources.proofs.Fields.{AddressText, reads-address, address-opens, VariableText, reads-variable, ReadingText, reads-reading}
 use Rattle.sources.proofs.Fields.{reading-opens, filled-next, filled-text, then-same}
-
--- bytes that are no digits
-mark : isDigit 33 ≡ false
-unfolding isDigit both
-mark = refl
-
-at-sign : isDigit 64 ≡ false
-unfolding isDigit both
-at-sign = refl
-
-letter-s : isDigit 115 ≡ false
-unfolding isDigit both
-letter-s = refl
-
-letter-v : isDigit 118 ≡ false
-unfolding isDigit both
-letter-v = refl
-
--- what a text opens with
-opens : (w u : List ℕ) (d : ℕ) → w ≡ u → getD u 0 d ≡ getD w 0 d
-opens w u d e = ap (λ (v : List ℕ). getD v 0 d) (sym e)
 
 -- ---- parts that templates and targets share
 abbrev Named : ℕ → Locality → List ℕ → Type 0
@@ -89,8 +66,8 @@ module _ (formals : Bool) (n : ℕ) (before : List Pattern) where
       (reads-from-byte 33
       (reads-choice 120 (reads-from-byte 120 (reads-map Pattern.FormalReading reads-fresh))
       (reads-last (reads-from-byte 117 (reads-map Pattern.FormalAddress reads-fresh)))
-      (λ x u d y e. opens _ u d (y .2))
-      (λ x u d y e f. let g = opens _ u d (y .2) in omega arith)
+      (λ x u d y e. opens-with _ u d (y .2))
+      (λ x u d y e f. let g = opens-with _ u d (y .2) in omega arith)
       .looked))
 
   abbrev Actual₃ : Pattern → List ℕ → Type 0
@@ -104,18 +81,18 @@ module _ (formals : Bool) (n : ℕ) (before : List Pattern) where
 
   other₃ : (c : ℕ) → isDigit c ≡ false → (45 ≡ c → ⊥) → (118 ≡ c → ⊥) → (x : Pattern) (u : List ℕ) (d : ℕ) → Actual₃ x u
       → getD u 0 d ≡ c → ⊥
-  other₃ c h g₁ g₂ x u d (inl y) e = g₂ (sym (opens _ u d (y .1 .2)) ∙ e)
+  other₃ c h g₁ g₂ x u d (inl y) e = g₂ (sym (opens-with _ u d (y .1 .2)) ∙ e)
   other₃ c h g₁ g₂ x u d (inr y) e = reading-opens c h g₁ (y .0) u d (y .1) e
 
   other₂ : (c : ℕ) → isDigit c ≡ false → (45 ≡ c → ⊥) → (118 ≡ c → ⊥) → (115 ≡ c → ⊥) → (x : Pattern) (u : List ℕ) (d : ℕ)
       → Actual₂ x u → getD u 0 d ≡ c → ⊥
   unfolding bytes
-  other₂ c h g₁ g₂ g₃ x u d (inl y) e = g₃ (sym (opens _ u d (y .2)) ∙ e)
+  other₂ c h g₁ g₂ g₃ x u d (inl y) e = g₃ (sym (opens-with _ u d (y .2)) ∙ e)
   other₂ c h g₁ g₂ g₃ x u d (inr y) e = other₃ c h g₁ g₂ x u d y e
 
   other₁ : (x : Pattern) (u : List ℕ) (d : ℕ) → Actual₁ x u → getD u 0 d ≡ 33 → ⊥
-  other₁ x u d (inl y) e = let g = opens _ u d (y .1 .2) in omega arith
-  other₁ x u d (inr y) e = other₂ 33 mark (λ f. omega arith) (λ f. omega arith) (λ f. omega arith) x u d y e
+  other₁ x u d (inl y) e = let g = opens-with _ u d (y .1 .2) in omega arith
+  other₁ x u d (inr y) e = other₂ 33 (low-byte 33 (omega arith)) (λ f. omega arith) (λ f. omega arith) (λ f. omega arith) x u d y e
 
   pattern-to : (x : Pattern) (u : List ℕ) → Or Formal Actual₁ x u → PatternText x u
   unfolding patternText patternSound patternFits isActual bindsAnew bytes templateOf
@@ -175,13 +152,13 @@ module _ (formals : Bool) (n : ℕ) (before : List Pattern) where
       (reads-choice 64 (reads-map Pattern.Address (reads-from-byte 64 (reads-address n h)))
       (reads-choice 115 (reads-from-word (bytes "self") (reads-pure Pattern.Own))
       (reads-choice 118 (reads-map Pattern.Held (reads-from-byte 118 reads-variable)) (reads-last (reads-map Pattern.Reading reads-reading))
-      (λ x u d y e. opens _ u d (y .1 .2))
-      (λ x u d y e. reading-opens 118 letter-v (λ f. omega arith) (y .0) u d (y .1)))
-      (λ x u d y e. opens _ u d (y .2))
-      (λ x u d y e. other₃ 115 letter-s (λ f. omega arith) (λ f. omega arith) x u d y))
-      (λ x u d y e. opens _ u d (y .1 .2))
-      (λ x u d y e. other₂ 64 at-sign (λ f. omega arith) (λ f. omega arith) (λ f. omega arith) x u d y))
-      (λ x u d y e. opens _ u d (y .1 .2))
+      (λ x u d y e. opens-with _ u d (y .1 .2))
+      (λ x u d y e. reading-opens 118 (high-byte 118 (omega arith)) (λ f. omega arith) (y .0) u d (y .1)))
+      (λ x u d y e. opens-with _ u d (y .2))
+      (λ x u d y e. other₃ 115 (high-byte 115 (omega arith)) (λ f. omega arith) (λ f. omega arith) x u d y))
+      (λ x u d y e. opens-with _ u d (y .1 .2))
+      (λ x u d y e. other₂ 64 (high-byte 64 (omega arith)) (λ f. omega arith) (λ f. omega arith) (λ f. omega arith) x u d y))
+      (λ x u d y e. opens-with _ u d (y .1 .2))
       (λ x u d y e. other₁ x u d y)
       .looked)
       pattern-to pattern-from (λ d e. e)
@@ -271,8 +248,8 @@ module _ (n : ℕ) where
 
   module _ (h : n ≤ 16) where
     target-other : (t : Target) (u : List ℕ) (d : ℕ) → Target₂ t u → getD u 0 d ≡ 115 → ⊥
-    target-other t u d (inl y) e = let g = opens _ u d (y .1 .2) in omega arith
-    target-other t u d (inr y) e = no-other _ 115 (address-opens n h (y .0) u d (y .1)) letter-s e
+    target-other t u d (inl y) e = let g = opens-with _ u d (y .1 .2) in omega arith
+    target-other t u d (inr y) e = no-other _ 115 (address-opens n h (y .0) u d (y .1)) (high-byte 115 (omega arith)) e
 
     pub reads-target : Reads (target n) (TargetText n) NoDigit
     unfolding target ownTarget heldTarget writtenTarget own held bytes
@@ -280,8 +257,8 @@ module _ (n : ℕ) where
         reads-as
         (reads-choice 115 (reads-from-word (bytes "self") (reads-pure Target.Own))
         (reads-choice 118 (reads-map Target.Held (reads-from-byte 118 reads-variable)) (reads-last (reads-map Target.Written (reads-address n h)))
-        (λ t u d y e. opens _ u d (y .1 .2))
-        (λ t u d y e. no-other _ 118 (address-opens n h (y .0) u d (y .1)) letter-v))
-        (λ t u d y e. opens _ u d (y .2)) (λ t u d y e. target-other t u d y)
+        (λ t u d y e. opens-with _ u d (y .1 .2))
+        (λ t u d y e. no-other _ 118 (address-opens n h (y .0) u d (y .1)) (high-byte 118 (omega arith))))
+        (λ t u d y e. opens-with _ u d (y .2)) (λ t u d y e. target-other t u d y)
         .looked)
         target-to (λ t u x. target-from t u (x .formed .in-range) (x .prints)) (λ d e. e)
