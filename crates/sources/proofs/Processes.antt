@@ -7,8 +7,7 @@ use mathlib.Core.Bool.{Bool, true, false}
 use mathlib.Core.List.{List, [], _∷_, _++_}
 use native.Mathlib.Omega.{arith}
 use lib.ListN.{length, getD, length-append}
-use Rattle.net.specs.Choice.{choose}
-use Rattle.net.specs.Choice as Choice
+use Rattle.net.specs.Choice.{choose, both}
 use Rattle.net.proofs.Laws.{choose-true, choose-false}
 use Rattle.readers.specs.Reader.{got, Reader, pure, _>>=_, _>>_}
 use Rattle.text.specs.Bytes.{bytes}
@@ -19,7 +18,7 @@ use Rattle.processes.specs.Reading.{named, atTarget, communication, evaluation,
 use Rattle.processes.specs.Reading.{endsChain, ended, acting, chain, processAt}
 use Rattle.sources.specs.Types.{Target, Instruction}
 use Rattle.sources.specs.Printed.{templateText, targetText, processText, actionText}
-use Rattle.sources.specs.WellFormed.{ProcessFormed, stop, call, both, first, ActionFormed, puts, takes, reads, sends, opens}
+use Rattle.sources.specs.WellFormed.{ProcessFormed, stops, calls, forks, acts, ActionFormed, puts, takes, reads, sends, opens}
 use Rattle.sources.proofs.Stands.{Stands, stands-within}
 use Rattle.sources.proofs.ReadsPrints.{opens-with, Bears, bears-as, Reads, Is, After, Or, Then, Image, reads-as, reads-pure, reads-fail, reads-then, reads-from-byte}
 use Rattle.sources.proofs.ReadsPrints.{reads-from-word, reads-map, reads-closed, reads-choice, reads-last}
@@ -317,14 +316,14 @@ module _ (n : ℕ) where
   unfolding processText Deeper actions bytes
   ends-to d p u (inl (k, x, is)) =
       subst (λ (q : Process). EndText n d q u) is
-      (record { text = record { formed = call (x .in-range); prints = x .prints }; bare = refl })
+      (record { text = record { formed = calls (x .in-range); prints = x .prints }; bare = refl })
   ends-to zero p u (inr (inl (y, x, j))) = absurd (x .prints)
   ends-to (suc d) p u (inr (inl (y, x, j))) =
       let (w, (q, (v, g, f), is), i) = x .goes-on in
       let r = x .one in
       subst (λ (z : Process). EndText n (suc d) z u) is (record {
         text = record {
-          formed = both (x .prints .formed) (g .formed);
+          formed = forks (x .prints .formed) (g .formed);
           prints =
               ap (λ (b : List ℕ). 40 ∷ (processText r ++ (bytes " | " ++ (b ++ (41 ∷ []))))) (g .prints)
               ∙ ap (λ (b : List ℕ). 40 ∷ (processText r ++ (bytes " | " ++ b))) f
@@ -337,13 +336,13 @@ module _ (n : ℕ) where
       })
   ends-to d p u (inr (inr (w, (is, e), f))) =
       subst (λ (q : Process). EndText n d q u) is
-      (record { text = record { formed = stop; prints = ap (λ (b : List ℕ). bytes "nil" ++ b) e ∙ f }; bare = refl })
+      (record { text = record { formed = stops; prints = ap (λ (b : List ℕ). bytes "nil" ++ b) e ∙ f }; bare = refl })
 
   ends-from : (d : ℕ) (p : Process) (u : List ℕ) → ProcessFormed n d p → processText p ≡ u → actions p ≡ 0 → Ends n d p u
   unfolding processText Deeper actions bytes
-  ends-from d p u stop e b = inr (inr ([], (refl, refl), e))
-  ends-from d p u (call {k = k} h) e b = inl (k, record { in-range = h; prints = e }, refl)
-  ends-from d p u (both {p = q} {q = r} x y) e b = inr (inl (
+  ends-from d p u stops e b = inr (inr ([], (refl, refl), e))
+  ends-from d p u (calls {k = k} h) e b = inl (k, record { in-range = h; prints = e }, refl)
+  ends-from d p u (forks {p = q} {q = r} x y) e b = inr (inl (
     processText q ++ (bytes " | " ++ (processText r ++ (41 ∷ []))),
     record {
       one = q;
@@ -355,7 +354,7 @@ module _ (n : ℕ) where
     },
     e,
   ))
-  ends-from d p u (first x y) e b = absurd (omega arith)
+  ends-from d p u (acts x y) e b = absurd (omega arith)
 
   ends-other : (d : ℕ) (p : Process) (u : List ℕ) (e : ℕ) → Or (Forked n d) (After (bytes "nil") (Is nil)) p u → getD u 0 e ≡ 65 → ⊥
   unfolding bytes
@@ -398,7 +397,7 @@ module _ (n : ℕ) where
       let few = y .few in
       subst (λ (z : Process). ChainText d (suc k) z u) is (record {
         text = record {
-          formed = first (x .prints .formed) (y .text .formed);
+          formed = acts (x .prints .formed) (y .text .formed);
           prints =
               ap (λ (b : List ℕ). actionText (x .one) ++ (46 ∷ b)) (y .text .prints)
               ∙ ap (λ (b : List ℕ). actionText (x .one) ++ b) e
@@ -410,10 +409,10 @@ module _ (n : ℕ) where
 
   chain-from : (d k : ℕ) (p : Process) (u : List ℕ) → ProcessFormed n d p → processText p ≡ u → actions p < suc k → Or (EndText n d) (Acting d k) p u
   unfolding processText actions bytes
-  chain-from d k p u stop e h = inl (record { text = record { formed = stop; prints = e }; bare = refl })
-  chain-from d k p u (call g) e h = inl (record { text = record { formed = call g; prints = e }; bare = refl })
-  chain-from d k p u (both x y) e h = inl (record { text = record { formed = both x y; prints = e }; bare = refl })
-  chain-from d k p u (first {a = a} {p = q} x y) e h = inr (record {
+  chain-from d k p u stops e h = inl (record { text = record { formed = stops; prints = e }; bare = refl })
+  chain-from d k p u (calls g) e h = inl (record { text = record { formed = calls g; prints = e }; bare = refl })
+  chain-from d k p u (forks x y) e h = inl (record { text = record { formed = forks x y; prints = e }; bare = refl })
+  chain-from d k p u (acts {a = a} {p = q} x y) e h = inr (record {
     one = a;
     text = actionText a;
     rest = 46 ∷ processText q;
@@ -428,18 +427,18 @@ module _ (n : ℕ) where
   after-some (b ∷ u) v c = (b, u ++ (c ∷ v), refl)
 
   end-two : (d : ℕ) (p : Process) → ProcessFormed n d p → actions p ≡ 0 → Two endsChain true (processText p)
-  unfolding processText actions bytes endsChain choose Choice.both
-  end-two d p stop b = record { one = 110; next = 105; rest = 108 ∷ []; is = refl; decides = refl }
-  end-two d p (call {k = k} h) b =
+  unfolding processText actions bytes endsChain choose both
+  end-two d p stops b = record { one = 110; next = 105; rest = 108 ∷ []; is = refl; decides = refl }
+  end-two d p (calls {k = k} h) b =
       let x = decimal-digits 511 k (omega arith) (omega arith) in
       record { one = 65; next = 48 + x .first; rest = x .after; is = ap (λ (u : List ℕ). 65 ∷ u) (x .is); decides = refl }
-  end-two d p (both {p = q} {q = r} x y) b =
+  end-two d p (forks {p = q} {q = r} x y) b =
       let (z, w, e) = after-some (processText q) (124 ∷ 32 ∷ (processText r ++ (41 ∷ []))) 32 in
       record { one = 40; next = z; rest = w; is = ap (λ (u : List ℕ). 40 ∷ u) e; decides = refl }
-  end-two d p (first x y) b = absurd (omega arith)
+  end-two d p (acts x y) b = absurd (omega arith)
 
   action-two : (a : Action) → Two endsChain false (actionText a)
-  unfolding actionText bytes endsChain choose Choice.both
+  unfolding actionText bytes endsChain choose both
   action-two (out c t) = record { one = 111; next = 117; rest = _; is = refl; decides = refl }
   action-two (input c t) = record { one = 105; next = 110; rest = _; is = refl; decides = refl }
   action-two (read c t) = record { one = 114; next = 101; rest = _; is = refl; decides = refl }

@@ -76,10 +76,10 @@ pub record TargetFormed (n : ℕ) (t : Target) : Type 0 where
 -- ---- processes, at most d deep in brackets and evals together (32); names from A0 to A511, variables below 8 (31)
 mutual
   pub data ProcessFormed (n : ℕ) : ℕ → Process → Type 0 where
-    stop : {d : ℕ} → ProcessFormed n d nil
-    call : {d k : ℕ} → k < 512 → ProcessFormed n d (name k)
-    both : {d : ℕ} {p q : Process} → ProcessFormed n d p → ProcessFormed n d q → ProcessFormed n (suc d) (fork p q)
-    first : {d : ℕ} {a : Action} {p : Process} → ActionFormed n d a → ProcessFormed n d p → ProcessFormed n d (act a p)
+    stops : {d : ℕ} → ProcessFormed n d nil
+    calls : {d k : ℕ} → k < 512 → ProcessFormed n d (name k)
+    forks : {d : ℕ} {p q : Process} → ProcessFormed n d p → ProcessFormed n d q → ProcessFormed n (suc d) (fork p q)
+    acts : {d : ℕ} {a : Action} {p : Process} → ActionFormed n d a → ProcessFormed n d p → ProcessFormed n d (act a p)
 
   -- an out has no formals; an eval's process is one level deeper
   pub data ActionFormed (n : ℕ) : ℕ → Action → Type 0 where
