@@ -19,8 +19,9 @@ use Rattle.lexemes.specs.Lexemes.{byteAt, isDigit}
 use Rattle.terms.specs.Terms.{Process, Action, nil, name, fork, act, out, input, read, eval, newloc}
 use Rattle.processes.specs.Reading as Reading
 use Rattle.notation.specs.Rows.{isRow, rows}
-use Rattle.notation.specs.Source.{Line, definition, process, tuple, Source}
-use Rattle.notation.specs.Lines.{processesIn, tuplesIn, counted, definitionLine, processLine, tupleLine, locatedLine, line, linesAfter, lines, source}
+use Rattle.linking.specs.Source.{Line, definition, process, tuple, Source}
+use Rattle.linking.specs.Counts.{processesIn, tuplesIn, counted}
+use Rattle.notation.specs.Lines.{definitionLine, processLine, tupleLine, locatedLine, line, linesAfter, lines, source}
 use Rattle.sources.specs.Types.{Locality, Row}
 use Rattle.sources.specs.Printed.{newline, addressText, tupleText, processText, actionText, lineText, linesText, rowsText, printed}
 use Rattle.sources.specs.WellFormed.{Each, none, more, LineFormed, defines, runs, holds, RowFormed}

@@ -11,9 +11,9 @@ use Rattle.net.proofs.Laws.{both-l, both-r, implies-e, all-e, choose-true, choo
 use Rattle.net.proofs.ReadingLaws.{never}
 use Rattle.terms.specs.Terms.{Process}
 use Rattle.terms.specs.Numbering.{size, Start, here, called, startOf}
-use Rattle.notation.specs.Source.{Line, definition, process, tuple}
-use Rattle.notation.specs.Names.{used, defines, defined, nameRight, namesRight}
-use Rattle.notation.specs.Compiled.{sizeOf, total, definedIn, settle, isHere, settled, numberOf, placeIn}
+use Rattle.linking.specs.Source.{Line, definition, process, tuple}
+use Rattle.linking.specs.Names.{used, defines, defined, nameRight, namesRight}
+use Rattle.linking.specs.Compiled.{sizeOf, total, definedIn, settle, isHere, settled, numberOf, placeIn}
 use Rattle.sources.specs.SourceClaims.{NameStands}
 
 -- ---- the first definition of a name

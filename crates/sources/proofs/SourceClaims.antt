@@ -9,10 +9,10 @@ use Rattle.net.specs.Choice.{choose, inRange}
 use Rattle.net.proofs.Laws.{choose-true, in-range, in-range-low, in-range-high}
 use Rattle.keeping.specs.Admission.{admits}
 use Rattle.readers.specs.Reader.{Parsed, got, fault}
-use Rattle.notation.specs.Source.{Source}
+use Rattle.linking.specs.Source.{Source}
 use Rattle.notation.specs.Lines.{source}
-use Rattle.notation.specs.Names.{namesRight}
-use Rattle.notation.specs.Compiled.{total, compiled}
+use Rattle.linking.specs.Names.{namesRight}
+use Rattle.linking.specs.Compiled.{total, compiled}
 use Rattle.notation.specs.Text.{refused, accepted, judgedSource, judged, readOf}
 use Rattle.sources.specs.Types.{Net, Verdict, Opened}
 use Rattle.sources.specs.Printed.{printed}

@@ -9,7 +9,7 @@ use Rattle.sound.specs.Soundness.{isNone}
 use Rattle.text.specs.Bytes.{bytes}
 use Rattle.text.specs.Decimal.{decimal, signedDecimal}
 use Rattle.terms.specs.Terms.{Process, Action, nil, name, fork, act, out, input, read, eval, newloc}
-use Rattle.notation.specs.Source.{Line, definition, process, tuple, Source}
+use Rattle.linking.specs.Source.{Line, definition, process, tuple, Source}
 use Rattle.sources.specs.Types.{Locality, Item, Tuple, Rights, Row, Target, Pattern, Instruction}
 
 -- ---- parts that stand in several places

@@ -6,9 +6,9 @@ use mathlib.Core.Bool.{true}
 use mathlib.Core.List.{List, _∷_, _++_}
 use Rattle.terms.specs.Terms.{Process}
 use Rattle.terms.specs.Numbering.{called, startOf}
-use Rattle.notation.specs.Source.{Line, definition, Source}
-use Rattle.notation.specs.Names.{namesRight}
-use Rattle.notation.specs.Compiled.{total, placeIn, compiled}
+use Rattle.linking.specs.Source.{Line, definition, Source}
+use Rattle.linking.specs.Names.{namesRight}
+use Rattle.linking.specs.Compiled.{total, placeIn, compiled}
 use Rattle.notation.specs.Text.{readOf, accepted}
 use Rattle.sources.specs.Types.{Net}
 use Rattle.sources.specs.Printed.{printed}

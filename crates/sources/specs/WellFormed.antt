@@ -10,10 +10,10 @@ use Rattle.sound.specs.Soundness.{itemSound, rowSound, targetSound, patternSoun
 use Rattle.fresh.specs.Fresh.{itemFits, patternFits}
 use Rattle.keeping.specs.Admission.{admits}
 use Rattle.terms.specs.Terms.{Process, Action, nil, name, fork, act, out, input, read, eval, newloc}
-use Rattle.notation.specs.Source.{Line, definition, process, tuple, Source}
-use Rattle.notation.specs.Lines.{processesIn, tuplesIn, counted}
-use Rattle.notation.specs.Compiled.{total, compiled}
-use Rattle.notation.specs.Names.{namesRight}
+use Rattle.linking.specs.Source.{Line, definition, process, tuple, Source}
+use Rattle.linking.specs.Counts.{processesIn, tuplesIn, counted}
+use Rattle.linking.specs.Compiled.{total, compiled}
+use Rattle.linking.specs.Names.{namesRight}
 use Rattle.sources.specs.Types.{Locality, Item, Tuple, Row, Target, Pattern, Instruction}
 
 -- of each element of ys holds R, with those that stand before it: xs, and the elements of ys before it
