@@ -1,5 +1,5 @@
 -- The bytes of a source (document 01, "The planners' notation"; document 004, table 1): one definition for each
--- production, in the order of the paper, beside its piece of the notation. Nothing here reads a text.
+-- production, beside its piece of the notation: rows, then the parts of lines, then lines. Nothing here reads a text.
 use Prim.Native.Nat.{ℕ, suc}
 use mathlib.Core.Bool.{Bool, not}
 use mathlib.Core.List.{List, [], _∷_, _++_, map}
