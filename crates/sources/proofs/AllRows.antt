@@ -17,7 +17,7 @@ use Rattle.readers.proofs.ReaderLaws.{no-fault}
 use Rattle.text.specs.Bytes.{bytes}
 use Rattle.text.specs.Decimal.{decimal}
 use Rattle.lexemes.specs.Lexemes.{byteAt, isDigit, fail}
-use Rattle.notation.specs.Rows.{digitsFrom, standsAt, isRow, anyRight, row, rowsAfter, within, allWithin, rows}
+use Rattle.rows.specs.Rows.{digitsFrom, standsAt, isRow, anyRight, row, rowsAfter, within, allWithin, rows}
 use Rattle.sources.specs.Types.{Row, Rights}
 use Rattle.sources.specs.Printed.{rowText, rowsText}
 use Rattle.sources.specs.WellFormed.{Each, none, more, RowFormed}

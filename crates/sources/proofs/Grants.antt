@@ -18,7 +18,7 @@ use Rattle.sound.specs.Soundness.{isNone}
 use Rattle.text.specs.Bytes.{bytes}
 use Rattle.text.specs.Decimal.{decimal}
 use Rattle.lexemes.specs.Lexemes.{isDigit}
-use Rattle.notation.specs.Rows.{anyRight, rights, granted, grants}
+use Rattle.rows.specs.Rows.{anyRight, rights, granted, grants}
 use Rattle.sources.specs.Types.{Rights, Row}
 use Rattle.sources.specs.Printed.{given, rightsText, grantText, grantsText}
 use Rattle.sources.proofs.ReadsPrints.{Reads, Any, Is, After, Or, Then, reads-as, reads-pure, reads-then, reads-from-byte, reads-require, reads-optional}

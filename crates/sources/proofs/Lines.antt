@@ -18,10 +18,10 @@ use Rattle.text.specs.Decimal.{decimal}
 use Rattle.lexemes.specs.Lexemes.{byteAt, isDigit}
 use Rattle.terms.specs.Terms.{Process, Action, nil, name, fork, act, out, input, read, eval, newloc}
 use Rattle.processes.specs.Reading as Reading
-use Rattle.notation.specs.Rows.{isRow, rows}
+use Rattle.rows.specs.Rows.{isRow, rows}
 use Rattle.linking.specs.Source.{Line, definition, process, tuple, Source}
 use Rattle.linking.specs.Counts.{processesIn, tuplesIn, counted}
-use Rattle.notation.specs.Lines.{definitionLine, processLine, tupleLine, locatedLine, line, linesAfter, lines, source}
+use Rattle.notation.specs.Lines.{definitionLine, processLine, tupleLine, placedLine, locatedLine, line, linesAfter, lines, source}
 use Rattle.sources.specs.Types.{Locality, Row}
 use Rattle.sources.specs.Printed.{newline, addressText, tupleText, processText, actionText, lineText, linesText, rowsText, printed}
 use Rattle.sources.specs.WellFormed.{Each, none, more, LineFormed, defines, runs, holds, RowFormed}
@@ -169,7 +169,7 @@ module _ (n : ℕ) where
           process-other p (10 ∷ []) d (sym (opens-with _ u d (ap (λ (w : List ℕ). w ++ (10 ∷ [])) (x .prints) ∙ e)) ∙ f)
 
       reads-locatedLine : Reads (locatedLine n ls) Located Any
-      unfolding locatedLine bytes
+      unfolding locatedLine placedLine bytes
       reads-locatedLine =
           reads-then (reads-address n h)
           (λ a u x. reads-from-word (bytes " :: ")

@@ -14,7 +14,7 @@ use Rattle.sound.specs.Soundness.{isNone}
 use Rattle.readers.specs.Reader.{Reader, _>>=_, _>>_}
 use Rattle.text.specs.Bytes.{bytes}
 use Rattle.lexemes.specs.Lexemes.{optional}
-use Rattle.notation.specs.Rows.{anyRight, rights}
+use Rattle.rows.specs.Rows.{anyRight, rights}
 use Rattle.sources.specs.Types.{Rights}
 use Rattle.sources.specs.Printed.{given, rightsText}
 use Rattle.sources.proofs.ReadsPrints.{Reads, Is, After, Or, reads-as, reads-pure}

@@ -17,7 +17,7 @@ use Rattle.readers.specs.Reader.{Parsed, got, fault, Reader, pure, andThen, _>>
 use Rattle.text.specs.Bytes.{bytes}
 use Rattle.text.specs.Decimal.{decimal}
 use Rattle.lexemes.specs.Lexemes.{byteAt, isDigit, byte, word, number}
-use Rattle.notation.specs.Rows.{isGot, standsAt, grants, creates, opening, row}
+use Rattle.rows.specs.Rows.{isGot, standsAt, grants, creates, opening, row}
 use Rattle.sources.specs.Types.{Rights, Row}
 use Rattle.sources.specs.Printed.{newline, given, grantsText, rowText}
 use Rattle.sources.proofs.Stands.{Stands, stands-first}
