@@ -19,7 +19,7 @@ use Rattle.net.proofs.Laws.{implies-e}
 use Rattle.sound.proofs.CodeFacts.{Acts, InstructionOk}
 use Rattle.sound.proofs.Drafts.{SuitsNext, suited, Fresh, suits-reading, suits-address, Drafted, no-pattern, next-pattern, Whole, whole}
 use Rattle.sound.proofs.Drafts.{stop-ok, Communicates, out-ok, in-ok, read-ok}
-use Rattle.accepted.proofs.Gives.{Gives, gives-pure, gives-weaken, gives-then, gives-and, gives-each, gives-last}
+use Rattle.accepted.proofs.Gives.{Gives, gives-pure, gives-weaken, gives-then, gives-each, gives-last}
 use Rattle.accepted.proofs.Gives.{gives-first, gives-tested, gives-field, gives-bits}
 use Rattle.accepted.proofs.AcceptedNode.{gives-address, gives-place, gives-variable, gives-reading}
 

@@ -4,7 +4,6 @@ use net::locality::Locality;
 use net::locality::Place;
 use readers::step::Step;
 use text::signed::signed_of;
-ghost use mathlib.Core.Path.{_≡_};
 ghost use Rattle.bitreader.specs.Fields.{address, place, variable, reading};
 ghost use Rattle.bitreader.specs.Progress.{seen};
 ghost use Rattle.readers.specs.Progress.{Went};

@@ -11,7 +11,6 @@ use borrow.Author.Tests.{lt-ltb, le-ltb, eq-eqb, ne-eqb}
 use Rattle.net.specs.Choice.{choose}
 use Rattle.net.specs.Records.{startingAt, freeProcess, zeroNode, emptyNet, processAt, nodeAt, addressOf, processCount}
 use Rattle.net.specs.Records.{withNode, withRow, withProcess, withTuple, withCounts}
-use Rattle.net.specs.Shape.{Shaped}
 use Rattle.net.proofs.Laws.{choose-true, choose-false}
 use Rattle.net.proofs.Every.{Every, chosen-lt, every-replicate, every-set, filled-add}
 use Rattle.net.proofs.Past.{pastProcess, pastNode}
@@ -68,22 +67,6 @@ module _ (c m : ℕ) (x : Node) (ok : Holds c m x) where
         few-tuples = omega arith;
       })
       (λ l. absurd (omega (arith, ok .stored)))
-
--- ---- no line yet, where nothing is busy and nothing is stored
-pub counts-none :
-    (s : Net) → Shaped s → ((a : Locality) (j : ℕ) → a .0 < 16 → j < 4 → processAt (nodeAt s a) j .busy ≡ false)
-    → ((a : Locality) → a .0 < 16 → nodeAt s a .stored ≡ 0) → Counts [] s
-unfolding counted processAt
-counts-none s shape free empty = record {
-  nodes-are = shape .nodes-are;
-  at = λ a h.
-      holds-first 0 0 (nodeAt s a)
-      (record {
-        size-is = shape .each-node a h .processes-are;
-        holds = λ j l. record { used = λ u. absurd (omega arith); unused = λ _. free a j h l };
-      })
-      (omega arith) (empty a h) (omega arith);
-}
 
 -- ---- one line more
 counted-more : (f : Line → ℕ) (ls : List Line) (l : Line) → counted f (ls ++ (l ∷ [])) ≡ counted f ls + f l

@@ -1,18 +1,17 @@
 -- Describes the code, and is no part of what a reader has to believe: what the lines of a text have been read into, and what
 -- one line more does to it. Starts stay words (`Table.antt`, `NameTable.antt`) until all lines are read: until then every
 -- process stands at place 0.
-use Prim.Native.Nat.{ℕ, zero, suc, _+_, _*_, _<_}
+use Prim.Native.Nat.{ℕ, _+_, _*_, _<_}
 use mathlib.Core.Bool.{Bool, true, false}
 use mathlib.Core.List.{List, [], _∷_}
 use lib.ListN.{getD, set, replicate}
 use Rattle.net.specs.Choice.{choose, fold}
 use Rattle.net.specs.Records.{placeOf, nodeAt, processCount}
 use Rattle.text.specs.Buffer.{over}
-use Rattle.terms.specs.Terms.{Process}
 use Rattle.terms.specs.Numbering.{Start, size, startOf}
 use Rattle.terms.specs.Table.{startWord, wordsOf, marked}
 use Rattle.terms.specs.Loading.{fits}
-use Rattle.linking.specs.Types.{Locality, Place, Tuple, Net}
+use Rattle.linking.specs.Types.{Place, Net}
 use Rattle.linking.specs.Source.{Line, definition, process, tuple}
 use Rattle.linking.specs.Compiled.{placed}
 

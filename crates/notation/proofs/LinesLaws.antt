@@ -11,14 +11,13 @@ use Rattle.net.specs.Choice.{choose, both}
 use Rattle.net.specs.Records.{addressOf, nodeAt, processCount, withNode}
 use Rattle.net.proofs.Laws.{choose-true, choose-false, both-l, both-r}
 use Rattle.net.proofs.ReadingLaws.{never}
-use Rattle.readers.specs.Reader.{got, Reader, pure, _>>=_}
+use Rattle.readers.specs.Reader.{Reader, pure}
 use Rattle.readers.specs.Progress.{reached, outcome, runFrom, Went}
-use Rattle.readers.proofs.ReaderLaws.{after, came}
+use Rattle.readers.proofs.ReaderLaws.{after}
 use Rattle.readers.proofs.ReaderLaws as Readers
 use Rattle.readers.proofs.Gives.{Gives, gives-pure, gives-then, gives-and, gives-choice, gives-require, Any, any, went-gives}
 use Rattle.lexemes.specs.Lexemes.{byte, word}
 use Rattle.fields.specs.Fields.{address}
-use Rattle.terms.specs.Terms.{Process}
 use Rattle.terms.specs.Loading.{fits}
 use Rattle.processes.specs.Reading.{named}
 use Rattle.processes.specs.Reading as Reading
@@ -34,7 +33,7 @@ use Rattle.linking.proofs.NodeCounts.{counts-more}
 use Rattle.linking.proofs.Peopled.{after-more, fit-more, after-count, after-net-one}
 use Rattle.notation.specs.Types.{Step, Locality, Node, Net}
 use Rattle.notation.specs.Lines.{definitionLine, processLine, tupleLine, placedLine, locatedLine, line, linesAfter, lines}
-use Rattle.notation.specs.LineProgress.{state, Lined, Owner, Here, AnyLined, inside, Spans, Lining, AllLined}
+use Rattle.notation.specs.LineProgress.{state, Lined, Owner, AnyLined, inside, Spans, Lining, AllLined}
 use Rattle.notation.proofs.LineLaws.{address-gives}
 use Rattle.notation.proofs.LineLengths.{line-long}
 

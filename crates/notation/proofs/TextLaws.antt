@@ -1,22 +1,21 @@
 -- A text whose rows and lines are read into tables and a net gives what `specs/Text.antt` says. Assumes nothing.
-use Prim.Native.Nat.{ℕ, zero, suc, _+_, _<_, _≤_}
+use Prim.Native.Nat.{ℕ, zero, suc, _<_, _≤_}
 use mathlib.Core.Path.{_≡_, refl, sym, ap, subst, _∙_}
 use mathlib.Core.Bool.{Bool, true, false}
-use mathlib.Core.List.{List, []}
+use mathlib.Core.List.{List}
 use native.Mathlib.Omega.{arith}
 use lib.ListN.{length, set, replicate}
 use lib.Dec.{leb}
-use borrow.Author.Tests.{lt-leb, le-leb}
+use borrow.Author.Tests.{lt-leb}
 use Rattle.net.specs.Choice.{choose, both, fold, inRange}
 use Rattle.net.specs.Records.{emptyNet, withCounts}
 use Rattle.net.specs.Shape.{Shaped}
 use Rattle.net.proofs.Laws.{choose-true, choose-false, in-range, in-range-high}
 use Rattle.keeping.specs.Admission.{admits}
-use Rattle.readers.specs.Reader.{Parsed, got, fault, Reader, pure, _>>=_}
+use Rattle.readers.specs.Reader.{Parsed, fault}
 use Rattle.readers.specs.Progress.{reached, outcome, runFrom, Went}
 use Rattle.readers.proofs.ReaderLaws.{on, stop}
 use Rattle.text.specs.Buffer.{over}
-use Rattle.terms.specs.Numbering.{Start}
 use Rattle.linking.specs.Source.{Line, Source}
 use Rattle.linking.specs.Compiled.{total, placeIn, codeFrom, ruled, peopled, withCode, compiled}
 use Rattle.linking.specs.Names.{namesRight}
@@ -28,7 +27,7 @@ use Rattle.linking.proofs.Held.{held-all, resolves-all}
 use Rattle.linking.proofs.Linked.{code-all}
 use Rattle.linking.proofs.Moved.{moved-all}
 use Rattle.linking.proofs.Peopled.{peopled-any-counts, peopled-frame, after-count}
-use Rattle.notation.specs.Types.{Step, Place, Row, Instruction, Net}
+use Rattle.notation.specs.Types.{Step, Row, Instruction, Net}
 use Rattle.rows.specs.Rows.{rows}
 use Rattle.notation.specs.Lines.{lines, source}
 use Rattle.rows.specs.declared.rows.RowsRead.{RowsRead}

@@ -3,7 +3,7 @@ pub use Rattle.rows.specs.declared.rows.GrantsRead.{GrantsRead}
 pub use Rattle.rows.specs.declared.rows.RowsRead.{RowsRead}
 use Prim.Native.Nat.{ℕ, suc, _+_, _-_, _≤_}
 use mathlib.Core.Path.{_≡_}
-use mathlib.Core.Bool.{Bool, true, false}
+use mathlib.Core.Bool.{Bool, false}
 use mathlib.Core.List.{List, []}
 use lib.ListN.{length}
 use Rattle.net.specs.Records.{emptyNet, withCounts}

@@ -1,6 +1,5 @@
 -- `notation::lines::read_lines` meets its contract: in what follows `line` is what is known after the call of `read_line`,
 -- `owner` after that of `owner_at`, `test` after the loop's test. Assumes nothing.
-use Prim.Native.Nat.{_≤_}
 use mathlib.Core.Path.{_≡_, _∙_}
 use lib.ListN.{length}
 use Rattle.net.specs.Records.{nodeAt, withNode}

@@ -13,7 +13,7 @@ read-into-spec =
     tie.close
     (tie.spec
     (λ c κs. search needs)
-    (λ c κs. search (needs, few-rows, start-counts, net-shaped))
+    (λ c κs. search (needs, few-rows, start-counts))
     (λ c κs. search needs)
     (λ c. search needs)
     (λ c. search needs)
