@@ -1,6 +1,6 @@
 -- Laws by which the exported calls meet their contracts. Assumes nothing.
 use Prim.Native.Nat.{ℕ}
-use mathlib.Core.Path.{_≡_, sym, ap, _∙_}
+use mathlib.Core.Path.{_≡_, ap, _∙_}
 use Rattle.run.specs.declared.run.Finished.{Finished}
 use Rattle.run.specs.Calls.{finishNumber}
 use Rattle.registers.specs.declared.register.Registered.{Registered}
@@ -9,7 +9,5 @@ use Rattle.registers.specs.Calls.{registeredLength}
 pub number-as : (d e : Finished) (r : ℕ) → d ≡ e → r ≡ finishNumber (d .finish) → r ≡ finishNumber (e .finish)
 number-as d e r p q = q ∙ ap (λ (z : Finished). finishNumber (z .finish)) p
 
--- what an arm knows of a register
-pub length-as :
-    (w v t : Registered) (r : ℕ) → w ≡ t → w ≡ v → r ≡ registeredLength v → r ≡ registeredLength t
-length-as w v t r p e q = q ∙ ap registeredLength (sym e ∙ p)
+pub length-as : (w t : Registered) (r : ℕ) → w ≡ t → r ≡ registeredLength w → r ≡ registeredLength t
+length-as w t r p q = q ∙ ap registeredLength p

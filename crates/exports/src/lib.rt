@@ -2,15 +2,17 @@
 // declares them for C.
 use registers::register::Registered;
 use registers::register::register;
+use registers::register::register_text;
 use run::run::Finish;
 use run::run::run;
+use run::run::run_text;
 ghost use mathlib.Core.Path.{_≡_};
 ghost use lib.ListN.{length};
 ghost use Rattle.text.specs.Buffer.{over};
 ghost use Rattle.run.specs.Calls.{finishedOf, finishNumber, answersIn};
 ghost use Rattle.registers.specs.Calls.{registeredOf, registeredLength};
-ghost use Rattle.registers.specs.Register.{registerOf};
-ghost use Rattle.run.specs.Run.{runOf};
+ghost use Rattle.registers.specs.Register.{registerOf, registerTextOf};
+ghost use Rattle.run.specs.Run.{runOf, runTextOf};
 
 // The paper's number of how a run ended.
 fn number_of(finish: Finish) -> u8
@@ -35,6 +37,27 @@ pub extern "C" fn cavindorum_run(image: &[u8], picks: &[u8], answers: &mut [u8])
     number_of(finish)
 }
 
+// The same for a text.
+#[no_mangle]
+pub extern "C" fn cavindorum_run_text(text: &[u8], picks: &[u8], answers: &mut [u8]) -> u8
+    ensures { λ r. ⌜ r ≡ finishNumber (finishedOf (runTextOf (now (text .entry)) (now (picks .entry))) (length (now (answers .entry))) .finish) ⌝ }
+    ensures { λ _. ⌜ now (answers .exit) ≡ answersIn (runTextOf (now (text .entry)) (now (picks .entry))) (now (answers .entry)) ⌝ }
+{
+    let done = run_text(text, picks, answers);
+    let finish = done.finish;
+    number_of(finish)
+}
+
+// A register's length, or 0 where the buffer is too short for it.
+fn length_of(written: Registered) -> usize
+    ensures { λ r. ⌜ r ≡ registeredLength written ⌝ }
+{
+    match written {
+        Registered::Written(n) => n,
+        Registered::NoRoom => 0,
+    }
+}
+
 // Writes a register and gives its length, or 0 where the buffer is too short for it.
 #[no_mangle]
 pub extern "C" fn cavindorum_register(image: &[u8], picks: &[u8], out: &mut [u8]) -> usize
@@ -42,8 +65,15 @@ pub extern "C" fn cavindorum_register(image: &[u8], picks: &[u8], out: &mut [u8]
     ensures { λ _. ⌜ now (out .exit) ≡ over (now (out .entry)) 0 (registerOf (now (image .entry)) (now (picks .entry))) ⌝ }
 {
     let written = register(image, picks, out);
-    match written {
-        Registered::Written(n) => n,
-        Registered::NoRoom => 0,
-    }
+    length_of(written)
+}
+
+// The same for a text.
+#[no_mangle]
+pub extern "C" fn cavindorum_register_text(text: &[u8], picks: &[u8], out: &mut [u8]) -> usize
+    ensures { λ r. ⌜ r ≡ registeredLength (registeredOf (registerTextOf (now (text .entry)) (now (picks .entry))) (length (now (out .entry)))) ⌝ }
+    ensures { λ _. ⌜ now (out .exit) ≡ over (now (out .entry)) 0 (registerTextOf (now (text .entry)) (now (picks .entry))) ⌝ }
+{
+    let written = register_text(text, picks, out);
+    length_of(written)
 }

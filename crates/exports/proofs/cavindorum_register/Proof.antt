@@ -1,19 +1,14 @@
 -- `exports::cavindorum_register` meets its contract. Assumes nothing.
 use Rattle.exports.proofs.ExportLaws.{length-as}
-use Rattle.registers.specs.Calls.{registeredLength}
 use borrow.Author.Needs.{needs}
 use Rattle.exports.proofs.cavindorum_register.Statement.{statement}
 use Rattle.exports.proofs.cavindorum_register.Tie as tie
 
 pub cavindorum-register-spec : {M : Type 1} → statement M
-unfolding registeredLength
 cavindorum-register-spec =
     tie.close
     (tie.spec
     (λ c κs. search needs)
-    (λ c. search needs)
-    (λ c. search needs)
-    (λ c. search needs)
-    (λ c. (search (needs, length-as), search needs))
+    (λ c κs. search needs)
     (λ c. search needs)
     (λ c. (search (needs, length-as), search needs)))
