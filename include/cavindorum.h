@@ -4,13 +4,14 @@
  * and leaves in its buffer is proved (crates/exports/src/lib.rt).
  *
  * Pointers and lengths. Each buffer is a pointer and, next after it, the
- * number of its bytes: first the image, then the picks, then the buffer that
- * is written. A pointer leads to as many bytes as its length says. No pointer
- * is null; through that of a buffer of no bytes nothing is read or written.
+ * number of its bytes: first the image or the text, then the picks, then the
+ * buffer that is written. A pointer leads to as many bytes as its length says.
+ * No pointer is null; through that of a buffer of no bytes nothing is read or
+ * written.
  *
- * Overlap. The buffer that is written shares no byte with the image or the
- * picks, and no other thread writes to any of the three before the call
- * returns. The image and the picks are only read, and may overlap.
+ * Overlap. The buffer that is written shares no byte with the other two, and
+ * no other thread writes to any of the three before the call returns. The
+ * image or text and the picks are only read, and may overlap.
  *
  * Stack. CAVINDORUM_STACK bytes below the caller's frame are enough for a
  * call. This is measured and not proved; with too little the process ends at
@@ -51,6 +52,14 @@ uint8_t cavindorum_run(const uint8_t *image, size_t image_length,
                        uint8_t *answers, size_t answers_length);
 
 /*
+ * The same for a net in the planners' notation. The number of a text's first
+ * fault is one of 22, 23, 26, 27 and 30 to 33. A text may have any length.
+ */
+uint8_t cavindorum_run_text(const uint8_t *text, size_t text_length,
+                            const uint8_t *picks, size_t picks_length,
+                            uint8_t *answers, size_t answers_length);
+
+/*
  * Writes the register of an image and picks, of which the first 65,536
  * count, into out. It is text without a zero byte at its end. A refused image
  * has the register `refused N`.
@@ -62,6 +71,11 @@ uint8_t cavindorum_run(const uint8_t *image, size_t image_length,
 size_t cavindorum_register(const uint8_t *image, size_t image_length,
                            const uint8_t *picks, size_t picks_length,
                            uint8_t *out, size_t out_length);
+
+/* The same for a net in the planners' notation. */
+size_t cavindorum_register_text(const uint8_t *text, size_t text_length,
+                                const uint8_t *picks, size_t picks_length,
+                                uint8_t *out, size_t out_length);
 
 #ifdef __cplusplus
 }

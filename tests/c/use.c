@@ -15,6 +15,10 @@ static const uint8_t image[] = {0x10, 0x80, 0x42, 0x20, 0x00, 0x14,
                                 0x00, 0x00, 0x00, 0x00, 0xA0, 0x10};
 static const uint8_t picks[] = {0x00, 0x00, 0x00};
 
+/* The same net in the planners' notation. */
+static const uint8_t notation[] = "0 has 0:o\n0 :: out(5)@self.nil\n";
+#define NOTATION_LENGTH (SIZE(notation) - 1)
+
 static uint8_t text[CAVINDORUM_LONGEST_REGISTER];
 
 static void expect(int holds, const char *what) {
@@ -55,8 +59,26 @@ static void use_register(void) {
     expect(fwrite(text, 1, length, stdout) == length, "it is printed");
 }
 
+static void use_texts(void) {
+    const uint8_t performed[] = {0, 1, 7};
+    uint8_t answers[] = {99, 99, 99};
+    uint8_t other[1000];
+    size_t length;
+    expect(cavindorum_run_text(notation, 0, picks, SIZE(picks), answers, SIZE(answers)) == 31,
+           "no text is 31");
+    expect(cavindorum_run_text(notation, NOTATION_LENGTH, picks, SIZE(picks), answers,
+                               SIZE(answers)) == 0,
+           "a text's run is made");
+    expect(memcmp(answers, performed, SIZE(answers)) == 0, "its answers are the image's");
+    length = cavindorum_register_text(notation, NOTATION_LENGTH, picks, SIZE(picks), other,
+                                      SIZE(other));
+    expect(length == written(SIZE(image), SIZE(text)), "its register is as long as the image's");
+    expect(memcmp(other, text, length) == 0, "and the same");
+}
+
 int main(void) {
     use_run();
+    use_texts();
     use_register();
     return 0;
 }

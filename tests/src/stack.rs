@@ -28,7 +28,7 @@ pub const BOUNDS: [(&str, usize); 8] = [
     ("replay", 1_024),
     ("inspect_text", 1_024),
     ("pack", 2_048),
-    ("register_text", 4_096),
+    ("register_text", 3_072),
 ];
 
 /// A net, and as many picks as a register takes.

@@ -2,6 +2,7 @@
 
 use cavindorum_exports as exported;
 use cavindorum_tests::image::read_image;
+use cavindorum_tests::notation::read_text;
 use cavindorum_tests::register;
 use cavindorum_tests::step::step;
 
@@ -12,16 +13,21 @@ pub struct Machine {
     pub run: fn(image: &[u8], picks: &[u8], answers: &mut [u8]) -> u8,
     /// The whole register.
     pub register: fn(image: &[u8], picks: &[u8]) -> Vec<u8>,
+    /// Reads a text. Gives 0 or the number of a refusal.
+    pub read_text: fn(text: &[u8]) -> u8,
 }
 
 pub const PROVED: Machine = Machine {
     run: exported::run,
     register: exported::register,
+    // A run without picks, which copies the net besides.
+    read_text: |text| exported::run_text(text, &[], &mut []),
 };
 
 pub const MODEL: Machine = Machine {
     run: model_run,
     register: |image, picks| register::register(image, picks).into_bytes(),
+    read_text: |text| read_text(text).err().unwrap_or(0),
 };
 
 // An accepted net is sound and steps keep it so: no test before each pick.

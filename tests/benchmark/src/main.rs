@@ -3,6 +3,7 @@
 
 mod machine;
 mod nets;
+mod texts;
 
 use cavindorum_tests::program::{print_register, printed_in, TestDirectory};
 use cavindorum_tests::register::register;
@@ -12,6 +13,7 @@ use std::hint::black_box;
 use std::io::Write;
 use std::process::Command;
 use std::time::{Duration, Instant};
+use texts::Text;
 
 const ROUNDS: usize = 5;
 
@@ -34,6 +36,15 @@ fn main() {
     let times = both(|machine| milliseconds(|| (machine.register)(&work.image, &work.picks)));
     row("a register in memory (ms)", times);
     row("the program register (ms)", programs(work));
+    println!("\n{:<36}{:>12}{:>12}{:>8}", "", "proved", "model", "ratio");
+    for text in texts::all() {
+        let (proved, model) = both(|machine| speed(machine, &text));
+        let name = format!("a text, {} (MB/s)", text.name);
+        println!(
+            "{name:<36}{proved:>12.1}{model:>12.1}{:>8.1}",
+            model / proved
+        );
+    }
 }
 
 /// The register of the two files in this directory, printed by the model.
@@ -111,6 +122,21 @@ fn a_pick(machine: &Machine, work: &Work) -> f64 {
     let reading = least(|| (machine.run)(image, &[], &mut []));
     let whole = least(|| (machine.run)(image, picks, &mut answers));
     whole.saturating_sub(reading).as_secs_f64() * 1e9 / picks.len() as f64
+}
+
+/// Millions of bytes of a text read in a second, the text read as often as
+/// takes some time.
+fn speed(machine: &Machine, text: &Text) -> f64 {
+    let Text { name, text, number } = text;
+    let times = 1 + 200_000 / text.len();
+    let read = || {
+        for _ in 0..times {
+            let found = (machine.read_text)(black_box(text));
+            assert_eq!(found, *number, "{name}");
+        }
+    };
+    let seconds = least(read).as_secs_f64();
+    (times * text.len()) as f64 / 1e6 / seconds
 }
 
 /// Milliseconds of the program `register` and of the model as a program,

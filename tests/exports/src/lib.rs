@@ -11,9 +11,25 @@ extern "C" {
         answers: *mut u8,
         answers_length: usize,
     ) -> u8;
+    fn cavindorum_run_text(
+        text: *const u8,
+        text_length: usize,
+        picks: *const u8,
+        picks_length: usize,
+        answers: *mut u8,
+        answers_length: usize,
+    ) -> u8;
     fn cavindorum_register(
         image: *const u8,
         image_length: usize,
+        picks: *const u8,
+        picks_length: usize,
+        out: *mut u8,
+        out_length: usize,
+    ) -> usize;
+    fn cavindorum_register_text(
+        text: *const u8,
+        text_length: usize,
         picks: *const u8,
         picks_length: usize,
         out: *mut u8,
@@ -30,15 +46,15 @@ pub const LONGEST_REGISTER: usize = 1_300_000;
 /// A call: two slices to read, one to write.
 type Exported<T> = unsafe extern "C" fn(*const u8, usize, *const u8, usize, *mut u8, usize) -> T;
 
-fn call<T>(function: Exported<T>, image: &[u8], picks: &[u8], out: &mut [u8]) -> T {
-    let (image, image_length) = (image.as_ptr(), image.len());
+fn call<T>(function: Exported<T>, net: &[u8], picks: &[u8], out: &mut [u8]) -> T {
+    let (net, net_length) = (net.as_ptr(), net.len());
     let (picks, picks_length) = (picks.as_ptr(), picks.len());
     // SAFETY: each pointer goes with the length of its own slice, the
     // slices outlive the call, and the one that is written is borrowed alone.
     unsafe {
         function(
-            image,
-            image_length,
+            net,
+            net_length,
             picks,
             picks_length,
             out.as_mut_ptr(),
@@ -53,10 +69,20 @@ pub fn run(image: &[u8], picks: &[u8], answers: &mut [u8]) -> u8 {
     call(cavindorum_run, image, picks, answers)
 }
 
+/// The same for a text.
+pub fn run_text(text: &[u8], picks: &[u8], answers: &mut [u8]) -> u8 {
+    call(cavindorum_run_text, text, picks, answers)
+}
+
 /// Writes the register of an image and picks. Gives its length, or 0 where
 /// there is no room for it.
 pub fn register_in(image: &[u8], picks: &[u8], out: &mut [u8]) -> usize {
     call(cavindorum_register, image, picks, out)
+}
+
+/// The same for a text.
+pub fn register_text_in(text: &[u8], picks: &[u8], out: &mut [u8]) -> usize {
+    call(cavindorum_register_text, text, picks, out)
 }
 
 /// The whole register.

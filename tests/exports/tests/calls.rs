@@ -1,71 +1,100 @@
 //! The exported calls beside the model: numbers, answers and whole buffers,
 //! within the stack that the header states.
 
-use cavindorum_exports::{register, register_in, run, LONGEST_REGISTER, STACK};
+use cavindorum_exports::{register_in, register_text_in, run, run_text, LONGEST_REGISTER, STACK};
 use cavindorum_tests::by_hand::{longest, PAPER_IMAGE};
 use cavindorum_tests::edges::edges;
 use cavindorum_tests::examples::examples;
 use cavindorum_tests::generate::{damaged_image, picks, valid_image};
 use cavindorum_tests::image::{read_image, write_image};
+use cavindorum_tests::net::Net;
+use cavindorum_tests::notation::edges::{chain, edges as text_edges};
+use cavindorum_tests::notation::generate::damage::damaged_text;
+use cavindorum_tests::notation::generate::valid_text;
+use cavindorum_tests::notation::read_text;
 use cavindorum_tests::random::Random;
 use cavindorum_tests::register;
-use cavindorum_tests::stack::loads;
+use cavindorum_tests::stack::{loads, texts};
 use cavindorum_tests::step::pick;
 use cavindorum_tests::stored::repository;
 
 /// A byte that no answer and no text has.
 const KEPT: u8 = 0xEE;
 
-/// A run made by the model: its number and its answers.
-fn model_run(image: &[u8], picks: &[u8]) -> (u8, Vec<u8>) {
-    match read_image(image) {
-        Err(number) => (number, Vec::new()),
-        Ok(mut net) => {
-            let answers = picks.iter().map(|byte| pick(&mut net, *byte));
-            (0, answers.collect())
+/// What a net is read from, and the calls for it beside the model.
+#[derive(Clone, Copy)]
+struct Form {
+    read: fn(&[u8]) -> Result<Net, u8>,
+    run: fn(&[u8], &[u8], &mut [u8]) -> u8,
+    register: fn(&[u8], &[u8]) -> String,
+    register_in: fn(&[u8], &[u8], &mut [u8]) -> usize,
+}
+
+const IMAGE: Form = Form {
+    read: read_image,
+    run,
+    register: register::register,
+    register_in,
+};
+
+const TEXT: Form = Form {
+    read: read_text,
+    run: run_text,
+    register: register::register_text,
+    register_in: register_text_in,
+};
+
+impl Form {
+    /// A run made by the model: its number and its answers.
+    fn model_run(&self, net: &[u8], picks: &[u8]) -> (u8, Vec<u8>) {
+        match (self.read)(net) {
+            Err(number) => (number, Vec::new()),
+            Ok(mut net) => {
+                let answers = picks.iter().map(|byte| pick(&mut net, *byte));
+                (0, answers.collect())
+            }
         }
     }
-}
 
-/// Fails unless both calls give what the model gives, into buffers that are
-/// just long enough, longer and too short.
-fn compare(image: &[u8], picks: &[u8]) {
-    let (number, answers) = model_run(image, picks);
-    for more in [0, 3] {
-        let mut found = vec![KEPT; picks.len() + more];
-        let mut expected = answers.clone();
-        expected.resize(found.len(), KEPT);
-        assert_eq!(run(image, picks, &mut found), number, "{image:02X?}");
-        assert!(found == expected, "{image:02X?} {picks:02X?}");
+    /// Fails unless both calls give what the model gives, into buffers that
+    /// are just long enough, longer and too short.
+    fn compare(&self, net: &[u8], picks: &[u8]) {
+        let (number, answers) = self.model_run(net, picks);
+        for more in [0, 3] {
+            let mut found = vec![KEPT; picks.len() + more];
+            let mut expected = answers.clone();
+            expected.resize(found.len(), KEPT);
+            assert_eq!((self.run)(net, picks, &mut found), number, "{net:02X?}");
+            assert!(found == expected, "{net:02X?} {picks:02X?}");
+        }
+        if let Some(short) = picks.len().checked_sub(1) {
+            let mut found = vec![KEPT; short];
+            let expected = if number == 0 { 35 } else { number };
+            assert_eq!((self.run)(net, picks, &mut found), expected, "{net:02X?}");
+            assert!(found.iter().all(|byte| *byte == KEPT));
+        }
+        self.compare_register(net, picks);
     }
-    if let Some(short) = picks.len().checked_sub(1) {
-        let mut found = vec![KEPT; short];
-        let expected = if number == 0 { 35 } else { number };
-        assert_eq!(run(image, picks, &mut found), expected, "{image:02X?}");
-        assert!(found.iter().all(|byte| *byte == KEPT));
-    }
-    compare_register(image, picks);
-}
 
-fn compare_register(image: &[u8], picks: &[u8]) {
-    let text = register::register(image, picks).into_bytes();
-    let length = text.len();
-    assert!(length <= LONGEST_REGISTER);
-    for room in [length, length + 3, length - 1, length / 2, 0] {
-        let mut found = vec![KEPT; room];
-        let mut expected = text.clone();
-        expected.resize(room, KEPT);
-        let written = if room < length { 0 } else { length };
-        assert_eq!(register_in(image, picks, &mut found), written);
-        assert!(found == expected, "{image:02X?} {picks:02X?}");
+    fn compare_register(&self, net: &[u8], picks: &[u8]) {
+        let text = (self.register)(net, picks).into_bytes();
+        let length = text.len();
+        assert!(length <= LONGEST_REGISTER);
+        for room in [length, length + 3, length - 1, length / 2, 0] {
+            let mut found = vec![KEPT; room];
+            let mut expected = text.clone();
+            expected.resize(room, KEPT);
+            let written = if room < length { 0 } else { length };
+            assert_eq!((self.register_in)(net, picks, &mut found), written);
+            assert!(found == expected, "{net:02X?} {picks:02X?}");
+        }
     }
-    assert!(register(image, picks) == text);
 }
 
 #[test]
 fn the_edges() {
     for edge in edges() {
-        compare(&edge.image, &edge.picks);
+        IMAGE.compare(&edge.image, &edge.picks);
     }
 }
 
@@ -73,7 +102,8 @@ fn the_edges() {
 fn the_examples() {
     for example in examples() {
         let picks: Vec<u8> = example.picks.iter().map(|(pick, _)| *pick).collect();
-        compare(&write_image(&example.net), &picks);
+        IMAGE.compare(&write_image(&example.net), &picks);
+        TEXT.compare(example.notation.as_bytes(), &picks);
     }
 }
 
@@ -85,12 +115,17 @@ fn long_images_and_long_lists() {
         for head in [&longest[..], &PAPER_IMAGE[..]] {
             let mut image = head.to_vec();
             image.resize(length, 0);
-            compare(&image, &[0, 4, 0x10]);
+            IMAGE.compare(&image, &[0, 4, 0x10]);
         }
     }
     for length in [65_535, 65_536, 65_537, 200_000] {
-        compare(&PAPER_IMAGE, &vec![0; length]);
+        IMAGE.compare(&PAPER_IMAGE, &vec![0; length]);
     }
+}
+
+/// Picks that mostly perform, where the net is accepted.
+fn some_picks(random: &mut Random, read: Result<Net, u8>) -> Vec<u8> {
+    read.map_or(vec![0; 3], |net| picks(random, &net, 100))
 }
 
 #[test]
@@ -98,12 +133,34 @@ fn random_images() {
     let mut random = Random::new(601);
     for _ in 0..500 {
         let image = valid_image(&mut random);
-        let list = match read_image(&image) {
-            Ok(net) => picks(&mut random, &net, 100),
-            Err(_) => vec![0; 3],
-        };
-        compare(&image, &list);
-        compare(&damaged_image(&mut random), &list);
+        let list = some_picks(&mut random, read_image(&image));
+        IMAGE.compare(&image, &list);
+        IMAGE.compare(&damaged_image(&mut random), &list);
+    }
+}
+
+#[test]
+fn random_texts() {
+    let mut random = Random::new(602);
+    for _ in 0..500 {
+        let text = valid_text(&mut random);
+        let list = some_picks(&mut random, read_text(&text));
+        TEXT.compare(&text, &list);
+        TEXT.compare(&damaged_text(&mut random), &list);
+    }
+}
+
+/// The edges of texts, and longer texts than the programs take.
+#[test]
+fn texts_by_hand() {
+    for (text, _) in text_edges() {
+        TEXT.compare(&text, &[0, 4, 0x10]);
+    }
+    let row = "0 has n 0:iroe\n";
+    let long = format!("{row}0 :: {}\n", chain(300_000));
+    let deep = format!("{row}A0 = {}\n", "(".repeat(2_000_000));
+    for text in [long, deep] {
+        TEXT.compare(text.as_bytes(), &[0]);
     }
 }
 
@@ -121,20 +178,25 @@ fn the_header_s_numbers() {
     assert!(header.contains(&longest));
 }
 
-/// Both calls, on the longest image and on a net with every action, in a
-/// thread with the stack that the header states. With too little the whole
-/// test ends.
+/// All calls, on the longest image and on a net with every action, on the
+/// deepest text and on the widest, in a thread with the stack that the header
+/// states. With too little the whole test ends.
 #[test]
 fn calls_within_the_stated_stack() {
-    for load in loads() {
-        let image = load.image();
-        let (number, expected) = model_run(&image, &load.picks);
-        let text = register::register(&image, &load.picks).into_bytes();
+    let [_, busy] = loads();
+    let images = loads().map(|load| (IMAGE, load.image()));
+    let texts = texts().map(|text| (TEXT, text));
+    for (form, net) in images.into_iter().chain(texts) {
+        let picks = busy.picks.clone();
+        let (number, expected) = form.model_run(&net, &picks);
+        let text = (form.register)(&net, &picks).into_bytes();
         let calls = move || {
-            let mut answers = vec![KEPT; load.picks.len()];
-            assert_eq!(run(&image, &load.picks, &mut answers), number);
+            let mut answers = vec![KEPT; picks.len()];
+            assert_eq!((form.run)(&net, &picks, &mut answers), number);
             assert!(answers == expected);
-            assert!(register(&image, &load.picks) == text);
+            let mut out = vec![KEPT; text.len()];
+            assert_eq!((form.register_in)(&net, &picks, &mut out), text.len());
+            assert!(out == text);
         };
         let thread = std::thread::Builder::new().stack_size(STACK);
         let thread = thread.spawn(calls).expect("it starts");

@@ -2,19 +2,35 @@
 //! stack of a thread in which the call returns. A call that has too little
 //! ends the process, so each is tried in a process of its own.
 
-use cavindorum_exports::{register_in, run, LONGEST_REGISTER};
-use cavindorum_tests::stack::{least, loads};
+use cavindorum_exports::{register_in, register_text_in, run, run_text, LONGEST_REGISTER};
+use cavindorum_tests::stack::{least, loads, texts};
 use std::env;
 use std::process::{Command, Stdio};
 
-const CALLS: [&str; 2] = ["cavindorum_run", "cavindorum_register"];
+/// An image or a text, picks, and the buffer that is written.
+type Call = fn(&[u8], &[u8], &mut [u8]);
+
+const CALLS: [(&str, Call); 4] = [
+    ("cavindorum_run", |image, picks, out| {
+        run(image, picks, out);
+    }),
+    ("cavindorum_register", |image, picks, out| {
+        register_in(image, picks, out);
+    }),
+    ("cavindorum_run_text", |text, picks, out| {
+        run_text(text, picks, out);
+    }),
+    ("cavindorum_register_text", |text, picks, out| {
+        register_text_in(text, picks, out);
+    }),
+];
 
 fn main() {
     let arguments: Vec<String> = env::args().skip(1).collect();
     if let [name, kilobytes] = &arguments[..] {
         return try_call(name, kilobytes.parse().expect("a number"));
     }
-    for name in CALLS {
+    for (name, _) in CALLS {
         let kilobytes = least(|kilobytes| returns_within(name, kilobytes));
         println!("{name}: {kilobytes} KB");
     }
@@ -31,19 +47,18 @@ fn returns_within(name: &str, kilobytes: usize) -> bool {
 
 /// Makes a call on each load in a thread with so many kilobytes of stack.
 fn try_call(name: &str, kilobytes: usize) {
-    let register = name == CALLS[1];
-    for load in loads() {
-        let image = load.image();
-        let mut out = vec![0; LONGEST_REGISTER];
-        let call = move || {
-            if register {
-                register_in(&image, &load.picks, &mut out);
-            } else {
-                run(&image, &load.picks, &mut out);
-            }
-        };
+    let found = CALLS.into_iter().find(|(one, _)| *one == name);
+    let (_, call) = found.expect("it is a call");
+    let [_, busy] = loads();
+    let nets: Vec<Vec<u8>> = if name.ends_with("text") {
+        texts().into()
+    } else {
+        loads().map(|load| load.image()).into()
+    };
+    for net in nets {
+        let (picks, mut out) = (busy.picks.clone(), vec![0; LONGEST_REGISTER]);
         let thread = std::thread::Builder::new().stack_size(kilobytes << 10);
-        let thread = thread.spawn(call).expect("it starts");
-        thread.join().expect("it returns");
+        let thread = thread.spawn(move || call(&net, &picks, &mut out));
+        thread.expect("it starts").join().expect("it returns");
     }
 }
