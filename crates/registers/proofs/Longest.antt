@@ -12,15 +12,17 @@ use Rattle.text.specs.Bytes.{bytes}
 use Rattle.text.specs.Decimal.{digit, digits, decimal, signedDecimal}
 use Rattle.text.specs.Joined.{joined}
 use Rattle.net.specs.Records.{fieldAt, tupleAt, nodeAt, addressOf}
+use Rattle.net.specs.Choice.{choose}
 use Rattle.net.proofs.Every.{chosen, chosen-lt}
 use Rattle.plans.specs.Answer.{numberOf}
 use Rattle.step.specs.Pick.{hostOf, slotOf}
 use Rattle.run.specs.Run.{Ran, Outcome, refused, refused-text, ran, numbers}
 use Rattle.registers.specs.Types.{Locality, Item, Tuple, Node, Net, Answer}
 use Rattle.registers.specs.Words.{Word, name, number, wordText, spaced, lineText, printed}
-use Rattle.registers.specs.Shown.{plain}
+use Rattle.registers.specs.Shown.{current}
 use Rattle.registers.specs.Lines.{fewer, refusalLine, refusedLine, netLine, pickLine, madeLine, nodeLine}
 use Rattle.registers.specs.Lines.{itemWord, fieldWords, tupleLine, tupleLines, nodeLines, netLines, pickLines, registerLines}
+use Rattle.registers.specs.Lines.{tupleCount, totalLine, closingLines, afterLines}
 use Rattle.registers.specs.Register.{registerIn, registerOf, registerTextOf}
 use Rattle.registers.specs.Longest.{longest, LongestRegister, LongestTextRegister}
 use Rattle.registers.proofs.WordLaws.{spaced-none, spaced-both, printed-none, printed-both}
@@ -135,7 +137,7 @@ net-short : (n k : ℕ) → length (printed (netLine n k ∷ [])) ≤ 46
 unfolding netLine bytes
 net-short n k = line-short _ _ 42 (number-more _ _ 21 (number-more _ _ 0 no-words))
 
-node-short : (a : Locality) (n busy : ℕ) → length (printed (nodeLine plain a n busy ∷ [])) ≤ 68
+node-short : (a : Locality) (n busy : ℕ) → length (printed (nodeLine current a n busy ∷ [])) ≤ 68
 unfolding nodeLine bytes
 node-short a n busy = line-short _ _ 63 (number-more _ _ 42 (number-more _ _ 21 (number-more _ _ 0 no-words)))
 
@@ -152,24 +154,36 @@ unfolding fieldWords
 fields-short t =
     some-short spaced spaced-none spaced-both (t .count) 4 22 _ (λ i _. word-more _ _ 21 0 (item-short (fieldAt t i)) no-words)
 
-tuple-short : (a : Locality) (t : Tuple) → length (printed (tupleLine plain a t ∷ [])) ≤ 115
+tuple-short : (a : Locality) (t : Tuple) → length (printed (tupleLine current a t ∷ [])) ≤ 115
 unfolding tupleLine bytes
 tuple-short a t = line-short _ _ 109 (number-more _ _ 88 (fields-short t))
 
-tuples-short : (a : Locality) (x : Node) → length (printed (tupleLines plain a x)) ≤ 1840
+tuples-short : (a : Locality) (x : Node) → length (printed (tupleLines current a x)) ≤ 1840
 unfolding tupleLines
 tuples-short a x =
     some-short printed printed-none printed-both (x .stored) 16 115 _ (λ i _. tuple-short a (tupleAt x i))
 
-node-lines-short : (a : Locality) (x : Node) → length (printed (nodeLines plain a x)) ≤ 1908
+node-lines-short : (a : Locality) (x : Node) → length (printed (nodeLines current a x)) ≤ 1908
 unfolding nodeLines
 node-lines-short a x = lines-short _ _ 68 1840 (node-short a _ _) (tuples-short a x)
 
-net-lines-short : (s : Net) → length (printed (netLines plain s)) ≤ 30528
+net-lines-short : (s : Net) → length (printed (netLines current s)) ≤ 30528
 unfolding netLines
 net-lines-short s =
     some-short printed printed-none printed-both (s .addresses) 16 1908 _
     (λ a _. node-lines-short (addressOf a) (nodeAt s (addressOf a)))
+
+total-short : (n : ℕ) → length (printed (totalLine n ∷ [])) ≤ 27
+unfolding totalLine bytes
+total-short n = line-short _ _ 21 (number-more _ _ 0 no-words)
+
+closing-short : (s : Net) → length (printed (closingLines current s)) ≤ 27
+unfolding closingLines current choose
+closing-short s = total-short (tupleCount s)
+
+after-short : (s : Net) → length (printed (afterLines current s)) ≤ 30555
+unfolding afterLines
+after-short s = two-short printed printed-none printed-both _ _ 30528 27 (net-lines-short s) (closing-short s)
 
 -- ---- the picks
 number-small : (x : Answer) → numberOf x < 100
@@ -213,7 +227,7 @@ unfolding registerIn registerLines refusedLine longest
 register-short s picks (refused f) h g = omega (arith, refused-short (f .number))
 register-short s picks (refused-text n) h g = omega (arith, refused-short n)
 register-short s picks (ran r) h g =
-    let rest = two-short printed printed-none printed-both _ _ _ _ (picks-short picks r h g) (net-lines-short (r .net)) in
+    let rest = two-short printed printed-none printed-both _ _ _ _ (picks-short picks r h g) (after-short (r .net)) in
     let whole = lines-short _ _ 46 _ (net-short (s .addresses) (s .length)) rest in
     omega (arith, whole)
 

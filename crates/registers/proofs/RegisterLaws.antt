@@ -10,9 +10,10 @@ use lib.ListN.{length, getD, take, length-map, List·getD-append}
 use lib.Seq.{sets-eq, take-all, take-length, length-take-le}
 use lib.Dec.{leb}
 use borrow.Author.Tests.{lt-leb}
-use Rattle.net.specs.Choice.{choose}
-use Rattle.net.specs.Records.{processCount}
+use Rattle.net.specs.Choice.{choose, fold}
+use Rattle.net.specs.Records.{processCount, nodeAt, addressOf}
 use Rattle.net.proofs.Laws.{choose-false}
+use Rattle.net.proofs.FoldLaws.{fold-none, fold-more}
 use Rattle.text.specs.Buffer.{over}
 use Rattle.text.specs.Writing.{Wrote}
 use Rattle.text.proofs.WritingLaws.{wrote-length, joined-same}
@@ -25,9 +26,10 @@ use Rattle.run.specs.Making.{Made}
 use Rattle.run.proofs.CallLaws.{ran-is, refused-is, text-ran-is, text-refused-is, answers-length}
 use Rattle.registers.specs.Types.{Locality, Node, Net, Fault, Opened, Verdict, TextOpened, TextVerdict}
 use Rattle.registers.specs.Words.{Word, printed}
-use Rattle.registers.specs.Shown.{plain}
-use Rattle.registers.specs.Lines.{refusalLine, refusedLine, netLine, pickLine, madeLine, nodeLine}
+use Rattle.registers.specs.Shown.{current}
+use Rattle.registers.specs.Lines.{fewer, refusalLine, refusedLine, netLine, pickLine, madeLine, nodeLine}
 use Rattle.registers.specs.Lines.{tupleLines, nodeLines, netLines, pickLines, registerLines}
+use Rattle.registers.specs.Lines.{tuplesBelow, tupleCount, totalLine, closingLines, afterLines}
 use Rattle.registers.specs.Register.{registerIn, registerOf, registerTextOf}
 use Rattle.registers.specs.Calls.{Registered, writtenIn, registeredOf, registeredNumber, roomNumber}
 use Rattle.registers.proofs.WordLaws.{printed-none, printed-both, parts-then, lines-then}
@@ -41,11 +43,40 @@ made-line xs at i b x a k ys r d e h = rw (← d, ← e) h
 
 pub node-lines :
     (xs : List ℕ) (at : ℕ) (a : Locality) (x : Node) (busy : ℕ) (ys zs : List ℕ) (r q : ℕ) → busy ≡ processCount x
-    → Wrote xs at (printed (nodeLine plain a (x .stored) busy ∷ [])) ys r → Wrote ys r (printed (tupleLines plain a x)) zs q
-    → Wrote xs at (printed (nodeLines plain a x)) zs q
+    → Wrote xs at (printed (nodeLine current a (x .stored) busy ∷ [])) ys r → Wrote ys r (printed (tupleLines current a x)) zs q
+    → Wrote xs at (printed (nodeLines current a x)) zs q
 unfolding nodeLines
 node-lines xs at a x busy ys zs r q e h k =
-    lines-then xs at _ _ _ _ _ _ (subst (λ (n : ℕ). Wrote xs at (printed (nodeLine plain a (x .stored) n ∷ [])) ys r) e h) k
+    lines-then xs at _ _ _ _ _ _ (subst (λ (n : ℕ). Wrote xs at (printed (nodeLine current a (x .stored) n ∷ [])) ys r) e h) k
+
+-- ---- the total
+module _ (s : Net) where
+  pub tuples-none : 0 ≡ tuplesBelow s 0
+  unfolding tuplesBelow
+  tuples-none = fold-none _ 0 0 refl
+
+  -- one address more is counted
+  pub tuples-more :
+      (i n k : ℕ) → n ≡ tuplesBelow s i → k ≡ fewer (nodeAt s (addressOf i) .stored) 16 → n + k ≡ tuplesBelow s (i + 1)
+  unfolding tuplesBelow
+  tuples-more i n k e f = fold-more _ 0 i n (n + k) e (ap (λ (m : ℕ). n + m) f)
+
+  pub tuples-all :
+      (i n k : ℕ) → k ≡ tuplesBelow s i → i ≤ n → n ≤ i → n ≡ fewer (s .addresses) 16 → k ≡ tupleCount s
+  unfolding tupleCount
+  tuples-all i n k e l m f = let same : i ≡ fewer (s .addresses) 16 = omega arith in e ∙ ap (tuplesBelow s) same
+
+pub closing-line :
+    (xs : List ℕ) (at n : ℕ) (s : Net) (ys : List ℕ) (r : ℕ) → n ≡ tupleCount s → Wrote xs at (printed (totalLine n ∷ [])) ys r
+    → Wrote xs at (printed (closingLines current s)) ys r
+unfolding closingLines current choose
+closing-line xs at n s ys r e h = rw (← e) h
+
+pub after-lines :
+    (xs : List ℕ) (at : ℕ) (s : Net) (ys zs : List ℕ) (r q : ℕ) → Wrote xs at (printed (netLines current s)) ys r
+    → Wrote ys r (printed (closingLines current s)) zs q → Wrote xs at (printed (afterLines current s)) zs q
+unfolding afterLines
+after-lines xs at s ys zs r q h k = parts-then printed printed-none printed-both _ _ _ _ _ _ _ _ h k
 
 -- ---- a register
 chosen-number : (b : Bool) (n : ℕ) → registeredNumber (choose b (Registered.Written n) Registered.NoRoom) ≡ choose b 0 35
@@ -105,14 +136,14 @@ module _ (s : Net) (picks xs ys : List ℕ) (last : Net) (m : Made s picks xs ys
       (out₀ out₁ out₂ out₃ : List ℕ) (p q r : ℕ)
       → Wrote out₀ 0 (printed (netLine (s .addresses) (s .length) ∷ [])) out₁ p
       → Wrote out₁ p (printed (pickLines picks ys)) out₂ q
-      → Wrote out₂ q (printed (netLines plain last)) out₃ r
+      → Wrote out₂ q (printed (afterLines current last)) out₃ r
       → Wrote out₀ 0 (registerIn s picks (ran (ranFrom s picks))) out₃ r
   unfolding registerIn registerLines
   register-run out₀ out₁ out₂ out₃ p q r a b c =
       lines-then _ _ _ _ _ _ _ _ a
       (parts-then printed printed-none printed-both _ _ _ _ _ _ _ _
       (subst (λ (t : List (List Word)). Wrote out₁ p (printed t) out₂ q) lines-same b)
-      (subst (λ (z : Net). Wrote out₂ q (printed (netLines plain z)) out₃ r) (m .net-is) c))
+      (subst (λ (z : Net). Wrote out₂ q (printed (afterLines current z)) out₃ r) (m .net-is) c))
 
 -- of the net and the outcome that the image or the text has
 register-as :
@@ -130,7 +161,7 @@ module _ (image picks : List ℕ) (o : Opened) (read : o ≡ openedOf image) (xs
       register-as _ xs ys r _ _ _ _ (ap (λ (z : Opened). z .net) read) (ran-is image o read (take 65536 picks) a) w
 
   pub register-refused :
-      (f : Fault) → o .answer ≡ Verdict.Refused f → Wrote xs 0 (printed (refusedLine plain f ∷ [])) ys r
+      (f : Fault) → o .answer ≡ Verdict.Refused f → Wrote xs 0 (printed (refusedLine current f ∷ [])) ys r
       → Wrote xs 0 (registerOf image picks) ys r
   unfolding registerOf registerIn registerLines
   register-refused f a w =

@@ -5,7 +5,7 @@ use lib.ListN.{getD, length}
 use lib.Dec.{ltb}
 use Rattle.text.specs.Bytes.{bytes}
 use Rattle.text.specs.Joined.{joined}
-use Rattle.net.specs.Choice.{choose}
+use Rattle.net.specs.Choice.{choose, fold}
 use Rattle.net.specs.Records.{fieldAt, tupleAt, nodeAt, addressOf, processCount}
 use Rattle.step.specs.Pick.{hostOf, slotOf}
 use Rattle.run.specs.Run.{Outcome, refused, refused-text, ran, numbers}
@@ -59,6 +59,24 @@ nodeLines shown a x = nodeLine shown a (x .stored) (processCount x) ∷ tupleLin
 unfoldable pub netLines : Shown → Net → List (List Word)
 netLines shown s = joined (fewer (s .addresses) 16) (λ a. nodeLines shown (addressOf a) (nodeAt s (addressOf a)))
 
+-- how many tuples stand at the first n addresses, and how many in the net
+unfoldable pub tuplesBelow : Net → ℕ → ℕ
+tuplesBelow s n = fold n (λ a count. count + fewer (nodeAt s (addressOf a) .stored) 16) 0
+
+unfoldable pub tupleCount : Net → ℕ
+tupleCount s = tuplesBelow s (fewer (s .addresses) 16)
+
+-- total, and that number (document 02, slip 1)
+unfoldable pub totalLine : ℕ → List Word
+totalLine n = name (bytes "total") ∷ number n ∷ []
+
+unfoldable pub closingLines : Shown → Net → List (List Word)
+closingLines shown s = choose (shown .total) (totalLine (tupleCount s) ∷ []) []
+
+-- what a register says of a net: its nodes, and its total
+unfoldable pub afterLines : Shown → Net → List (List Word)
+afterLines shown s = netLines shown s ++ closingLines shown s
+
 -- each pick, numbered from 1, with its answer
 unfoldable pub madeLine : ℕ → ℕ → ℕ → List Word
 madeLine i b x = pickLine i (hostOf b) (slotOf b) x
@@ -71,4 +89,4 @@ unfoldable pub registerLines : Shown → Net → List ℕ → Outcome → List (
 registerLines shown s picks (refused f) = refusedLine shown f ∷ []
 registerLines shown s picks (refused-text n) = refusalLine n ∷ []
 registerLines shown s picks (ran r) =
-    netLine (s .addresses) (s .length) ∷ (pickLines picks (numbers r) ++ netLines shown (r .net))
+    netLine (s .addresses) (s .length) ∷ (pickLines picks (numbers r) ++ afterLines shown (r .net))

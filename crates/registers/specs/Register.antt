@@ -7,12 +7,12 @@ use Rattle.notation.specs.Text.{readOf}
 use Rattle.run.specs.Run.{Outcome, runOf, runTextOf}
 use Rattle.registers.specs.Types.{Net}
 use Rattle.registers.specs.Words.{printed}
-use Rattle.registers.specs.Shown.{plain}
+use Rattle.registers.specs.Shown.{current}
 use Rattle.registers.specs.Lines.{registerLines}
 
 -- the bytes, by what the run comes to
 unfoldable pub registerIn : Net → List ℕ → Outcome → List ℕ
-registerIn s picks outcome = printed (registerLines plain s picks outcome)
+registerIn s picks outcome = printed (registerLines current s picks outcome)
 
 unfoldable pub registerOf : List ℕ → List ℕ → List ℕ
 registerOf image picks = registerIn (openedOf image .net) (take 65536 picks) (runOf image (take 65536 picks))

@@ -1,9 +1,9 @@
 -- What a listing may show beyond document 01's register.
-use mathlib.Core.Bool.{Bool, false}
+use mathlib.Core.Bool.{Bool, true, false}
 
--- The lines take it where each part has its place. Today none is shown: no line looks at it.
+-- The lines take it where each part has its place. Today the total alone is shown: no line looks at the other parts.
 pub record Shown : Type 0 where
-  -- after the last line, `total` and the number of tuples in the net
+  -- after the last line, `total` and the number of tuples in the net (document 02, slip 1)
   pub total : Bool
   -- in the line of a refusal, the bit at which the field at fault begins
   pub place : Bool
@@ -12,6 +12,6 @@ pub record Shown : Type 0 where
   -- at the end of a node's line, its station's name
   pub names : Bool
 
--- document 01's register
-unfoldable pub plain : Shown
-plain = record { total = false; place = false; mark = false; names = false }
+-- what a register shows
+unfoldable pub current : Shown
+current = record { total = true; place = false; mark = false; names = false }

@@ -17,9 +17,10 @@ ghost use mathlib.Core.Path.{_≡_};
 ghost use lib.ListN.{length};
 ghost use Rattle.text.specs.Writing.{Wrote};
 ghost use Rattle.registers.specs.Words.{spaced, printed};
-ghost use Rattle.registers.specs.Shown.{plain};
+ghost use Rattle.registers.specs.Shown.{current};
 ghost use Rattle.registers.specs.Lines.{fewer, refusalLine, refusedLine, netLine, pickLine, madeLine, nodeLine};
 ghost use Rattle.registers.specs.Lines.{fieldWords, tupleLine, tupleLines, nodeLines, netLines, pickLines};
+ghost use Rattle.registers.specs.Lines.{tupleCount, totalLine, closingLines, afterLines};
 
 // A count, or the size of its array where the count is larger.
 fn at_most(count: usize, size: usize) -> usize
@@ -38,7 +39,7 @@ pub fn put_refusal(out: &mut [u8], at: usize, n: u8) -> usize
 }
 
 pub fn put_refused(out: &mut [u8], at: usize, fault: Fault) -> usize
-    ensures { λ r. ⌜ Wrote (now (out .entry)) at (printed (refusedLine plain fault ∷ [])) (now (out .exit)) r ⌝ }
+    ensures { λ r. ⌜ Wrote (now (out .entry)) at (printed (refusedLine current fault ∷ [])) (now (out .exit)) r ⌝ }
 {
     put_refusal(out, at, fault.number)
 }
@@ -86,7 +87,7 @@ pub(crate) fn put_picks(out: &mut [u8], at: usize, picks: &[u8], answers: &[u8])
 }
 
 fn put_node(out: &mut [u8], at: usize, a: Locality, stored: usize, busy: usize) -> usize
-    ensures { λ r. ⌜ Wrote (now (out .entry)) at (printed (nodeLine plain a stored busy ∷ [])) (now (out .exit)) r ⌝ }
+    ensures { λ r. ⌜ Wrote (now (out .entry)) at (printed (nodeLine current a stored busy ∷ [])) (now (out .exit)) r ⌝ }
 {
     let first = put_bytes(out, at, b"node");
     let second = put_number(out, first, a.0 as usize);
@@ -110,7 +111,7 @@ fn put_fields(out: &mut [u8], at: usize, t: Tuple) -> usize
 }
 
 fn put_tuple(out: &mut [u8], at: usize, a: Locality, t: Tuple) -> usize
-    ensures { λ r. ⌜ Wrote (now (out .entry)) at (printed (tupleLine plain a t ∷ [])) (now (out .exit)) r ⌝ }
+    ensures { λ r. ⌜ Wrote (now (out .entry)) at (printed (tupleLine current a t ∷ [])) (now (out .exit)) r ⌝ }
 {
     let first = put_bytes(out, at, b"tuple");
     let second = put_number(out, first, a.0 as usize);
@@ -119,7 +120,7 @@ fn put_tuple(out: &mut [u8], at: usize, a: Locality, t: Tuple) -> usize
 }
 
 fn put_tuples(out: &mut [u8], at: usize, a: Locality, x: Node) -> usize
-    ensures { λ r. ⌜ Wrote (now (out .entry)) at (printed (tupleLines plain a x)) (now (out .exit)) r ⌝ }
+    ensures { λ r. ⌜ Wrote (now (out .entry)) at (printed (tupleLines current a x)) (now (out .exit)) r ⌝ }
 {
     let n = at_most(x.stored, 16);
     let mut next = at;
@@ -134,7 +135,7 @@ fn put_tuples(out: &mut [u8], at: usize, a: Locality, x: Node) -> usize
 
 // A node's line, and its tuples.
 fn put_node_lines(out: &mut [u8], at: usize, a: Locality, x: Node) -> usize
-    ensures { λ r. ⌜ Wrote (now (out .entry)) at (printed (nodeLines plain a x)) (now (out .exit)) r ⌝ }
+    ensures { λ r. ⌜ Wrote (now (out .entry)) at (printed (nodeLines current a x)) (now (out .exit)) r ⌝ }
 {
     let busy = x.process_count();
     let next = put_node(out, at, a, x.stored, busy);
@@ -142,8 +143,8 @@ fn put_node_lines(out: &mut [u8], at: usize, a: Locality, x: Node) -> usize
 }
 
 // The lines of each address in use.
-pub fn put_nodes(out: &mut [u8], at: usize, net: Net) -> usize
-    ensures { λ r. ⌜ Wrote (now (out .entry)) at (printed (netLines plain net)) (now (out .exit)) r ⌝ }
+fn put_nodes(out: &mut [u8], at: usize, net: Net) -> usize
+    ensures { λ r. ⌜ Wrote (now (out .entry)) at (printed (netLines current net)) (now (out .exit)) r ⌝ }
 {
     let n = at_most(net.addresses, 16);
     let mut next = at;
@@ -154,4 +155,44 @@ pub fn put_nodes(out: &mut [u8], at: usize, net: Net) -> usize
         i += 1;
     }
     next
+}
+
+// How many tuples stand in the net, at the addresses in use.
+fn tuple_count(net: Net) -> usize
+    ensures { λ r. ⌜ r ≡ tupleCount net ⌝ }
+{
+    let n = at_most(net.addresses, 16);
+    let mut count = 0;
+    let mut i = 0;
+    while i < n {
+        let x = net.nodes[i];
+        let stored = at_most(x.stored, 16);
+        count += stored;
+        i += 1;
+    }
+    count
+}
+
+fn put_total(out: &mut [u8], at: usize, n: usize) -> usize
+    ensures { λ r. ⌜ Wrote (now (out .entry)) at (printed (totalLine n ∷ [])) (now (out .exit)) r ⌝ }
+{
+    let first = put_bytes(out, at, b"total");
+    let second = put_number(out, first, n);
+    put(out, second, 10)
+}
+
+// The last line of a register.
+fn put_closing(out: &mut [u8], at: usize, net: Net) -> usize
+    ensures { λ r. ⌜ Wrote (now (out .entry)) at (printed (closingLines current net)) (now (out .exit)) r ⌝ }
+{
+    let n = tuple_count(net);
+    put_total(out, at, n)
+}
+
+// What a register says of the net after the picks.
+pub fn put_after(out: &mut [u8], at: usize, net: Net) -> usize
+    ensures { λ r. ⌜ Wrote (now (out .entry)) at (printed (afterLines current net)) (now (out .exit)) r ⌝ }
+{
+    let next = put_nodes(out, at, net);
+    put_closing(out, next, net)
 }

@@ -1,6 +1,6 @@
 // The register of an image or a text and its picks (document 01, "The register").
+use crate::lines::put_after;
 use crate::lines::put_net;
-use crate::lines::put_nodes;
 use crate::lines::put_picks;
 use crate::lines::put_refusal;
 use crate::lines::put_refused;
@@ -36,7 +36,7 @@ fn put_run(net: Net, picks: &[u8], out: &mut [u8]) -> usize
     let last = make(net, picks, &mut answers);
     let first = put_net(out, 0, net.addresses, net.length);
     let second = put_picks(out, first, picks, &answers);
-    put_nodes(out, second, last)
+    put_after(out, second, last)
 }
 
 // How many picks count.
