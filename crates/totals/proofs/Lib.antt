@@ -1,0 +1,4 @@
+pub mod Balance
+pub mod Counting
+pub mod TotalClaims
+pub mod Whole

@@ -1,0 +1,3 @@
+pub mod TextLines
+pub mod TotalClaims
+pub mod Types
