@@ -1,4 +1,5 @@
-//! The register (document 01, "The register").
+//! The register (document 01, "The register"; its last line by document 02,
+//! slip 1).
 
 use crate::image::read_image;
 use crate::net::*;
@@ -35,6 +36,7 @@ fn register_of(read: Result<Net, u8>, picks: &[u8]) -> String {
     for address in 0..net.address_count {
         write_node(&mut text, address, &net.nodes[address as usize]);
     }
+    line(&mut text, format_args!("total {}", net.tuple_count()));
     text
 }
 
@@ -90,13 +92,17 @@ mod tests {
 
     #[test]
     fn the_paper_s_run() {
-        let expected = "net 1 2\npick 1 0 0 0\npick 2 0 0 1\npick 3 0 0 7\nnode 0 1 0\ntuple 0 5\n";
+        let expected =
+            "net 1 2\npick 1 0 0 0\npick 2 0 0 1\npick 3 0 0 7\nnode 0 1 0\ntuple 0 5\ntotal 1\n";
         assert_eq!(register(&PAPER_IMAGE, &[0, 0, 0]), expected);
     }
 
     #[test]
     fn no_picks() {
-        assert_eq!(register(&PAPER_IMAGE, &[]), "net 1 2\nnode 0 0 1\n");
+        assert_eq!(
+            register(&PAPER_IMAGE, &[]),
+            "net 1 2\nnode 0 0 1\ntotal 0\n"
+        );
     }
 
     #[test]
@@ -121,7 +127,7 @@ mod tests {
     fn address_and_slot_are_printed_at_every_answer() {
         let text = register(&PAPER_IMAGE, &[0xF5, 0xF4, 0x0C]);
         assert_eq!(answers_in(&text), [9, 8, 7]);
-        let expected = "net 1 2\npick 1 15 1 9\npick 2 15 1 8\npick 3 0 3 7\nnode 0 0 1\n";
+        let expected = "net 1 2\npick 1 15 1 9\npick 2 15 1 8\npick 3 0 3 7\nnode 0 0 1\ntotal 0\n";
         assert_eq!(text, expected);
     }
 
@@ -131,7 +137,7 @@ mod tests {
         let fields = [reading(-1), address(1), reading(i32::MIN), address(0)];
         fill(&mut net, 1, &[Tuple::of(&fields), Tuple::of(&fields[..1])]);
         let expected =
-            "net 2 1\nnode 0 0 0\nnode 1 2 0\ntuple 1 -1 @1 -2147483648 @0\ntuple 1 -1\n";
+            "net 2 1\nnode 0 0 0\nnode 1 2 0\ntuple 1 -1 @1 -2147483648 @0\ntuple 1 -1\ntotal 2\n";
         assert_eq!(register(&write_image(&net), &[]), expected);
     }
 
@@ -139,7 +145,7 @@ mod tests {
     fn the_net_line_has_the_image_s_count() {
         let mut net = net(1, &[new(0, 0)]);
         net.nodes[0].row.create = true;
-        let expected = "net 1 2\npick 1 0 0 0\nnode 0 0 1\nnode 1 0 0\n";
+        let expected = "net 1 2\npick 1 0 0 0\nnode 0 0 1\nnode 1 0 0\ntotal 0\n";
         assert_eq!(register(&write_image(&net), &[0]), expected);
     }
 
@@ -148,6 +154,6 @@ mod tests {
         let picks = vec![0xFF; MOST_PICKS + 5];
         let text = register(&PAPER_IMAGE, &picks);
         assert_eq!(text, register(&PAPER_IMAGE, &picks[..MOST_PICKS]));
-        assert!(text.contains("pick 65536 15 3 9\nnode 0 0 1\n"));
+        assert!(text.contains("pick 65536 15 3 9\nnode 0 0 1\ntotal 0\n"));
     }
 }

@@ -59,79 +59,93 @@ use Stated::{Answers, Refused};
 
 /// Each edge by its name, those without a star first, as in the paper.
 const STATED: [(&str, Stated); 29] = [
-    ("16 addresses", Answers(&[7], &["node 15 0 0"])),
+    ("16 addresses", Answers(&[7], &["node 15 0 0", "total 0"])),
     ("17 addresses", Refused(22)),
     ("0 addresses", Refused(22)),
-    ("512 instructions", Answers(&[1], &["node 0 0 0"])),
+    (
+        "512 instructions",
+        Answers(&[1], &["node 0 0 0", "total 0"]),
+    ),
     ("513 instructions", Refused(22)),
     ("0 instructions", Refused(22)),
     ("0 addresses and 0 instructions", Refused(22)),
     (
         "eval to itself with four busy slots",
-        Answers(&[3, 3], &["node 0 0 4"]),
+        Answers(&[3, 3], &["node 0 0 4", "total 0"]),
     ),
     (
         "eval to itself until four slots are busy",
-        Answers(&[0, 0, 0, 3], &["node 0 0 4"]),
+        Answers(&[0, 0, 0, 3], &["node 0 0 4", "total 0"]),
     ),
     (
         "out, in, read and eval barred at a full target",
-        Answers(&[0, 0, 0, 0, 4, 4, 4, 4], &["tuple 1 3"]),
+        Answers(&[0, 0, 0, 0, 4, 4, 4, 4], &["tuple 1 3", "total 17"]),
     ),
     (
         "creation at 15 addresses",
-        Answers(&[8, 0, 7], &["node 14 0 0", "node 15 0 0"]),
+        Answers(&[8, 0, 7], &["node 14 0 0", "node 15 0 0", "total 0"]),
     ),
     (
         "creation at 16 addresses with n",
-        Answers(&[3], &["node 15 0 0"]),
+        Answers(&[3], &["node 15 0 0", "total 0"]),
     ),
     ("creation at 16 addresses without n, started", Refused(30)),
     (
         "creation at 16 addresses without n, sent",
-        Answers(&[5], &["node 15 0 0"]),
+        Answers(&[5], &["node 15 0 0", "total 0"]),
     ),
     ("no bytes", Refused(28)),
-    ("one stop", Answers(&[], &["net 1 1", "node 0 0 0"])),
+    (
+        "one stop",
+        Answers(&[], &["net 1 1", "node 0 0 0", "total 0"]),
+    ),
     ("one stop, last byte 01", Refused(29)),
     ("one stop, sixth byte 00", Refused(29)),
     ("one stop, sixth byte FF", Refused(29)),
     ("the register's image with third byte 40", Refused(30)),
     (
         "the register's run",
-        Answers(&[0, 1, 7], &["node 0 1 0", "tuple 0 5"]),
+        Answers(&[0, 1, 7], &["node 0 1 0", "tuple 0 5", "total 1"]),
     ),
     (
         "reading with all bits set",
-        Answers(&[0], &["node 0 2 1", "tuple 0 -1", "tuple 0 -1"]),
+        Answers(&[0], &["node 0 2 1", "tuple 0 -1", "tuple 0 -1", "total 2"]),
     ),
     (
         "reading with only the first bit set",
         Answers(
             &[0],
-            &["node 0 2 1", "tuple 0 -2147483648", "tuple 0 -2147483648"],
+            &[
+                "node 0 2 1",
+                "tuple 0 -2147483648",
+                "tuple 0 -2147483648",
+                "total 2",
+            ],
         ),
     ),
-    ("in at self without a tuple", Answers(&[2], &["node 0 0 1"])),
+    (
+        "in at self without a tuple",
+        Answers(&[2], &["node 0 0 1", "total 0"]),
+    ),
     (
         "out to 16 tuples",
-        Answers(&[3], &["tuple 0 15", "tuple 0 16"]),
+        Answers(&[3], &["tuple 0 15", "tuple 0 16", "total 16"]),
     ),
     (
         "out to 15 tuples",
-        Answers(&[0], &["tuple 0 15", "tuple 0 100"]),
+        Answers(&[0], &["tuple 0 15", "tuple 0 100", "total 16"]),
     ),
     (
         "read at a variable holding self, i but not r",
-        Answers(&[0, 4], &["node 0 1 1", "tuple 0 3"]),
+        Answers(&[0, 4], &["node 0 1 1", "tuple 0 3", "total 1"]),
     ),
     (
         "formal reading against an address",
-        Answers(&[2], &["node 0 1 1", "tuple 0 @0"]),
+        Answers(&[2], &["node 0 1 1", "tuple 0 @0", "total 1"]),
     ),
     (
         "two tuples fit",
-        Answers(&[0], &["node 0 1 1", "tuple 0 8"]),
+        Answers(&[0], &["node 0 1 1", "tuple 0 8", "total 1"]),
     ),
 ];
 

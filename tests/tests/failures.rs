@@ -95,7 +95,7 @@ fn an_unreadable_file() {
 fn a_missing_file() {
     let directory = TestDirectory::with(Some(&PAPER_IMAGE), None);
     let picks = directory.path.join("picks.bin");
-    let expected = (b"net 1 2\nnode 0 0 1\n".to_vec(), String::new());
+    let expected = (b"net 1 2\nnode 0 0 1\ntotal 0\n".to_vec(), String::new());
     assert_eq!(said("register", &directory.path, Stdio::null()), expected);
     symlink("nowhere", picks).expect("it can be made");
     assert_eq!(said("register", &directory.path, Stdio::null()), expected);

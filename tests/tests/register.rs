@@ -74,7 +74,8 @@ fn first_difference(printed: &[u8], expected: &str, image: &[u8], picks: &[u8]) 
 #[test]
 fn the_paper_s_run() {
     let registers = compare_all(&[files(&PAPER_IMAGE, &[0, 0, 0])]);
-    let paper = "net 1 2\npick 1 0 0 0\npick 2 0 0 1\npick 3 0 0 7\nnode 0 1 0\ntuple 0 5\n";
+    let paper =
+        "net 1 2\npick 1 0 0 0\npick 2 0 0 1\npick 3 0 0 7\nnode 0 1 0\ntuple 0 5\ntotal 1\n";
     assert_eq!(registers, [paper]);
 }
 
@@ -90,7 +91,7 @@ fn missing_and_empty_files() {
     }
     let registers = compare_all(&all);
     assert!(registers[..6].iter().all(|text| text == "refused 28\n"));
-    let unpicked = "net 1 2\nnode 0 0 1\n";
+    let unpicked = "net 1 2\nnode 0 0 1\ntotal 0\n";
     assert_eq!(registers[6..8], [unpicked, unpicked]);
 }
 

@@ -92,7 +92,7 @@ fn missing_files() {
     let picks = None;
     assert_eq!(
         compare_register(&Files { text, picks }),
-        "net 1 1\nnode 0 0 1\n"
+        "net 1 1\nnode 0 0 1\ntotal 0\n"
     );
     let none = Files {
         text: None,

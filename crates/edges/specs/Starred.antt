@@ -19,7 +19,7 @@ pub record StarredEdges : Type 0 where
       registerOf
       (16 ∷ 128 ∷ 32 ∷ 0 ∷ 0 ∷ [])
       ([])
-      ≡ bytes "net 1 1\nnode 0 0 0\n"
+      ≡ bytes "net 1 1\nnode 0 0 0\ntotal 0\n"
   -- The same with last byte 01: 29.
   pub last-byte :
       registerOf
@@ -44,25 +44,25 @@ pub record StarredEdges : Type 0 where
       registerOf
       (16 ∷ 128 ∷ 66 ∷ 32 ∷ 0 ∷ 20 ∷ 0 ∷ 0 ∷ 0 ∷ 0 ∷ 160 ∷ 16 ∷ [])
       (0 ∷ 0 ∷ 0 ∷ [])
-      ≡ bytes "net 1 2\npick 1 0 0 0\npick 2 0 0 1\npick 3 0 0 7\nnode 0 1 0\ntuple 0 5\n"
+      ≡ bytes "net 1 2\npick 1 0 0 0\npick 2 0 0 1\npick 3 0 0 7\nnode 0 1 0\ntuple 0 5\ntotal 1\n"
   -- Reading bits all ones: -1.
   pub all-ones :
       registerOf
       (16 ∷ 128 ∷ 66 ∷ 32 ∷ 0 ∷ 143 ∷ 255 ∷ 255 ∷ 255 ∷ 242 ∷ 131 ∷ 255 ∷ 255 ∷ 255 ∷ 252 ∷ 2 ∷ 0 ∷ [])
       (0 ∷ [])
-      ≡ bytes "net 1 2\npick 1 0 0 0\nnode 0 2 1\ntuple 0 -1\ntuple 0 -1\n"
+      ≡ bytes "net 1 2\npick 1 0 0 0\nnode 0 2 1\ntuple 0 -1\ntuple 0 -1\ntotal 2\n"
   -- Only the first bit set: -2147483648.
   pub first-bit :
       registerOf
       (16 ∷ 128 ∷ 66 ∷ 32 ∷ 0 ∷ 136 ∷ 0 ∷ 0 ∷ 0 ∷ 2 ∷ 130 ∷ 0 ∷ 0 ∷ 0 ∷ 0 ∷ 2 ∷ 0 ∷ [])
       (0 ∷ [])
-      ≡ bytes "net 1 2\npick 1 0 0 0\nnode 0 2 1\ntuple 0 -2147483648\ntuple 0 -2147483648\n"
+      ≡ bytes "net 1 2\npick 1 0 0 0\nnode 0 2 1\ntuple 0 -2147483648\ntuple 0 -2147483648\ntotal 2\n"
   -- An in at self, i held, no tuple: 2.
   pub nothing-to-take :
       registerOf
       (16 ∷ 128 ∷ 72 ∷ 32 ∷ 0 ∷ 36 ∷ 128 ∷ 2 ∷ 0 ∷ [])
       (0 ∷ [])
-      ≡ bytes "net 1 2\npick 1 0 0 2\nnode 0 0 1\n"
+      ≡ bytes "net 1 2\npick 1 0 0 2\nnode 0 0 1\ntotal 0\n"
   -- Out to 16 tuples: 3.
   pub full :
       registerOf
@@ -71,7 +71,7 @@ pub record StarredEdges : Type 0 where
       0 ∷ 0 ∷ 0 ∷ 20 ∷ 0 ∷ 0 ∷ 0 ∷ 2 ∷ 192 ∷ 0 ∷ 0 ∷ 0 ∷ 96 ∷ 0 ∷ 0 ∷ 0 ∷ 13 ∷ 0 ∷ 0 ∷ 0 ∷ 1 ∷ 192 ∷ 0 ∷
       0 ∷ 0 ∷ 60 ∷ 0 ∷ 0 ∷ 0 ∷ 8 ∷ 20 ∷ 0 ∷ 0 ∷ 0 ∷ 12 ∷ 128 ∷ 16 ∷ [])
       (0 ∷ [])
-      ≡ bytes "net 1 2\npick 1 0 0 3\nnode 0 16 1\ntuple 0 1\ntuple 0 2\ntuple 0 3\ntuple 0 4\ntuple 0 5\ntuple 0 6\ntuple 0 7\ntuple 0 8\ntuple 0 9\ntuple 0 10\ntuple 0 11\ntuple 0 12\ntuple 0 13\ntuple 0 14\ntuple 0 15\ntuple 0 16\n"
+      ≡ bytes "net 1 2\npick 1 0 0 3\nnode 0 16 1\ntuple 0 1\ntuple 0 2\ntuple 0 3\ntuple 0 4\ntuple 0 5\ntuple 0 6\ntuple 0 7\ntuple 0 8\ntuple 0 9\ntuple 0 10\ntuple 0 11\ntuple 0 12\ntuple 0 13\ntuple 0 14\ntuple 0 15\ntuple 0 16\ntotal 16\n"
   -- Out to 15: 0.
   pub room :
       registerOf
@@ -80,22 +80,22 @@ pub record StarredEdges : Type 0 where
       0 ∷ 0 ∷ 0 ∷ 20 ∷ 0 ∷ 0 ∷ 0 ∷ 2 ∷ 192 ∷ 0 ∷ 0 ∷ 0 ∷ 96 ∷ 0 ∷ 0 ∷ 0 ∷ 13 ∷ 0 ∷ 0 ∷ 0 ∷ 1 ∷ 192 ∷ 0 ∷
       0 ∷ 0 ∷ 60 ∷ 160 ∷ 0 ∷ 0 ∷ 0 ∷ 100 ∷ 0 ∷ 128 ∷ [])
       (0 ∷ [])
-      ≡ bytes "net 1 2\npick 1 0 0 0\nnode 0 16 1\ntuple 0 1\ntuple 0 2\ntuple 0 3\ntuple 0 4\ntuple 0 5\ntuple 0 6\ntuple 0 7\ntuple 0 8\ntuple 0 9\ntuple 0 10\ntuple 0 11\ntuple 0 12\ntuple 0 13\ntuple 0 14\ntuple 0 15\ntuple 0 100\n"
+      ≡ bytes "net 1 2\npick 1 0 0 0\nnode 0 16 1\ntuple 0 1\ntuple 0 2\ntuple 0 3\ntuple 0 4\ntuple 0 5\ntuple 0 6\ntuple 0 7\ntuple 0 8\ntuple 0 9\ntuple 0 10\ntuple 0 11\ntuple 0 12\ntuple 0 13\ntuple 0 14\ntuple 0 15\ntuple 0 100\ntotal 16\n"
   -- Row with i but not r, read at a variable holding self: 4.
   pub barred :
       registerOf
       (16 ∷ 128 ∷ 104 ∷ 32 ∷ 1 ∷ 16 ∷ 0 ∷ 0 ∷ 0 ∷ 0 ∷ 105 ∷ 40 ∷ 0 ∷ 184 ∷ 16 ∷ 128 ∷ 128 ∷ [])
       (0 ∷ 0 ∷ [])
-      ≡ bytes "net 1 3\npick 1 0 0 0\npick 2 0 0 4\nnode 0 1 1\ntuple 0 3\n"
+      ≡ bytes "net 1 3\npick 1 0 0 0\npick 2 0 0 4\nnode 0 1 1\ntuple 0 3\ntotal 1\n"
   -- Formal reading against an address field: 2.
   pub other-sort :
       registerOf
       (16 ∷ 128 ∷ 72 ∷ 32 ∷ 0 ∷ 144 ∷ 73 ∷ 0 ∷ 4 ∷ 0 ∷ [])
       (0 ∷ [])
-      ≡ bytes "net 1 2\npick 1 0 0 2\nnode 0 1 1\ntuple 0 @0\n"
+      ≡ bytes "net 1 2\npick 1 0 0 2\nnode 0 1 1\ntuple 0 @0\ntotal 1\n"
   -- Two tuples fit: the older is taken, the younger stays.
   pub oldest :
       registerOf
       (16 ∷ 128 ∷ 72 ∷ 32 ∷ 1 ∷ 0 ∷ 0 ∷ 0 ∷ 0 ∷ 112 ∷ 0 ∷ 0 ∷ 0 ∷ 16 ∷ 146 ∷ 0 ∷ 8 ∷ [])
       (0 ∷ [])
-      ≡ bytes "net 1 2\npick 1 0 0 0\nnode 0 1 1\ntuple 0 8\n"
+      ≡ bytes "net 1 2\npick 1 0 0 0\nnode 0 1 1\ntuple 0 8\ntotal 1\n"
