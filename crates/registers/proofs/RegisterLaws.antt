@@ -10,7 +10,7 @@ use lib.ListN.{length, getD, take, length-map, List·getD-append}
 use lib.Seq.{sets-eq, take-all, take-length, length-take-le}
 use lib.Dec.{leb}
 use borrow.Author.Tests.{lt-leb}
-use Rattle.net.specs.Choice.{choose, fold}
+use Rattle.net.specs.Choice.{choose}
 use Rattle.net.specs.Records.{processCount, nodeAt, addressOf}
 use Rattle.net.proofs.Laws.{choose-false}
 use Rattle.net.proofs.FoldLaws.{fold-none, fold-more}

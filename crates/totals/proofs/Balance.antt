@@ -1,33 +1,29 @@
 -- The tuples of a net after picks, and those that were taken, are the tuples before and those that were put: at one pick, by
 -- what it does to the counts of the nodes, and over a list of picks. Assumes nothing.
-use Prim.Native.Nat.{ℕ, zero, suc, _+_, _-_, _<_, _≤_}
+use Prim.Native.Nat.{ℕ, zero, suc, _+_, _<_, _≤_}
 use mathlib.Core.Path.{_≡_, refl, sym, ap, _∙_}
-use mathlib.Core.Logic.{_≢_, _⊎_, inl, inr}
-use mathlib.Core.Bool.{Bool, true, false}
+use mathlib.Core.Logic.{_≢_, inl, inr}
+use mathlib.Core.Bool.{true, false}
 use mathlib.Core.List.{List, [], _∷_, map}
 use native.Mathlib.Omega.{arith}
-use native.Mathlib.Decide.{ℕ-discrete, decLt}
 use native.Mathlib.Numerals.{add-one}
-use lib.ListN.{length, getD, set, length-map, length-set, List·getD-map, List·getD-eq-default}
+use lib.ListN.{length, getD, set, length-map, length-set, List·getD-map}
 use lib.Seq.{map-set-same, getD-set-same, getD-set-other}
 use lib.Dec.{eqb}
 use borrow.Author.Tests.{lt-ltb}
 use Rattle.net.specs.Choice.{choose, fold}
-use Rattle.net.specs.Records.{processAt, nodeAt, instructionAt, withProcess, withTuple, withNode, withRow, withoutTuple, zeroNode, movedTo, copiedTo, addressOf}
+use Rattle.net.specs.Records.{processAt, nodeAt, withProcess, withTuple, withNode, withRow, withoutTuple, zeroNode, movedTo, copiedTo, addressOf}
 use Rattle.net.specs.Shape.{Shaped}
 use Rattle.net.proofs.Laws.{choose-true, choose-false, split}
 use Rattle.net.proofs.Every.{chosen, chosen-lt}
-use Rattle.matching.specs.Matching.{evaluatedOf, matchedOf}
+use Rattle.matching.specs.Matching.{matchedOf}
 use Rattle.matching.proofs.MatchingPromise.{matchingPromise as matching}
 use Rattle.sound.specs.Soundness.{soundOf}
-use Rattle.sound.proofs.NodeFacts.{Running}
-use Rattle.sound.proofs.CodeFacts.{InstructionOk}
 use Rattle.sound.proofs.NetFacts.{NetOk, sound-apart}
 use Rattle.sound.proofs.NetChanges.{node-at, instruction-at}
 use Rattle.plans.specs.Answer.{numberOf}
 use Rattle.plans.specs.Request.{at, spoken, asked, requestOf}
-use Rattle.plans.specs.Additions.{tupleOf}
-use Rattle.step.specs.Types.{Locality, Place, Tuple, Process, Slot, Node, Net, Instruction, Target, Action, Evaluated, Found, Matched}
+use Rattle.step.specs.Types.{Locality, Place, Tuple, Process, Slot, Node, Net, Target, Action, Evaluated, Found}
 use Rattle.step.specs.Types.{Answer, Aim, Request}
 use Rattle.step.specs.declared.machine.Picked.{Picked}
 use Rattle.step.specs.Pick.{hostOf, slotOf, unchanged, performed, withHost, stopped, added, out, taken, inFound, input, readFound}

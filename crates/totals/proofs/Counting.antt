@@ -1,12 +1,11 @@
 -- The tuple lines of a register, counted in its bytes, are the tuples that its last line gives. Assumes nothing.
-use Prim.Native.Nat.{ℕ, _+_, _*_}
+use Prim.Native.Nat.{ℕ, _+_}
 use mathlib.Core.Path.{_≡_, refl, sym, ap, subst, _∙_}
 use mathlib.Core.List.{List, [], _∷_, _++_, append-nil, append-assoc}
 use native.Mathlib.Omega.{arith}
 use Rattle.net.specs.Choice.{choose, both}
 use Rattle.net.specs.Records.{fieldAt, tupleAt, nodeAt, addressOf}
 use Rattle.text.specs.Bytes.{bytes}
-use Rattle.text.specs.Decimal.{decimal}
 use Rattle.run.specs.Run.{Ran, ran, numbers}
 use Rattle.registers.specs.Types.{Locality, Tuple, Node, Net}
 use Rattle.registers.specs.Words.{Word, wordText, spaced, printed}

@@ -1,13 +1,13 @@
 -- The claims of `specs/TotalClaims.antt`: of a sound net and its picks by `Counting.antt` and `Balance.antt`, then of every
 -- accepted image and text, whose net is sound. Assumes nothing.
-use Prim.Native.Nat.{ℕ, zero, suc, _+_, _-_, _<_, _≤_}
+use Prim.Native.Nat.{ℕ, zero, suc, _+_, _<_, _≤_}
 use mathlib.Core.Path.{_≡_, refl, sym, ap, subst, _∙_}
 use mathlib.Core.Bool.{true}
 use mathlib.Core.List.{List, [], _∷_}
 use native.Mathlib.Omega.{arith}
 use lib.ListN.{take}
 use Rattle.net.specs.Choice.{fold}
-use Rattle.net.specs.Records.{nodeAt, addressOf}
+use Rattle.net.specs.Records.{addressOf}
 use Rattle.net.specs.Shape.{Shaped}
 use Rattle.net.proofs.Every.{chosen-lt}
 use Rattle.sound.specs.Soundness.{soundOf}
@@ -18,7 +18,7 @@ use Rattle.notation.specs.Text.{readOf}
 use Rattle.step.specs.Pick.{pickOf}
 use Rattle.step.specs.SoundKept.{SoundKept}
 use Rattle.step.proofs.SoundKept.{sound-kept}
-use Rattle.run.specs.Run.{Outcome, Ran, ran, ranFrom, answered}
+use Rattle.run.specs.Run.{Ran, ran, ranFrom, answered}
 use Rattle.run.proofs.CallLaws.{opened-sound, ran-is, text-sound, text-ran-is}
 use Rattle.registers.specs.Types.{Opened}
 use Rattle.registers.specs.Lines.{fewer, tuplesBelow, tupleCount}
@@ -27,7 +27,7 @@ use Rattle.tenant.proofs.OpenedShaped.{opened-shaped}
 use Rattle.text_tenant.specs.TextTenantRule.{TextIsImaged}
 use Rattle.text_tenant.proofs.TextTenantRule.{textIsImaged}
 use Rattle.totals.specs.Types.{Net, Verdict, TextVerdict}
-use Rattle.totals.specs.TotalClaims.{TotalIs, tupleLinesIn, tuplesOf, puts, takes, summed, balance, Balanced, EachRegister}
+use Rattle.totals.specs.TotalClaims.{TotalIs, tupleLinesIn, tuplesOf, balance, Balanced}
 use Rattle.totals.specs.TotalClaims.{TotalIsLines, TotalIsBalance}
 use Rattle.totals.proofs.Counting.{counted, last-is-total}
 use Rattle.totals.proofs.Balance.{run-balance}

@@ -18,7 +18,7 @@ use Rattle.text.specs.Joined.{joined}
 use Rattle.registers.specs.Types.{Item}
 use Rattle.registers.specs.Words.{Word, name, number, wordText, spaced, lineText, printed}
 use Rattle.registers.specs.Lines.{itemWord}
-use Rattle.registers.proofs.WordLaws.{spaced-both, printed-none, printed-both}
+use Rattle.registers.proofs.WordLaws.{spaced-both, printed-both}
 use Rattle.totals.specs.TextLines.{before, linesOf, lastOr, opensWith, opening}
 
 -- ---- bytes without a newline
