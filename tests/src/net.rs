@@ -262,12 +262,6 @@ impl Net {
             code: boxed(Instruction::STOP),
         }
     }
-
-    /// The number of tuples in the net.
-    pub fn tuple_count(&self) -> usize {
-        let used = &self.nodes[..self.address_count as usize];
-        used.iter().map(|node| node.tuple_count as usize).sum()
-    }
 }
 
 /// An array of equal records, made on the heap.

@@ -1,5 +1,4 @@
-//! The register (document 01, "The register"; its last line by document 02,
-//! slip 1).
+//! The register (document 01, "The register"; document 02, slip 1).
 
 use crate::image::read_image;
 use crate::net::*;
@@ -36,7 +35,7 @@ fn register_of(read: Result<Net, u8>, picks: &[u8]) -> String {
     for address in 0..net.address_count {
         write_node(&mut text, address, &net.nodes[address as usize]);
     }
-    line(&mut text, format_args!("total {}", net.tuple_count()));
+    write_total(&mut text, &net);
     text
 }
 
@@ -80,6 +79,13 @@ fn fields_text(tuple: &Tuple) -> String {
     .collect()
 }
 
+// The tuples at all addresses in use, at most 256.
+fn write_total(text: &mut String, net: &Net) {
+    let nodes = net.nodes[..net.address_count as usize].iter();
+    let total: u32 = nodes.map(|node| u32::from(node.tuple_count)).sum();
+    line(text, format_args!("total {total}"));
+}
+
 fn line(text: &mut String, content: std::fmt::Arguments) {
     writeln!(text, "{content}").expect("a string takes every line");
 }
@@ -99,10 +105,8 @@ mod tests {
 
     #[test]
     fn no_picks() {
-        assert_eq!(
-            register(&PAPER_IMAGE, &[]),
-            "net 1 2\nnode 0 0 1\ntotal 0\n"
-        );
+        let expected = "net 1 2\nnode 0 0 1\ntotal 0\n";
+        assert_eq!(register(&PAPER_IMAGE, &[]), expected);
     }
 
     #[test]
@@ -154,6 +158,38 @@ mod tests {
         let picks = vec![0xFF; MOST_PICKS + 5];
         let text = register(&PAPER_IMAGE, &picks);
         assert_eq!(text, register(&PAPER_IMAGE, &picks[..MOST_PICKS]));
-        assert!(text.contains("pick 65536 15 3 9\nnode 0 0 1\ntotal 0\n"));
+        assert!(text.ends_with("pick 65536 15 3 9\nnode 0 0 1\ntotal 0\n"));
+    }
+
+    #[test]
+    fn the_total_follows_outs_and_ins() {
+        let any = [TemplateField::FormalReading(0)];
+        let code = [
+            out(OWN, &[TemplateField::Reading(5)], 1),
+            read(OWN, &any, 2),
+            take(OWN, &any, 3),
+            take(OWN, &any, 4),
+            take(OWN, &any, 5),
+        ];
+        let mut net = net(1, &code);
+        grant(&mut net, 0, 0, Rights::ALL);
+        fill(&mut net, 0, &[readings(&[3])]);
+        let image = write_image(&net);
+        assert_eq!(answers_in(&register(&image, &[0; 5])), [0, 0, 0, 0, 2]);
+        for (made, total) in [1, 2, 2, 1, 0, 0].into_iter().enumerate() {
+            assert_total(&register(&image, &vec![0; made]), total);
+        }
+    }
+
+    #[test]
+    fn the_greatest_total() {
+        assert_total(&register(&write_image(&longest()), &[]), 256);
+    }
+
+    // The total, in the last line and as the number of tuple lines.
+    fn assert_total(register: &str, total: usize) {
+        let tuples = register.lines().filter(|line| line.starts_with("tuple "));
+        assert_eq!(tuples.count(), total);
+        assert!(register.ends_with(&format!("\ntotal {total}\n")));
     }
 }
