@@ -5,7 +5,7 @@ use mathlib.Core.Path.{_≡_, refl, sym, ap, _∙_}
 use mathlib.Core.Bool.{Bool, true, false, not, _&&_}
 use mathlib.Core.List.{List}
 use native.Mathlib.Omega.{arith}
-use lib.ListN.{getD, length, List·getD-eq-default}
+use lib.ListN.{getD}
 use lib.Dec.{leb}
 use borrow.Author.Tests.{lt-ltb, le-ltb, ltb-true}
 use Rattle.net.specs.Choice.{choose, both, all, implies}
@@ -20,9 +20,6 @@ use Rattle.linking.specs.NameTable.{startFrom, startIn, startFor, settle
 use Rattle.linking.proofs.Bounded.{all-same, all-both}
 
 -- ---- an entry
-pub past-table : {A : Type 0} (xs : List A) (k : ℕ) (d : A) → length xs ≤ k → d ≡ getD xs k d
-past-table xs k d h = sym (List·getD-eq-default xs d h)
-
 module _ (w : ℕ) where
   pub start-name : w < 512 → startFor false w ≡ startFrom w
   unfolding startFor startFrom choose

@@ -82,6 +82,12 @@ module _ (resolve : ℕ → Place) (starts : List ℕ) (s : Net) where
   unfolding movedNet
   moved-frame = folded-frame 16
 
+-- ---- how many instructions one line more has
+pub total-more : (ls : List Line) (l : Line) → total (ls ++ (l ∷ [])) ≡ total ls + sizeOf l
+unfolding total
+total-more [] l = omega arith
+total-more (x ∷ ls) l = let rest = total-more ls l in omega (arith, rest)
+
 -- ---- the state after lines
 pub after-more : (ls : List Line) (l : Line) (s : State) → afterAll (ls ++ (l ∷ [])) s ≡ after l (afterAll ls s)
 unfolding afterAll

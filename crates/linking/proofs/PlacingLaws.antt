@@ -1,12 +1,17 @@
 -- Laws of starts resolved to places (`specs/Placing.antt`). Assumes nothing.
-use Prim.Native.Nat.{ℕ, suc, _+_, _*_, _%_, _≤_}
+use Prim.Native.Nat.{ℕ, zero, suc, _+_, _-_, _*_, _%_, _≤_}
 use mathlib.Core.Path.{_≡_, refl, sym, ap, _∙_}
 use mathlib.Core.Bool.{Bool, true, false}
 use mathlib.Core.List.{List}
 use native.Mathlib.Omega.{arith}
-use lib.ListN.{getD, set}
+use native.Mathlib.Decide.{decLe}
+use lib.ListN.{getD, set, length, length-set}
+use lib.Seq.{set-out}
+use lib.Dec.{leb}
+use borrow.Author.Tests.{le-leb, lt-leb}
 use Rattle.net.specs.Choice.{choose, fold}
 use Rattle.net.specs.Records.{placeOf, addressOf, processAt, nodeAt, movedTo, withProcess, withNode, withCounts}
+use Rattle.net.specs.Shape.{Shaped}
 use Rattle.net.proofs.Laws.{choose-true, choose-false}
 use Rattle.terms.specs.Numbering.{Start}
 use Rattle.terms.specs.Loading.{loadedIn}
@@ -77,8 +82,47 @@ module _ (resolve : ℕ → Place) where
   unfolding movedAddress
   address-moved starts a s x e = ap (withNode s (addressOf a)) e
 
+  -- past the end of the code nothing is stored
+  code-long : (table : List ℕ) (n : ℕ) (code : List Instruction) → length (linkedCode resolve table n code) ≡ length code
+  unfolding linkedCode fold
+  code-long table zero code = refl
+  code-long table (suc n) code = length-set (linkedCode resolve table n code) n (linkedAt resolve table n) ∙ code-long table n code
+
+  code-past :
+      (table : List ℕ) (k n : ℕ) (code : List Instruction) → length code ≤ k
+      → linkedCode resolve table (n + k) code ≡ linkedCode resolve table k code
+  unfolding linkedCode fold
+  code-past table k zero code h = ap (λ (m : ℕ). linkedCode resolve table m code) none
+    where
+      none : 0 + k ≡ k
+      none = omega arith
+  code-past table k (suc n) code h =
+      ap (λ (m : ℕ). linkedCode resolve table m code) one
+      ∙ set-out (linkedCode resolve table (n + k) code) (n + k) (linkedAt resolve table (n + k)) (omega (arith, code-long table (n + k) code))
+      ∙ code-past table k n code h
+    where
+      one : suc n + k ≡ suc (n + k)
+      one = omega arith
+
+  code-capped :
+      (table : List ℕ) (n : ℕ) (code : List Instruction) → length code ≡ 512
+      → linkedCode resolve table (choose (leb n 512) n 512) code ≡ linkedCode resolve table n code
+  code-capped table n code l = go (decLe n 512)
+    where
+      go : Dec (n ≤ 512) → linkedCode resolve table (choose (leb n 512) n 512) code ≡ linkedCode resolve table n code
+      go (yes y) = ap (λ (m : ℕ). linkedCode resolve table m code) (choose-true _ _ _ (le-leb n 512 y))
+      go (no y) =
+          let rest : n - 512 + 512 ≡ n = omega arith in
+          ap (λ (m : ℕ). linkedCode resolve table m code) (choose-false _ _ _ (lt-leb n 512 (omega arith)))
+          ∙ sym (code-past table 512 (n - 512) code (omega (arith, l)))
+          ∙ ap (λ (m : ℕ). linkedCode resolve table m code) rest
+
   pub linked-all :
-      (table starts : List ℕ) (n : ℕ) (s moved t : Net) → moved ≡ movedNet resolve starts s
-      → t ≡ withLinked resolve table n (withCounts moved (moved .addresses) n) → t ≡ linkedNet resolve table starts n s
-  unfolding linkedNet
-  linked-all table starts n s moved t e f = rw (f, e) refl
+      (table starts : List ℕ) (k n : ℕ) (s moved t : Net) → moved ≡ movedNet resolve starts s → Shaped moved → k ≡ choose (leb n 512) n 512
+      → t ≡ withLinked resolve table k (withCounts moved (moved .addresses) n) → t ≡ linkedNet resolve table starts n s
+  unfolding linkedNet withLinked withCounts
+  linked-all table starts k n s moved t e shape h f =
+      let coded : linkedCode resolve table k (moved .code) ≡ linkedCode resolve table n (moved .code) =
+      ap (λ (m : ℕ). linkedCode resolve table m (moved .code)) h ∙ code-capped table n (moved .code) (shape .code-is) in
+      f ∙ ap (λ (c : List Instruction). record { addresses = moved .addresses; length = n; nodes = moved .nodes; code = c }) coded
+      ∙ ap (λ (m : Net). withLinked resolve table n (withCounts m (m .addresses) n)) e

@@ -32,7 +32,7 @@ definedIn k n (definition j p ∷ ls) = choose (eqb k j) (startOf n p) (definedI
 definedIn k n (process a p ∷ ls) = definedIn k (n + size p) ls
 definedIn k n (tuple a t ∷ ls) = definedIn k n ls
 
--- the number of the instruction after at most h names
+-- where a start leads after at most h names
 unfoldable pub settle : ℕ → List Line → Start → Start
 settle zero ls x = x
 settle (suc h) ls (here n) = here n

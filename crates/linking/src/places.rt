@@ -11,6 +11,8 @@ use terms::loading::load;
 use terms::loading::word_at;
 ghost use Prim.Native.Nat.{_<_, _≤_};
 ghost use mathlib.Core.Path.{_≡_};
+ghost use lib.Dec.{leb};
+ghost use Rattle.net.specs.Choice.{choose};
 ghost use Rattle.linking.specs.NameTable.{startFor};
 ghost use Rattle.linking.specs.Placing.{placeFor, placeAt, linkedAt, movedBy, movedNode, movedNet, withLinked, linkedNet};
 
@@ -106,12 +108,20 @@ fn moved_net(start: Net, bodies: &[usize], starts: &[usize]) -> Net
     net
 }
 
-// The whole: processes in their places, and n instructions of code.
+// How many of n instructions a net has places for.
+fn placed_of(n: usize) -> usize
+    ensures { λ r. ⌜ r ≡ choose (leb n 512) n 512 ⌝ }
+    ensures { λ r. ⌜ r ≤ 512 ⌝ }
+{
+    if n <= 512 { n } else { 512 }
+}
+
+// The whole: processes in their places, and n instructions of code, of which those past the 512th have no place.
 pub fn link(start: Net, n: usize, table: &[usize], bodies: &[usize], starts: &[usize]) -> Net
-    requires { ⌜ n ≤ 512 ⌝ }
     ensures { λ r. ⌜ r ≡ linkedNet (placeAt (now (bodies .entry))) (now (table .entry)) (now (starts .entry)) n start ⌝ }
 {
     let mut net = moved_net(start, bodies, starts);
     net.length = n;
-    with_linked(net, n, table, bodies)
+    let k = placed_of(n);
+    with_linked(net, k, table, bodies)
 }

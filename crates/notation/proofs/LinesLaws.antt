@@ -30,7 +30,7 @@ use Rattle.linking.specs.NodeCounts.{Counts, HasRoom}
 use Rattle.linking.specs.State.{State, afterAll, unplaced, FitsLine, FitAll}
 use Rattle.linking.specs.State as State
 use Rattle.linking.proofs.NodeCounts.{counts-more}
-use Rattle.linking.proofs.Peopled.{after-more, fit-more, after-count, after-net-one}
+use Rattle.linking.proofs.Peopled.{after-more, fit-more, after-count, after-net-one, total-more}
 use Rattle.notation.specs.Types.{Step, Locality, Node, Net}
 use Rattle.notation.specs.Lines.{definitionLine, processLine, tupleLine, placedLine, locatedLine, line, linesAfter, lines}
 use Rattle.notation.specs.LineProgress.{state, Lined, Owner, AnyLined, inside, Spans, Lining, AllLined}
@@ -105,11 +105,6 @@ good-room ls (process a x) g = (g .0, g .1 .1)
 good-room ls (tuple a t) g = g
 
 -- ---- one line more
-total-more : (ls : List Line) (l : Line) → total (ls ++ (l ∷ [])) ≡ total ls + sizeOf l
-unfolding total
-total-more [] l = omega arith
-total-more (x ∷ ls) l = let rest = total-more ls l in omega (arith, rest)
-
 module _ (s : List ℕ) (rows : ℕ) where
   one-line :
       (p q : Step) (left k : ℕ) (ls : List Line) (l : Line) → left ≡ suc k → inside s p ≡ true → Went s p (line rows ls) q l

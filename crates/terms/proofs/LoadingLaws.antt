@@ -13,8 +13,9 @@ use Rattle.text.specs.Signed.{signed}
 use Rattle.terms.specs.Types.{Locality, Place, Target, Pattern, TemplateField, Action, Instruction}
 use Rattle.terms.specs.Loading.{targetOf, patternOf, fieldOf, actionOf, Other, templated, loaded, loadedAt}
 
-pub word-past : (xs : List ℕ) (i : ℕ) → length xs ≤ i → 0 ≡ getD xs i 0
-word-past xs i h = sym (List·getD-eq-default xs 0 h)
+-- ---- past the end of a table
+pub past-table : {A : Type 0} (xs : List A) (k : ℕ) (d : A) → length xs ≤ k → d ≡ getD xs k d
+past-table xs k d h = sym (List·getD-eq-default xs d h)
 
 -- ---- targets
 address-is : (l : Locality) (n : ℕ) → l .0 ≡ n → l ≡ addressOf n

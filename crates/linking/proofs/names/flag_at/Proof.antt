@@ -1,5 +1,5 @@
 -- `linking::names::flag_at` meets its contract. Assumes nothing.
-use Rattle.linking.proofs.NameTableLaws.{past-table}
+use Rattle.terms.proofs.LoadingLaws.{past-table}
 use borrow.Author.Needs.{needs}
 use Rattle.linking.proofs.names.flag_at.Statement.{statement}
 use Rattle.linking.proofs.names.flag_at.Tie as tie

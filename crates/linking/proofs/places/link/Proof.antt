@@ -1,5 +1,6 @@
 -- `linking::places::link` meets its contract. Assumes nothing.
 use Rattle.net.specs.Records.{withCounts}
+use Rattle.net.proofs.Lengths.{net-shaped}
 use Rattle.linking.proofs.PlacingLaws.{linked-all}
 use borrow.Author.Needs.{needs}
 use Rattle.linking.proofs.places.link.Statement.{statement}
@@ -12,4 +13,5 @@ link-spec =
     (tie.spec
     (λ c κs. search needs)
     (λ c κs. search needs)
-    (λ c. search (needs, linked-all)))
+    (λ c κs. search needs)
+    (λ c. search (needs, linked-all, net-shaped)))

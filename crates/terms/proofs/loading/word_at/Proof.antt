@@ -1,5 +1,5 @@
 -- `terms::loading::word_at` meets its contract. Assumes nothing.
-use Rattle.terms.proofs.LoadingLaws.{word-past}
+use Rattle.terms.proofs.LoadingLaws.{past-table}
 use borrow.Author.Needs.{needs}
 use Rattle.terms.proofs.loading.word_at.Statement.{statement}
 use Rattle.terms.proofs.loading.word_at.Tie as tie
@@ -10,5 +10,5 @@ word-at-spec =
     (tie.spec
     (λ c. search needs)
     (λ c. search needs)
-    (λ c. search (needs, word-past))
-    (λ c. search (needs, word-past)))
+    (λ c. search needs)
+    (λ c. search (needs, past-table)))
