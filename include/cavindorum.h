@@ -10,8 +10,8 @@
  * written.
  *
  * Overlap. The buffer that is written shares no byte with the other two, and
- * no other thread writes to any of the three before the call returns. The
- * image or text and the picks are only read, and may overlap.
+ * no other thread writes to any of them before the call returns. The image or
+ * text and the picks are only read, and may overlap.
  *
  * Stack. CAVINDORUM_STACK bytes below the caller's frame are enough for a
  * call. This is measured and not proved; with too little the process ends at
@@ -62,7 +62,8 @@ uint8_t cavindorum_run_text(const uint8_t *text, size_t text_length,
 /*
  * Writes the register of an image and picks, of which the first 65,536
  * count, into out. It is text without a zero byte at its end. A refused image
- * has the register `refused N`.
+ * has the register `refused N at P`: the number of its first fault, and the
+ * place that cavindorum_refusal_place gives.
  *
  * Gives the register's length; or 0 where out is too short for it, and out
  * then holds as much of it as fits. Bytes of out past the register stay as
@@ -72,10 +73,24 @@ size_t cavindorum_register(const uint8_t *image, size_t image_length,
                            const uint8_t *picks, size_t picks_length,
                            uint8_t *out, size_t out_length);
 
-/* The same for a net in the planners' notation. */
+/*
+ * The same for a net in the planners' notation. A refused text has the
+ * register `refused N`.
+ */
 size_t cavindorum_register_text(const uint8_t *text, size_t text_length,
                                 const uint8_t *picks, size_t picks_length,
                                 uint8_t *out, size_t out_length);
+
+/*
+ * Reads an image, and gives the bit at which the field at fault of a refused
+ * image begins, counted from 0; or 0 where the image is accepted, which
+ * cavindorum_run tells from a fault at bit 0.
+ *
+ * For 28 it is the first bit of the field that ends early, which may be the
+ * number of the image's bits; for 29 the first bit after the code; for 30 the
+ * first bit of the starting place of the first process at fault.
+ */
+size_t cavindorum_refusal_place(const uint8_t *image, size_t image_length);
 
 #ifdef __cplusplus
 }

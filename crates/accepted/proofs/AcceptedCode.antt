@@ -20,7 +20,7 @@ use Rattle.sound.proofs.CodeFacts.{Acts, InstructionOk}
 use Rattle.sound.proofs.Drafts.{SuitsNext, suited, Fresh, suits-reading, suits-address, Drafted, no-pattern, next-pattern, Whole, whole}
 use Rattle.sound.proofs.Drafts.{stop-ok, Communicates, out-ok, in-ok, read-ok}
 use Rattle.accepted.proofs.Gives.{Gives, gives-pure, gives-weaken, gives-then, gives-each, gives-last}
-use Rattle.accepted.proofs.Gives.{gives-first, gives-tested, gives-field, gives-bits}
+use Rattle.accepted.proofs.Gives.{gives-first, gives-passing, gives-field, gives-bits}
 use Rattle.accepted.proofs.AcceptedNode.{gives-address, gives-place, gives-variable, gives-reading}
 
 gives-target : (n : ℕ) → Gives (target n) (λ t. targetSound n t ≡ true)
@@ -39,12 +39,12 @@ kind-below formals v e f = ltb-true v 4 (implies-e (not formals) (ltb v 4) e (ap
 gives-kind : (formals : Bool) → Gives (kind formals) (λ v. formals ≡ false → v < 4)
 unfolding kind
 gives-kind formals =
-    gives-weaken (gives-tested _ 26 (omega arith) (gives-field 3 0 6 25 (omega arith))) (λ v h. kind-below formals v (h .1))
+    gives-weaken (gives-passing 3 _ 26 (omega arith) (gives-field 3 0 6 25 (omega arith))) (λ v h. kind-below formals v (h .1))
 
 module _ (formals : Bool) (n : ℕ) (c : Instruction) where
   gives-fresh : Gives (fresh c) (Fresh formals n c)
   unfolding fresh
-  gives-fresh = gives-tested _ 27 (omega arith) gives-variable
+  gives-fresh = gives-passing 3 _ 27 (omega arith) gives-variable
 
   gives-formalReading : (formals ≡ false → ⊥) → Gives (formalReading c) (SuitsNext formals n c)
   unfolding formalReading

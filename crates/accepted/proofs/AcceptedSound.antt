@@ -12,13 +12,13 @@ use Rattle.net.specs.Records.{emptyNet, nodeAt, addressOf, placeOf}
 use Rattle.net.specs.Records.{withNode, withInstruction, withCounts}
 use Rattle.sound.specs.Soundness.{soundOf}
 use Rattle.accepted.specs.Types.{Fault}
-use Rattle.readers.specs.Reader.{Parsed, Reader, each, numbered}
+use Rattle.readers.specs.Reader.{Parsed, Reader, each, faultAt}
 use Rattle.accepted.specs.Types.{Verdict, Opened}
 use Rattle.image.specs.Image.{eachAddress, eachPlace, header, row, rowOf, rows, processes, processesOf, allProcesses}
 use Rattle.image.specs.Image.{tuples, tuplesOf, allTuples, instructionOf, code}
 use Rattle.instructions.specs.Instruction.{instruction}
 use Rattle.bitreader.specs.Ending.{endsAt, ending}
-use Rattle.image.specs.Image.{layout, refused, accepted, judgedNet, openedOf, numberOf}
+use Rattle.image.specs.Image.{layout, beyondRow, refused, accepted, judgedNet, openedOf, numberOf}
 use Rattle.keeping.specs.Admission.{admits}
 use Rattle.accepted.specs.ImageClaims.{AcceptedIsSound, RefusedIsEmpty, Numbered, RefusedIsNumbered}
 use Rattle.net.proofs.Every.{chosen}
@@ -197,16 +197,16 @@ claimed-accepted s h = record {
   is-numbered = record { when-accepted = (λ e. refl, λ e. refl); when-refused = λ f e. never f (sym e) };
 }
 
-claimed : (o : Parsed Net) → Fine Laid o → Claimed (judgedNet o)
-unfolding judgedNet numbered
-claimed _ (value {a = s} h) =
+claimed : (image : List ℕ) (o : Parsed Net) → Fine Laid o → Claimed (judgedNet image o)
+unfolding judgedNet beyondRow faultAt
+claimed image _ (value {a = s} h) =
     chosen Claimed (admits s) _ _ (λ e. claimed-accepted s (h .sound))
-    (λ e. claimed-refused (numbered 30) (omega arith) (omega arith))
-claimed _ (stopped {f} l) = claimed-refused f (l .least) (omega (arith, l .most))
+    (λ e. claimed-refused (beyondRow image s) (omega arith) (omega arith))
+claimed image _ (stopped {f} l) = claimed-refused f (l .least) (omega (arith, l .most))
 
 opened-claimed : (s : List ℕ) → Claimed (openedOf s)
 unfolding openedOf
-opened-claimed s = claimed (layout s 0) (gives-layout .run s 0)
+opened-claimed s = claimed s (layout s 0) (gives-layout .run s 0)
 
 pub accepted-is-sound : AcceptedIsSound
 unfolding AcceptedIsSound

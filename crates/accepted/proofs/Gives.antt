@@ -14,7 +14,7 @@ use Rattle.net.proofs.Laws.{both-l, both-r}
 use Rattle.readers.proofs.Gives as Logic
 use Rattle.readers.proofs.Gives.{fine-unless}
 pub use Rattle.readers.proofs.Gives.{value, stopped, gives-pure, gives-weaken, gives-then, gives-and, gives-each}
-pub use Rattle.readers.proofs.Gives.{gives-last, gives-first, gives-choice, gives-tested}
+pub use Rattle.readers.proofs.Gives.{gives-last, gives-first, gives-choice, gives-passing}
 
 -- the numbers of the table
 pub record Listed (n : ℕ) : Type 0 where
@@ -41,17 +41,17 @@ between low v end e = record {
   below = ltb-true v end (both-r (leb low v) _ e);
 }
 
-fine-judged : (low end n q v : ℕ) → Listed n → Fine (λ a. Between low a end) (judged low end n q v)
+fine-judged : (low end n p w v : ℕ) → Listed n → Fine (λ a. Between low a end) (judged low end n p w v)
 unfolding judged
-fine-judged low end n q v l =
-    fine-unless _ (both (leb low v) (ltb v end)) (got v q) n l (λ e. value (between low v end e))
+fine-judged low end n p w v l =
+    fine-unless _ (both (leb low v) (ltb v end)) (got v (p + w)) n p w l (λ e. value (between low v end e))
 
 pub gives-field : (w low end n : ℕ) → Listed n → Gives (field w low end n) (λ v. Between low v end)
 unfolding field
 gives-field w low end n l = record {
   run = λ s p.
-      fine-unless _ (leb (p + w) (8 * length s)) (judged low end n (p + w) (numberAt s p w)) 28 (omega arith)
-      (λ _. fine-judged low end n (p + w) (numberAt s p w) l);
+      fine-unless _ (leb (p + w) (8 * length s)) (judged low end n p w (numberAt s p w)) 28 p w (omega arith)
+      (λ _. fine-judged low end n p w (numberAt s p w) l);
 }
 
 pub gives-bits : (w : ℕ) → Gives (bits w) (λ v. v < 2 ^ w)

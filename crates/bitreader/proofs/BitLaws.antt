@@ -14,10 +14,10 @@ use native.Mathlib.Omega.{arith}
 use borrow.Author.Tests.{lt-ltb, le-ltb, le-leb, lt-leb}
 use Rattle.bitreader.specs.BitReader.{bitAt, numberAt, judged, field}
 use Rattle.bitreader.specs.Types.{Fault}
-use Rattle.readers.specs.Reader.{Parsed, fault, Reader, numbered}
+use Rattle.readers.specs.Reader.{Parsed, got, fault, Reader, faultAt}
 use Rattle.bitreader.specs.Progress.{Taken, window, seen, Bit, Number, Took, TookFrom}
 use Rattle.bitreader.specs.Types.{Step}
-use Rattle.readers.specs.Progress.{outcome, runFrom}
+use Rattle.readers.specs.Progress.{outcome, placeOfStep, runFrom}
 use Rattle.net.proofs.Laws.{choose-true, choose-false, both-i, both-false-l, both-false-r}
 
 -- ---- the bytes looked at
@@ -70,58 +70,62 @@ pub number-next : (s : List ℕ) (p q i w v b : ℕ) → Number s p i v → Bit 
 number-next s p q i w v b h g l k = omega (arith, h .small, g .small, pow-mono (le-trans l k))
 
 -- ---- a field judged
-pub took-fault : (n w end : ℕ) (f : Fault) → f ≡ numbered n → Took (fault (numbered n)) w end (record { value = 0; next = Step.Failed f })
+pub took-fault : (n p w end : ℕ) (f : Fault) → f ≡ faultAt n p w
+    → Took (fault (faultAt n p w)) p w end (record { value = 0; at = p; next = Step.Failed f })
 unfolding outcome
-took-fault n w end f e = record { took = ap fault e; narrow = pow-pos w; below = omega arith }
+took-fault n p w end f e = record { took = ap fault e; began = refl; narrow = pow-pos w; below = omega arith }
 
-module _ (low end n q v w : ℕ) (small : v < 2 ^ w) where
-  pub judged-in : low ≤ v → v < end → Took (judged low end n q v) w end (record { value = v; next = Step.At q })
+module _ (low end n p q v w : ℕ) (small : v < 2 ^ w) where
+  pub judged-in : q ≡ p + w → low ≤ v → v < end → Took (judged low end n p w v) p w end (record { value = v; at = p; next = Step.At q })
   unfolding judged outcome
-  judged-in h l = record {
-    took = sym (choose-true _ _ _ (both-i _ _ (le-leb low v h) (lt-ltb v end l)));
+  judged-in e h l = record {
+    took = ap (got v) e ∙ sym (choose-true _ _ _ (both-i _ _ (le-leb low v h) (lt-ltb v end l)));
+    began = refl;
     narrow = small;
     below = omega arith;
   }
 
-  pub judged-low : v < low → judged low end n q v ≡ fault (numbered n)
+module _ (low end n p v w : ℕ) where
+  pub judged-low : v < low → judged low end n p w v ≡ fault (faultAt n p w)
   unfolding judged
   judged-low h = choose-false _ _ _ (sym (both-false-l _ _ (lt-leb low v h)))
 
-  pub judged-high : low ≤ v → end ≤ v → judged low end n q v ≡ fault (numbered n)
+  pub judged-high : low ≤ v → end ≤ v → judged low end n p w v ≡ fault (faultAt n p w)
   unfolding judged
   judged-high h l = choose-false _ _ _ (sym (both-false-r _ _ (le-leb low v h) (le-ltb v end l)))
 
 -- a fault in the place of an outcome that it equals
-pub took-as : (o o′ : Parsed ℕ) (w end : ℕ) (r : Taken) → Took o w end r → o′ ≡ o → Took o′ w end r
-took-as o o′ w end r t e = record { took = t .took ∙ sym e; narrow = t .narrow; below = t .below }
+pub took-as : (o o′ : Parsed ℕ) (p w end : ℕ) (r : Taken) → Took o p w end r → o′ ≡ o → Took o′ p w end r
+took-as o o′ p w end r t e = record { took = t .took ∙ sym e; began = t .began; narrow = t .narrow; below = t .below }
 
 -- ---- a field at a place: n bytes are looked at
 module _ (s : List ℕ) (p w low end n m : ℕ) (e : m ≡ length s) where
   pub field-in :
-      (v q : ℕ) (r : Taken) → p ≤ m * 8 → w ≤ m * 8 - p → Number s p w v → q ≡ p + w →
-      Took (judged low end n q v) w end r → Took (field w low end n s p) w end r
+      (v : ℕ) (r : Taken) → p ≤ m * 8 → w ≤ m * 8 - p → Number s p w v →
+      Took (judged low end n p w v) p w end r → Took (field w low end n s p) p w end r
   unfolding field
-  field-in v q r h l i k t =
-      took-as _ _ w end r t
-      (choose-true _ _ _ (le-leb (p + w) (8 * length s) (omega arith)) ∙ ap (judged low end n (p + w)) (sym (i .is)) ∙
-      ap (λ (x : ℕ). judged low end n x v) (sym k))
+  field-in v r h l i t =
+      took-as _ _ p w end r t
+      (choose-true _ _ _ (le-leb (p + w) (8 * length s) (omega arith)) ∙ ap (judged low end n p w) (sym (i .is)))
 
-  pub field-out : (r : Taken) → m * 8 < p → Took (fault (numbered 28)) w end r → Took (field w low end n s p) w end r
+  pub field-out : (r : Taken) → m * 8 < p → Took (fault (faultAt 28 p w)) p w end r → Took (field w low end n s p) p w end r
   unfolding field
-  field-out r h t = took-as _ _ w end r t (choose-false _ _ _ (lt-leb (p + w) (8 * length s) (omega arith)))
+  field-out r h t = took-as _ _ p w end r t (choose-false _ _ _ (lt-leb (p + w) (8 * length s) (omega arith)))
 
-  pub field-short : (r : Taken) → p ≤ m * 8 → m * 8 - p < w → Took (fault (numbered 28)) w end r → Took (field w low end n s p) w end r
+  pub field-short : (r : Taken) → p ≤ m * 8 → m * 8 - p < w → Took (fault (faultAt 28 p w)) p w end r
+      → Took (field w low end n s p) p w end r
   unfolding field
-  field-short r h l t = took-as _ _ w end r t (choose-false _ _ _ (lt-leb (p + w) (8 * length s) (omega arith)))
+  field-short r h l t = took-as _ _ p w end r t (choose-false _ _ _ (lt-leb (p + w) (8 * length s) (omega arith)))
 
 -- ---- a field from a step
-pub field-at : (s : List ℕ) (p : ℕ) (m : Reader ℕ) (w end : ℕ) (r : Taken) → Took (m s p) w end r → TookFrom s (Step.At p) m w end r
-unfolding runFrom
-field-at s p m w end r t = record { read = record { went = t .took }; narrow = t .narrow; below = t .below }
+pub field-at : (s : List ℕ) (p : ℕ) (m : Reader ℕ) (w end : ℕ) (r : Taken) → Took (m s p) p w end r → TookFrom s (Step.At p) m w end r
+unfolding runFrom placeOfStep
+field-at s p m w end r t = record { read = record { went = t .took }; began = t .began; narrow = t .narrow; below = t .below }
 
-pub field-failed : (s : List ℕ) (p : Step) (f : Fault) (m : Reader ℕ) (w end : ℕ) → p ≡ Step.Failed f → TookFrom s p m w end (record { value = 0; next = p })
-unfolding outcome runFrom
-field-failed s p f m w end e = record { read = record { went = cc }; narrow = pow-pos w; below = omega arith }
+pub field-failed : (s : List ℕ) (p : Step) (f : Fault) (m : Reader ℕ) (w end : ℕ) → p ≡ Step.Failed f
+    → TookFrom s p m w end (record { value = 0; at = 0; next = p })
+unfolding outcome runFrom placeOfStep
+field-failed s p f m w end e = record { read = record { went = cc }; began = cc; narrow = pow-pos w; below = omega arith }
 
-pub field-from : (s : List ℕ) (p : Step) (q : ℕ) (m : Reader ℕ) (w end : ℕ) (r : Taken) → p ≡ Step.At q → Took (m s q) w end r → TookFrom s p m w end r
+pub field-from : (s : List ℕ) (p : Step) (q : ℕ) (m : Reader ℕ) (w end : ℕ) (r : Taken) → p ≡ Step.At q → Took (m s q) q w end r → TookFrom s p m w end r
 field-from s p q m w end r e t = rw e (field-at s q m w end r t)

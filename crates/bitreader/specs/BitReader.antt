@@ -4,7 +4,7 @@ use mathlib.Core.List.{List}
 use lib.ListN.{getD, length}
 use lib.Dec.{leb, ltb}
 use Rattle.net.specs.Choice.{choose, both}
-use Rattle.readers.specs.Reader.{Parsed, got, fault, Reader, numbered}
+use Rattle.readers.specs.Reader.{Parsed, got, fault, Reader, faultAt}
 
 -- the bit at place p, the most significant bit of a byte first
 unfoldable pub bitAt : List ℕ → ℕ → ℕ
@@ -15,14 +15,14 @@ unfoldable pub numberAt : List ℕ → ℕ → ℕ → ℕ
 numberAt s p zero = 0
 numberAt s p (suc w) = numberAt s p w * 2 + bitAt s (p + w)
 
--- a number from `low` up to below `end`, or the fault n
-unfoldable pub judged : ℕ → ℕ → ℕ → ℕ → ℕ → Parsed ℕ
-judged low end n q v = choose (both (leb low v) (ltb v end)) (got v q) (fault (numbered n))
+-- the number v of the w bits from place p, from `low` up to below `end`, or the fault n there
+unfoldable pub judged : ℕ → ℕ → ℕ → ℕ → ℕ → ℕ → Parsed ℕ
+judged low end n p w v = choose (both (leb low v) (ltb v end)) (got v (p + w)) (fault (faultAt n p w))
 
 -- a field of w bits: 28 where the bits end before its last bit
 unfoldable pub field : ℕ → ℕ → ℕ → ℕ → Reader ℕ
 field w low end n s p =
-    choose (leb (p + w) (8 * length s)) (judged low end n (p + w) (numberAt s p w)) (fault (numbered 28))
+    choose (leb (p + w) (8 * length s)) (judged low end n p w (numberAt s p w)) (fault (faultAt 28 p w))
 
 -- a field of w bits that may hold any number
 unfoldable pub bits : ℕ → Reader ℕ

@@ -16,6 +16,6 @@ padding p = (8 - p % 8) % 8
 unfoldable pub endsAt : List ℕ → ℕ → Bool
 endsAt s p = both (eqb (length s) ((p + 7) / 8)) (eqb (numberAt s p (padding p)) 0)
 
--- 29, unless the image ends
+-- 29 at the first bit after the code, unless the image ends
 unfoldable pub ending : Reader (Unit {0})
 ending s p = require (endsAt s p) 29 s p

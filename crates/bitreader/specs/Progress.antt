@@ -9,7 +9,7 @@ use lib.ListN.{take}
 use Rattle.bitreader.specs.Types.{Step}
 use Rattle.bitreader.specs.BitReader.{numberAt, bitAt}
 use Rattle.readers.specs.Reader.{Parsed, Reader}
-use Rattle.readers.specs.Progress.{outcome, Went}
+use Rattle.readers.specs.Progress.{outcome, placeOfStep, Went}
 
 -- how many bytes of an image the code looks at, at most
 abbrev pub window : ℕ
@@ -29,14 +29,16 @@ pub record Number (s : List ℕ) (p w r : ℕ) : Type 0 where
   pub is : r ≡ numberAt s p w
   pub small : r < 2 ^ w
 
--- a field's value and step, as an outcome, with its range
-pub record Took (o : Parsed ℕ) (w end : ℕ) (r : Taken) : Type 0 where
+-- the value and step of a field that begins at place p, as an outcome, with its range
+pub record Took (o : Parsed ℕ) (p w end : ℕ) (r : Taken) : Type 0 where
   pub took : outcome (r .next) (r .value) ≡ o
+  pub began : r .at ≡ p
   pub narrow : r .value < 2 ^ w
   pub below : r .value ≤ end - 1
 
 -- the same of a field read from a step
 pub record TookFrom (s : List ℕ) (p : Step) (m : Reader ℕ) (w end : ℕ) (r : Taken) : Type 0 where
   pub read : Went s p m (r .next) (r .value)
+  pub began : r .at ≡ placeOfStep p
   pub narrow : r .value < 2 ^ w
   pub below : r .value ≤ end - 1

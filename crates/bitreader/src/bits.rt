@@ -5,12 +5,13 @@ ghost use Prim.Native.Nat.{_+_, _*_, _-_, _<_, _≤_, _^_};
 ghost use mathlib.Core.Path.{_≡_};
 ghost use lib.ListN.{length};
 ghost use Rattle.bitreader.specs.BitReader.{judged, field};
-ghost use Rattle.readers.specs.Reader.{numbered, fault};
+ghost use Rattle.readers.specs.Reader.{faultAt, fault};
 ghost use Rattle.bitreader.specs.Progress.{window, seen, Bit, Number, Took, TookFrom};
 
-// A field's number, 0 after a fault, and the step after it.
+// A field's number and the bit at which the field begins, both 0 after a fault, and the step after it.
 pub struct Taken {
     pub value: usize,
+    pub at: usize,
     pub next: Step,
 }
 
@@ -120,28 +121,33 @@ pub(crate) fn read_number(image: &[u8], p: usize, w: usize) -> NumberRead
     NumberRead { value, next }
 }
 
-// A fault, with its number.
-fn failed(number: u8, w: usize, end: usize) -> Taken
-    ensures { λ r. ⌜ Took (fault (numbered number)) w end r ⌝ }
+// A fault in the field of w bits from place p.
+fn failed(number: u8, p: usize, w: usize, end: usize) -> Taken
+    ensures { λ r. ⌜ Took (fault (faultAt number p w)) p w end r ⌝ }
 {
-    let fault = Fault::numbered(number);
+    let fault = Fault::at(number, p, w);
     let next = Step::Failed(fault);
-    Taken { value: 0, next }
+    Taken {
+        value: 0,
+        at: p,
+        next,
+    }
 }
 
-// A number judged against its range.
-fn judge(v: usize, w: usize, low: usize, end: usize, n: u8, next: usize) -> Taken
-    requires { ⌜ v < 2 ^ w ⌝ }
-    ensures { λ r. ⌜ Took (judged low end n next v) w end r ⌝ }
+// The number of the w bits from place p, judged against its range; `next` is the place after them.
+fn judge(v: usize, p: usize, w: usize, low: usize, end: usize, n: u8, next: usize) -> Taken
+    requires { ⌜ (v < 2 ^ w) × (next ≡ p + w) ⌝ }
+    ensures { λ r. ⌜ Took (judged low end n p w v) p w end r ⌝ }
 {
     if v < low {
-        failed(n, w, end)
+        failed(n, p, w, end)
     } else if end <= v {
-        failed(n, w, end)
+        failed(n, p, w, end)
     } else {
         let step = Step::At(next);
         Taken {
             value: v,
+            at: p,
             next: step,
         }
     }
@@ -150,16 +156,16 @@ fn judge(v: usize, w: usize, low: usize, end: usize, n: u8, next: usize) -> Take
 // A field at a place.
 fn take_at(s: &[u8], p: usize, w: usize, low: usize, end: usize, n: u8) -> Taken
     requires { ⌜ w ≤ 32 ⌝ }
-    ensures { λ r. ⌜ Took (field w low end n (seen (now (s .entry))) p) w end r ⌝ }
+    ensures { λ r. ⌜ Took (field w low end n (seen (now (s .entry))) p) p w end r ⌝ }
 {
     let bits = visible(s) * 8;
     if bits < p {
-        failed(28, w, end)
+        failed(28, p, w, end)
     } else if bits - p < w {
-        failed(28, w, end)
+        failed(28, p, w, end)
     } else {
         let read = read_number(s, p, w);
-        judge(read.value, w, low, end, n, read.next)
+        judge(read.value, p, w, low, end, n, read.next)
     }
 }
 
@@ -172,6 +178,7 @@ pub fn take(s: &[u8], from: Step, w: usize, low: usize, end: usize, n: u8) -> Ta
         Step::At(p) => take_at(s, p, w, low, end, n),
         Step::Failed(_) => Taken {
             value: 0,
+            at: 0,
             next: from,
         },
     }

@@ -32,7 +32,7 @@ pub fn put_two(out: &mut [u8], at: usize, x: u16) -> usize {
     put(out, next, high)
 }
 
-fn put_four(out: &mut [u8], at: usize, x: u32) -> usize {
+pub fn put_four(out: &mut [u8], at: usize, x: u32) -> usize {
     let low = (x % 65536) as u16;
     let high = (x / 65536) as u16;
     let next = put_two(out, at, low);

@@ -30,7 +30,7 @@ use crate::code::put_instruction;
 use crate::nodes::put_node;
 use net::network::Net;
 
-mod bytes;
+pub mod bytes;
 mod code;
 mod nodes;
 

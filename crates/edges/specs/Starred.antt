@@ -13,7 +13,7 @@ pub record StarredEdges : Type 0 where
       registerOf
       ([])
       ([])
-      ≡ bytes "refused 28\n"
+      ≡ bytes "refused 28 at 0\n"
   -- 10 80 20 00 00: accepted.
   pub one-stop :
       registerOf
@@ -25,20 +25,20 @@ pub record StarredEdges : Type 0 where
       registerOf
       (16 ∷ 128 ∷ 32 ∷ 0 ∷ 1 ∷ [])
       ([])
-      ≡ bytes "refused 29\n"
+      ≡ bytes "refused 29 at 35\n"
   -- The same with a sixth byte, whatever it is: 29.
   pub sixth-byte :
       (b : ℕ) →
       registerOf
       (16 ∷ 128 ∷ 32 ∷ 0 ∷ 0 ∷ b ∷ [])
       ([])
-      ≡ bytes "refused 29\n"
+      ≡ bytes "refused 29 at 35\n"
   -- The register's image with third byte 40: 30.
   pub no-put :
       registerOf
       (16 ∷ 128 ∷ 64 ∷ 32 ∷ 0 ∷ 20 ∷ 0 ∷ 0 ∷ 0 ∷ 0 ∷ 160 ∷ 16 ∷ [])
       ([])
-      ≡ bytes "refused 30\n"
+      ≡ bytes "refused 30 at 27\n"
   -- The register's run.
   pub listing :
       registerOf

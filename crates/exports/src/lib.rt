@@ -1,5 +1,7 @@
-// The public calls of `run` and `registers` for programs in other languages: numbers and byte slices alone. include/cavindorum.h
+// The public calls of `image`, `run` and `registers` for programs in other languages: numbers and byte slices alone. include/cavindorum.h
 // declares them for C.
+use image::reader::place_of;
+use image::reader::read_image;
 use registers::register::Registered;
 use registers::register::register;
 use registers::register::register_text;
@@ -13,6 +15,7 @@ ghost use Rattle.run.specs.Calls.{finishedOf, finishNumber, answersIn};
 ghost use Rattle.registers.specs.Calls.{registeredOf, registeredLength};
 ghost use Rattle.registers.specs.Register.{registerOf, registerTextOf};
 ghost use Rattle.run.specs.Run.{runOf, runTextOf};
+ghost use Rattle.image.specs.Image.{openedOf, placeOfFault};
 
 // The paper's number of how a run ended.
 fn number_of(finish: Finish) -> u8
@@ -46,6 +49,16 @@ pub extern "C" fn cavindorum_run_text(text: &[u8], picks: &[u8], answers: &mut [
     let done = run_text(text, picks, answers);
     let finish = done.finish;
     number_of(finish)
+}
+
+// Gives the bit at which the field at fault of a refused image begins; 0 where the image is accepted.
+#[no_mangle]
+pub extern "C" fn cavindorum_refusal_place(image: &[u8]) -> usize
+    ensures { λ r. ⌜ r ≡ placeOfFault (openedOf (now (image .entry)) .answer) ⌝ }
+{
+    let opened = read_image(image);
+    let answer = opened.answer;
+    place_of(answer)
 }
 
 // A register's length, or 0 where the buffer is too short for it.

@@ -1,14 +1,16 @@
 -- The layout of an image (`specs/Image.antt`) takes at most 117,987 bits, a bound for each of its parts, and looks at no
 -- further byte than the one behind them. Assumes nothing.
 use Prim.Native.Nat.{ℕ, _+_, _*_, _≤_}
+use mathlib.Core.List.{List}
 use native.Mathlib.Omega.{arith}
-use Rattle.image.specs.Types.{Locality, Place, Tuple, Row, Node, Net}
+use Rattle.image.specs.Types.{Locality, Place, Tuple, Row, Node, Instruction, Net}
 use Rattle.net.specs.Records.{withNode, withInstruction, withCounts, addressOf, placeOf}
 use Rattle.image.specs.Image.{eachAddress, eachPlace, header, rights, row, rowOf, rows}
+use Rattle.image.specs.Image.{entry, entries, entriesOf, allEntries}
 use Rattle.image.specs.Image.{process, processes, processesOf, allProcesses, readingItem, addressItem, item}
 use Rattle.image.specs.Image.{tupleField, tuple, stored, tuples, tuplesOf, allTuples, instructionOf, code, layout}
 use Rattle.bitreader.proofs.Budget.{Within, Closes, Anything, any, widen, pure-within, bind, gives, bind-closes, closes-pure}
-use Rattle.bitreader.proofs.Budget.{each-within, choose-within, field-within, bits-within}
+use Rattle.bitreader.proofs.Budget.{each-within, choose-within, field-within, bits-within, tested-within}
 use Rattle.bitreader.proofs.FieldsWithin.{address-within, place-within, reading-within}
 use Rattle.bitreader.proofs.EndingLaws.{ending-closes}
 use Rattle.instructions.proofs.InstructionWithin.{instruction-within}
@@ -66,6 +68,28 @@ processesOf-within a s c = bind (processes-within _ _) (λ x h. pure-within _ (n
 allProcesses-within : (s : Net) → Counted s → Within (allProcesses s) (16 * 39) Counted
 unfolding allProcesses eachAddress
 allProcesses-within s c = each-within s (c .addresses) c (λ i. processesOf-within (addressOf i))
+
+-- the entries again
+entry-within : (k : ℕ) (code : List Instruction) (a : Locality) (x : Node) (slot : ℕ) (u : Unit {0})
+    → Within (entry k code a x slot u) 9 Anything
+unfolding entry
+entry-within k code a x slot u = gives _ (tested-within 9 _ 30 (place-within k))
+
+entries-within : (k : ℕ) (code : List Instruction) (a : Locality) (x : Node) → Within (entries k code a x) (3 + 4 * 9) Anything
+unfolding entries
+entries-within k code a x =
+    bind (field-within _ _ _ _) (λ count h. each-within {n = 4} tt (omega arith) any (λ i u g. entry-within k code a x i u))
+
+entriesOf-within : (s : Net) (a : Locality) (u : Unit {0}) → Within (entriesOf s a u) 39 Anything
+unfolding entriesOf
+entriesOf-within s a u = entries-within _ _ _ _
+
+pub allEntries-within : (s : Net) → Within (allEntries s) (19 + (16 * 65 + 16 * 39)) Anything
+unfolding allEntries eachAddress
+allEntries-within s =
+    bind header-within (λ s₁ c.
+    bind (rows-within s₁ c) (λ s₂ d.
+    each-within tt (c .addresses) any (λ i u g. entriesOf-within s (addressOf i) u)))
 
 -- ---- 4. tuples
 readingItem-within : Within readingItem 32 Anything

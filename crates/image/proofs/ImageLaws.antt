@@ -2,18 +2,21 @@
 -- Assumes nothing.
 use Prim.Native.Nat.{ℕ}
 use mathlib.Core.Path.{_≡_, ap}
+use mathlib.Core.Bool.{Bool}
 use mathlib.Core.List.{List}
 use lib.ListN.{set}
-use Rattle.image.specs.Types.{Step, Place, Item, Tuple, Rights, Row, Process, Node, Changed, Instruction, Net}
-use Rattle.net.specs.Records.{startingAt, nodeAt, withField, withRights, withRow, withProcess, putIn, withNode, withInstruction}
+use Rattle.image.specs.Types.{Step, Locality, Place, Item, Tuple, Rights, Row, Process, Node, Changed, Instruction, Net}
+use Rattle.net.specs.Records.{startingAt, processAt, nodeAt, withField, withRights, withRow, withProcess, putIn, withNode, withInstruction}
 use Rattle.net.specs.Records.{addressOf, placeOf}
-use Rattle.readers.specs.Progress.{Went}
+use Rattle.keeping.specs.Admission.{admitsProcess}
+use Rattle.readers.specs.Reader.{requireIn}
+use Rattle.readers.specs.Progress.{placeOfStep, Went}
 use Rattle.bitreader.specs.BitReader.{field, bits}
 use Rattle.bitreader.specs.Fields.{place}
 use Rattle.instructions.specs.Instruction.{instruction}
-use Rattle.image.specs.Image.{rightsOf, rights, row, rowOf, process, processes, processesOf}
+use Rattle.image.specs.Image.{rightsOf, rights, row, rowOf, process, processes, processesOf, entry, entries, entriesOf}
 use Rattle.image.specs.Image.{item, tupleField, tuple, stored, tuples, tuplesOf, instructionOf}
-use Rattle.readers.proofs.ReaderLaws.{on, stop, stop-as}
+use Rattle.readers.proofs.ReaderLaws.{on, stop, stop-as, passes}
 
 module _ (s : List ℕ) (p q : Step) where
   pub rights-turn : (v i : ℕ) (r : Row) (x : Rights) → Went s p (field 4 0 16 28) q v → x ≡ rightsOf v
@@ -35,6 +38,17 @@ module _ (s : List ℕ) (p q : Step) where
       → Went s p (processesOf (addressOf i) net) q (withNode net (addressOf i) x)
   unfolding processesOf nodeAt
   processes-turn k i net x w e = on s p q q _ _ x _ (rw e w) (stop s q _)
+
+  pub entry-parts : (r : Step) (k : ℕ) (code : List Instruction) (a : Locality) (x : Node) (slot at : ℕ) (v : Place) (ok : Bool)
+      → Went s p (place k) q v → at ≡ placeOfStep p → ok ≡ admitsProcess code x a (processAt x slot)
+      → ((t : List ℕ) → Went t q (requireIn at 9 ok 30) r tt) → Went s p (entry k code a x slot tt) r tt
+  unfolding entry
+  entry-parts r k code a x slot at v ok w d e c = on s p r r _ _ v tt (passes s p q r at 9 _ v _ 30 ok d w e c) (stop s r tt)
+
+  pub entries-turn : (net : Net) (i : ℕ) → Went s p (entries (net .length) (net .code) (addressOf i) (nodeAt net (addressOf i))) q tt
+      → Went s p (entriesOf net (addressOf i) tt) q tt
+  unfolding entriesOf
+  entries-turn net i w = w
 
   pub field-turn : (n i : ℕ) (t u : Tuple) (x : Item) → Went s p (item n) q x → u ≡ withField t (record { item = x })
       → Went s p (tupleField n i t) q u

@@ -1,5 +1,6 @@
 -- The image (document 01, "The image", "Numbers for an image"): the layout in the order of the paper, giving the net
--- that it writes down or the number of its first fault. In what follows n is the address count and k the code length.
+-- that it writes down or its first fault, with the bit at which the field at fault begins (document 02, slip 2). In what
+-- follows n is the address count and k the code length.
 pub use Rattle.image.specs.declared.reader.Verdict.{Verdict}
 pub use Rattle.image.specs.declared.reader.Opened.{Opened}
 use Prim.Native.Nat.{ℕ, _+_, _/_, _%_}
@@ -7,11 +8,11 @@ use mathlib.Core.Bool.{Bool}
 use mathlib.Core.List.{List}
 use lib.Dec.{eqb}
 use Rattle.net.specs.Choice.{choose}
-use Rattle.image.specs.Types.{Fault, Locality, Place, Item, Tuple, Rights, Row, Node, Net}
-use Rattle.net.specs.Records.{nodeAt, startingAt, zeroTuple, zeroRow, emptyNet, addressOf, placeOf}
+use Rattle.image.specs.Types.{Fault, Locality, Place, Item, Tuple, Rights, Row, Node, Instruction, Net}
+use Rattle.net.specs.Records.{nodeAt, processAt, startingAt, zeroTuple, zeroRow, emptyNet, addressOf, placeOf}
 use Rattle.net.specs.Records.{withField, withRights, withRow, withProcess, withTuple, withNode, withInstruction, withCounts}
-use Rattle.keeping.specs.Admission.{admits}
-use Rattle.readers.specs.Reader.{Parsed, got, fault, Reader, pure, _>>=_, _>>_, each, numbered}
+use Rattle.keeping.specs.Admission.{admitsProcess, admits}
+use Rattle.readers.specs.Reader.{Parsed, got, fault, Reader, pure, _>>=_, _>>_, each, faultAt, tested}
 use Rattle.bitreader.specs.BitReader.{field, bits}
 use Rattle.bitreader.specs.Fields.{address, place, reading}
 use Rattle.bitreader.specs.Ending.{ending}
@@ -143,6 +144,36 @@ layout = do
   ending
   pure s₅
 
+-- ---- 30: the starting places again, in image order, up to the first whose process, in slot `slot` of the node x at address a,
+-- does not keep within its row
+unfoldable pub entry : ℕ → List Instruction → Locality → Node → ℕ → Unit {0} → Reader (Unit {0})
+entry k code a x slot u = do
+  p ← tested 9 (place k) (λ p. admitsProcess code x a (processAt x slot)) 30
+  pure tt
+
+unfoldable pub entries : ℕ → List Instruction → Locality → Node → Reader (Unit {0})
+entries k code a x = do
+  count ← field 3 0 5 22
+  each count (entry k code a x) tt
+
+unfoldable pub entriesOf : Net → Locality → Unit {0} → Reader (Unit {0})
+entriesOf s a u = entries (s .length) (s .code) a (nodeAt s a)
+
+unfoldable pub allEntries : Net → Reader (Unit {0})
+allEntries s = do
+  s₁ ← header
+  s₂ ← rows s₁
+  eachAddress (s₁ .addresses) (entriesOf s) tt
+
+-- where reading came to, or the place of its fault
+unfoldable pub endOf : {A : Type 0} → Parsed A → ℕ
+endOf (got a p) = p
+endOf (fault f) = f .place
+
+unfoldable pub beyondRow : List ℕ → Net → Fault
+beyondRow image s = faultAt 30 (endOf (allEntries s image 0)) 9
+
+-- ---- what an image gives
 unfoldable pub refused : Fault → Opened
 refused f = record { answer = Verdict.Refused f; net = emptyNet }
 
@@ -150,15 +181,20 @@ unfoldable pub accepted : Net → Opened
 accepted s = record { answer = Verdict.Accepted; net = s }
 
 -- whether the starting processes keep within the rows of their nodes is judged once 21 to 29 are absent
-unfoldable pub judgedNet : Parsed Net → Opened
-judgedNet (got s p) = choose (admits s) (accepted s) (refused (numbered 30))
-judgedNet (fault f) = refused f
+unfoldable pub judgedNet : List ℕ → Parsed Net → Opened
+judgedNet image (got s p) = choose (admits s) (accepted s) (refused (beyondRow image s))
+judgedNet image (fault f) = refused f
 
--- what an image gives: the net that it writes down, or the number of its first fault and the empty net
+-- what an image gives: the net that it writes down, or its first fault and the empty net
 unfoldable pub openedOf : List ℕ → Opened
-openedOf image = judgedNet (layout image 0)
+openedOf image = judgedNet image (layout image 0)
 
 -- the paper's number of a verdict; 0 where the image is accepted
 unfoldable pub numberOf : Verdict → ℕ
 numberOf Verdict.Accepted = 0
 numberOf (Verdict.Refused f) = f .number
+
+-- the bit at which the field at fault begins; 0 where the image is accepted
+unfoldable pub placeOfFault : Verdict → ℕ
+placeOfFault Verdict.Accepted = 0
+placeOfFault (Verdict.Refused f) = f .place

@@ -1,22 +1,21 @@
 // The image reader (document 01, "The image", "Numbers for an image").
 use crate::built::NetRead;
 use crate::code::read_code;
+use crate::entries::beyond_row;
+use crate::header::read_header;
 use crate::rows::read_rows;
 use crate::starts::read_all_processes;
 use crate::stores::read_all_tuples;
-use bitreader::bits::take;
 use bitreader::ending::read_ending;
 use keeping::admission::admitted;
 use net::network::Net;
 use readers::fault::Fault;
 use readers::step::Step;
 ghost use mathlib.Core.Path.{_≡_};
-ghost use Rattle.readers.specs.Reader.{numbered};
 ghost use Rattle.net.specs.Choice.{choose};
-ghost use Rattle.image.specs.Image.{header, layout};
+ghost use Rattle.image.specs.Image.{beyondRow, layout};
 ghost use Rattle.keeping.specs.Admission.{admits};
-ghost use Rattle.image.specs.Image.{refused, accepted, openedOf};
-ghost use Rattle.image.specs.Progress.{Headed};
+ghost use Rattle.image.specs.Image.{refused, accepted, openedOf, numberOf, placeOfFault};
 ghost use Rattle.bitreader.specs.Progress.{seen};
 ghost use Rattle.image.specs.Types.{Step};
 ghost use Rattle.readers.specs.Progress.{Went};
@@ -25,7 +24,7 @@ ghost use Rattle.readers.specs.Progress.{Went};
 // the crate `accepted`).
 pub const LONGEST_IMAGE: usize = 14749;
 
-// What reading an image answers.
+// What reading an image answers: a refusal has its fault, with the bit at which the field at fault begins.
 pub enum Verdict {
     Accepted,
     Refused(Fault),
@@ -37,21 +36,24 @@ pub struct Opened {
     pub net: Net,
 }
 
-// Format, address count and code length.
-fn read_header(s: &[u8]) -> NetRead
-    ensures { λ r. ⌜ Headed (seen (now (s .entry))) header r ⌝ }
+// The number of an answer; 0 where the image is accepted.
+pub fn number_of(answer: Verdict) -> u8
+    ensures { λ r. ⌜ r ≡ numberOf answer ⌝ }
 {
-    let start = Step::At(0);
-    let format = take(s, start, 4, 1, 2, 21);
-    let second = format.next;
-    let addresses = take(s, second, 5, 1, 17, 22);
-    let third = addresses.next;
-    let length = take(s, third, 10, 1, 513, 22);
-    let next = length.next;
-    let mut net = Net::empty();
-    net.addresses = addresses.value;
-    net.length = length.value;
-    NetRead { net, next }
+    match answer {
+        Verdict::Accepted => 0,
+        Verdict::Refused(fault) => fault.number,
+    }
+}
+
+// The bit at which the field at fault begins; 0 where the image is accepted.
+pub fn place_of(answer: Verdict) -> usize
+    ensures { λ r. ⌜ r ≡ placeOfFault answer ⌝ }
+{
+    match answer {
+        Verdict::Accepted => 0,
+        Verdict::Refused(fault) => fault.place,
+    }
 }
 
 // The layout, part after part.
@@ -87,19 +89,19 @@ fn refuse(fault: Fault) -> Opened
 }
 
 // A net whose layout is right, judged by its starting processes.
-fn judge(net: Net) -> Opened
-    ensures { λ r. ⌜ r ≡ choose (admits net) (accepted net) (refused (numbered 30)) ⌝ }
+fn judge(image: &[u8], net: Net) -> Opened
+    ensures { λ r. ⌜ r ≡ choose (admits net) (accepted net) (refused (beyondRow (seen (now (image .entry))) net)) ⌝ }
 {
     if admitted(net) {
         let answer = Verdict::Accepted;
         Opened { answer, net }
     } else {
-        let fault = Fault::numbered(30);
+        let fault = beyond_row(image, net);
         refuse(fault)
     }
 }
 
-// What an image gives: the net that it writes down, or the number of its first fault and the empty net.
+// What an image gives: the net that it writes down, or its first fault and the empty net.
 pub fn read_image(image: &[u8]) -> Opened
     ensures { λ r. ⌜ r ≡ openedOf (now (image .entry)) ⌝ }
 {
@@ -107,7 +109,7 @@ pub fn read_image(image: &[u8]) -> Opened
     let next = laid.next;
     let net = laid.net;
     match next {
-        Step::At(_) => judge(net),
+        Step::At(_) => judge(image, net),
         Step::Failed(fault) => refuse(fault),
     }
 }

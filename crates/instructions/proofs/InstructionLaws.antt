@@ -9,13 +9,13 @@ use Rattle.net.specs.Choice.{implies}
 use Rattle.net.specs.Records.{withPattern, withAction}
 use Rattle.sound.specs.Soundness.{unboundBefore}
 use Rattle.instructions.specs.Types.{Step, Place, Target, Pattern, Action, Instruction}
-use Rattle.readers.specs.Reader.{require}
-use Rattle.readers.specs.Progress.{Went}
+use Rattle.readers.specs.Reader.{requireIn}
+use Rattle.readers.specs.Progress.{placeOfStep, Went}
 use Rattle.bitreader.specs.BitReader.{field}
 use Rattle.bitreader.specs.Fields.{place, variable}
 use Rattle.instructions.specs.Instruction.{kind, fresh, pattern, templateField, target, template, communication}
 use Rattle.instructions.specs.Progress.{PartsRead, Spoken}
-use Rattle.readers.proofs.ReaderLaws.{on, next, stop, stop-as}
+use Rattle.readers.proofs.ReaderLaws.{on, stop, stop-as, passes}
 
 -- ---- the parts of a template
 module _ (s : List ℕ) (p q : Step) where
@@ -24,16 +24,16 @@ module _ (s : List ℕ) (p q : Step) where
   unfolding templateField
   pattern-turn formals n i c d x w e = on s p q q _ _ x _ w (stop-as s q _ _ e)
 
-module _ (s : List ℕ) (p q r : Step) (ok : Bool) where
-  pub kind-parts : (formals : Bool) (v : ℕ) → Went s p (field 3 0 6 25) q v → ok ≡ implies (not formals) (ltb v 4)
-      → ((t : List ℕ) → Went t q (require ok 26) r tt) → Went s p (kind formals) r v
+module _ (s : List ℕ) (p q r : Step) (at : ℕ) (ok : Bool) where
+  pub kind-parts : (formals : Bool) (v : ℕ) → Went s p (field 3 0 6 25) q v → at ≡ placeOfStep p
+      → ok ≡ implies (not formals) (ltb v 4) → ((t : List ℕ) → Went t q (requireIn at 3 ok 26) r tt) → Went s p (kind formals) r v
   unfolding kind
-  kind-parts formals v w e c = on s p q r _ _ v v w (next s q r r _ _ tt v (rw e at (c s)) (stop s r v))
+  kind-parts formals v w d e c = passes s p q r at 3 _ v _ 26 ok d w e c
 
-  pub fresh-parts : (c : Instruction) (v : ℕ) → Went s p variable q v → ok ≡ unboundBefore c (c .count) v
-      → ((t : List ℕ) → Went t q (require ok 27) r tt) → Went s p (fresh c) r v
+  pub fresh-parts : (c : Instruction) (v : ℕ) → Went s p variable q v → at ≡ placeOfStep p → ok ≡ unboundBefore c (c .count) v
+      → ((t : List ℕ) → Went t q (requireIn at 3 ok 27) r tt) → Went s p (fresh c) r v
   unfolding fresh
-  fresh-parts c v w e h = on s p q r _ _ v v w (next s q r r _ _ tt v (rw e at (h s)) (stop s r v))
+  fresh-parts c v w d e h = passes s p q r at 3 _ v _ 27 ok d w e h
 
 -- ---- an out, an in or a read
 module _ (s : List ℕ) (p q₁ q₂ : Step) (formals : Bool) (n k : ℕ) where

@@ -6,7 +6,7 @@ use Rattle.instructions.specs.Types.{Place, Target, Action, Instruction}
 use Rattle.instructions.specs.Instruction.{writtenTarget, heldTarget, target, readingPattern, addressPattern, heldPattern}
 use Rattle.instructions.specs.Instruction.{fresh, formalReading, formalAddress, kind, pattern, templateField, template}
 use Rattle.instructions.specs.Instruction.{communication, evaluation, creation, forking, instruction}
-use Rattle.bitreader.proofs.Budget.{Within, Anything, any, nothing, _or_, widen, pure-within, require-within, bind, gives, then}
+use Rattle.bitreader.proofs.Budget.{Within, Anything, any, nothing, _or_, widen, pure-within, bind, gives, simply, tested-within}
 use Rattle.bitreader.proofs.Budget.{each-within, alternative-within, field-within, bits-within}
 use Rattle.bitreader.proofs.FieldsWithin.{address-within, place-within, reading-within, variable-within}
 
@@ -41,7 +41,7 @@ heldPattern-within = gives _ variable-within
 
 fresh-within : (c : Instruction) → Within (fresh c) 3 Anything
 unfolding fresh
-fresh-within c = bind variable-within (λ v h. then (require-within _ _) (pure-within _ any))
+fresh-within c = simply (tested-within 3 _ 27 variable-within)
 
 formalReading-within : (c : Instruction) → Within (formalReading c) 3 Anything
 unfolding formalReading
@@ -53,7 +53,7 @@ formalAddress-within c = gives _ (fresh-within c)
 
 kind-within : (formals : Bool) → Within (kind formals) 3 Anything
 unfolding kind
-kind-within formals = bind (field-within _ _ _ _) (λ v h. then (require-within _ _) (pure-within _ any))
+kind-within formals = simply (tested-within 3 _ 26 (field-within _ _ _ _))
 
 pattern-within : (formals : Bool) (n : ℕ) (c : Instruction) → Within (pattern formals n c) (3 + 32) Anything
 unfolding pattern

@@ -7,7 +7,7 @@ use Rattle.net.specs.Choice.{implies}
 use Rattle.net.specs.Records.{zeroInstruction, withPattern, withAction}
 use Rattle.sound.specs.Soundness.{unboundBefore}
 use Rattle.instructions.specs.Types.{Place, Target, Pattern, Action, Instruction}
-use Rattle.readers.specs.Reader.{Reader, pure, _>>=_, _>>_, each, alternative, require}
+use Rattle.readers.specs.Reader.{Reader, pure, _>>=_, each, alternative, tested}
 use Rattle.bitreader.specs.BitReader.{field, bits}
 use Rattle.bitreader.specs.Fields.{address, place, variable, reading}
 
@@ -43,10 +43,7 @@ heldPattern = do
 
 -- a formal's variable: 27 where an earlier field of the template c has it too
 unfoldable pub fresh : Instruction → Reader ℕ
-fresh c = do
-  v ← variable
-  require (unboundBefore c (c .count) v) 27
-  pure v
+fresh c = tested 3 variable (unboundBefore c (c .count)) 27
 
 unfoldable pub formalReading : Instruction → Reader Pattern
 formalReading c = do
@@ -60,10 +57,7 @@ formalAddress c = do
 
 -- the kind of a field: 26 at a formal where `formals` are not allowed
 unfoldable pub kind : Bool → Reader ℕ
-kind formals = do
-  v ← field 3 0 6 25
-  require (implies (not formals) (ltb v 4)) 26
-  pure v
+kind formals = tested 3 (field 3 0 6 25) (λ v. implies (not formals) (ltb v 4)) 26
 
 unfoldable pub pattern : Bool → ℕ → Instruction → Reader Pattern
 pattern formals n c = do

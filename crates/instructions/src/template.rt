@@ -9,7 +9,7 @@ use net::instruction::Instruction;
 use net::instruction::Pattern;
 use net::instruction::TemplateField;
 use readers::step::Step;
-use readers::step::require_that;
+use readers::step::require_in;
 use sound::soundness::unbound_before;
 ghost use mathlib.Core.Bool.{not};
 ghost use mathlib.Core.Path.{_≡_};
@@ -48,9 +48,10 @@ fn read_kind(s: &[u8], from: Step, formals: bool) -> Taken
     let got = take(s, from, 3, 0, 6, 25);
     let ok = allowed(formals, got.value);
     let read = got.next;
-    let next = require_that(read, ok, 26);
+    let next = require_in(read, got.at, 3, ok, 26);
     Taken {
         value: got.value,
+        at: got.at,
         next,
     }
 }
@@ -100,9 +101,10 @@ fn read_fresh(s: &[u8], from: Step, c: Instruction) -> VariableRead
     let got = read_variable(s, from);
     let ok = unbound_before(c, c.count, got.variable);
     let read = got.next;
-    let next = require_that(read, ok, 27);
+    let next = require_in(read, got.at, 3, ok, 27);
     VariableRead {
         variable: got.variable,
+        at: got.at,
         next,
     }
 }

@@ -10,7 +10,7 @@ ghost use mathlib.Core.Path.{_≡_};
 ghost use Rattle.keeping.specs.Admission.{admitsProcess, admitsNode, admitsAt, admits};
 
 // Whether a process of the node x at address a keeps within its row.
-fn admits_process(code: [Instruction; 512], x: Node, a: Locality, p: Process) -> bool
+pub fn admits_process(code: [Instruction; 512], x: Node, a: Locality, p: Process) -> bool
     ensures { λ r. ⌜ r ≡ admitsProcess code x a p ⌝ }
 {
     let at = p.at;

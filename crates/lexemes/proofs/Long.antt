@@ -9,7 +9,7 @@ use lib.Dec.{eqb, ltb}
 use borrow.Author.Tests.{ltb-true}
 use Rattle.net.specs.Choice.{choose}
 use Rattle.net.proofs.Laws.{both-l}
-use Rattle.readers.specs.Reader.{got, fault, Reader, numbered}
+use Rattle.readers.specs.Reader.{got, fault, Reader, faultAt}
 use Rattle.readers.proofs.Long.{Spans, value, stopped, Long, Any, long-pure, long-weaken, long-then, long-and, long-choice}
 use Rattle.readers.proofs.Long.{goes, goes-and, goes-each, goes-require, going}
 use Rattle.lexemes.specs.Lexemes.{byteAt, look, fail, byte, word, present, optional}
@@ -32,7 +32,7 @@ goes-fail n = long-fail Any n
 -- ---- bytes and words
 spans-one :
     (s : List ℕ) (p : ℕ) (b : Bool) → (b ≡ true → ltb p (length s) ≡ true)
-    → Spans {A = Unit {0}} s p (λ _ i. 1 ≤ i) (choose b (got tt (p + 1)) (fault (numbered 31)))
+    → Spans {A = Unit {0}} s p (λ _ i. 1 ≤ i) (choose b (got tt (p + 1)) (fault (faultAt 31 p 0)))
 unfolding choose
 spans-one s p true h =
     let l = ltb-true p (length s) (h refl) in

@@ -9,7 +9,7 @@ use borrow.Author.Tests.{le-leb, lt-leb, leb-true}
 use Rattle.net.specs.Choice.{choose, both}
 use Rattle.net.proofs.Laws.{choose-true, both-l, both-r}
 use Rattle.net.proofs.AllLaws.{and-both}
-use Rattle.readers.specs.Reader.{Parsed, fault, Reader, pure, andThen, _>>=_, _>>_, numbered, require}
+use Rattle.readers.specs.Reader.{Parsed, fault, Reader, pure, andThen, _>>=_, _>>_, faultAt, requireIn, require}
 use Rattle.readers.specs.Progress.{outcome, runFrom, Went, Loop}
 use Rattle.readers.proofs.ReaderLaws.{on, next, stop, either, otherwise, begin, turn, every, no-fault}
 use Rattle.lexemes.specs.Types.{Step, Fault}
@@ -43,7 +43,7 @@ unfolding fail failedFrom outcome runFrom
 strayed s n (Step.At p) q a e = record { went = ap (λ (x : Step). outcome x a) e }
 strayed s n (Step.Failed f) q a e = record { went = ap (λ (x : Step). outcome x a) e }
 
-pub fail-at : (n : ℕ) (p q : Step) (k : ℕ) → p ≡ Step.At k → q ≡ Step.Failed (numbered n) → q ≡ failedFrom n p
+pub fail-at : (n : ℕ) (p q : Step) (k : ℕ) → p ≡ Step.At k → q ≡ Step.Failed (faultAt n k 0) → q ≡ failedFrom n p
 unfolding failedFrom
 fail-at n p q k e d = rw e d
 
@@ -58,7 +58,7 @@ same-fault {g = g} {h = h} e = let same : g ≡ h = cc in ap fault same
 pub required :
     {A B : Type 0} (s : List ℕ) (p q r : Step) (ok : Bool) (n : ℕ) (f : A → Reader B) (a a′ : A) (b : B)
     → Went s p (require ok n) q tt → (ok ≡ true → a′ ≡ a) → Went s q (f a′) r b → Went s p (require ok n >> f a) r b
-unfolding require choose runFrom outcome _>>_ _>>=_ andThen
+unfolding require requireIn choose runFrom outcome _>>_ _>>=_ andThen
 required s p q r true n f a a′ b w e v = next s p q r (require true n) (f a) tt b w (rw (e refl) at v)
 required s (Step.At p) (Step.At q) r false n f a a′ b w e v = no-fault (sym (w .went))
 required s (Step.At p) (Step.Failed g) r false n f a a′ b w e v = record { went = v .went ∙ same-fault (w .went) }

@@ -12,7 +12,7 @@ use borrow.Author.Tests.{lt-ltb, le-ltb, eq-eqb, ne-eqb}
 use Rattle.net.specs.Choice.{choose, both}
 use Rattle.net.proofs.Laws.{choose-true, choose-false}
 use Rattle.net.proofs.ReadingLaws.{never}
-use Rattle.readers.specs.Reader.{Reader, pure, numbered, _>>_}
+use Rattle.readers.specs.Reader.{Reader, pure, faultAt, _>>_}
 use Rattle.readers.specs.Progress.{outcome, runFrom, Went}
 use Rattle.readers.proofs.ReaderLaws.{after, next, stop, either, otherwise}
 use Rattle.lexemes.specs.Types.{Step}
@@ -46,7 +46,7 @@ module _ (s : List ℕ) (p : ℕ) where
     unfolding byte outcome runFrom
     byte-there h = record { went = sym (choose-true _ _ _ (sym e ∙ h)) }
 
-    pub byte-missing : (q : Step) → here ≡ false → q ≡ Step.Failed (numbered 31) → Went s (Step.At p) (byte c) q tt
+    pub byte-missing : (q : Step) → here ≡ false → q ≡ Step.Failed (faultAt 31 p 0) → Went s (Step.At p) (byte c) q tt
     unfolding byte outcome runFrom
     byte-missing q h d = record { went = ap (λ (x : Step). outcome x tt) d ∙ sym (choose-false _ _ _ (sym e ∙ h)) }
 

@@ -4,7 +4,7 @@ use Prim.Native.Nat.{ℕ, _≤_}
 use mathlib.Core.Path.{_≡_}
 use mathlib.Core.List.{List}
 use lib.ListN.{length, drop}
-use Rattle.readers.specs.Reader.{Reader, numbered}
+use Rattle.readers.specs.Reader.{Reader, faultAt}
 use Rattle.readers.specs.Progress.{Went, runFrom}
 use Rattle.lexemes.specs.Types.{Step}
 use Rattle.lexemes.specs.Lexemes.{byteAt, word}
@@ -16,7 +16,7 @@ byteHere s (Step.Failed f) = 0
 
 -- the step after a fault n: the first fault stays
 unfoldable pub failedFrom : ℕ → Step → Step
-failedFrom n (Step.At p) = Step.Failed (numbered n)
+failedFrom n (Step.At p) = Step.Failed (faultAt n p 0)
 failedFrom n (Step.Failed f) = Step.Failed f
 
 -- a word being read: of the bytes cs from step p₀, i are read and have come to step p

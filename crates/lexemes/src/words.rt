@@ -7,7 +7,7 @@ ghost use mathlib.Core.Path.{_≡_};
 ghost use lib.ListN.{length};
 ghost use lib.Dec.{eqb, ltb};
 ghost use Rattle.net.specs.Choice.{both};
-ghost use Rattle.readers.specs.Reader.{numbered};
+ghost use Rattle.readers.specs.Reader.{faultAt};
 ghost use Rattle.readers.specs.Progress.{Went};
 ghost use Rattle.lexemes.specs.Types.{Step};
 ghost use Rattle.lexemes.specs.Lexemes.{byteAt, byte, word, present, optional};
@@ -43,11 +43,11 @@ fn stands(s: &[u8], p: usize, c: u8) -> bool
     if p < s.len() { s[p] == c } else { false }
 }
 
-// A fault, as a step.
-fn failed(n: u8) -> Step
-    ensures { λ r. ⌜ r ≡ Step.Failed (numbered n) ⌝ }
+// A fault at a place, as a step.
+fn failed(n: u8, p: usize) -> Step
+    ensures { λ r. ⌜ r ≡ Step.Failed (faultAt n p 0) ⌝ }
 {
-    let fault = Fault::numbered(n);
+    let fault = Fault::at(n, p, 0);
     Step::Failed(fault)
 }
 
@@ -56,7 +56,7 @@ pub fn fail_from(from: Step, n: u8) -> Step
     ensures { λ r. ⌜ r ≡ failedFrom n from ⌝ }
 {
     match from {
-        Step::At(_) => failed(n),
+        Step::At(p) => failed(n, p),
         Step::Failed(_) => from,
     }
 }
@@ -68,7 +68,7 @@ fn byte_after(s: &[u8], p: usize, c: u8) -> Step
     if stands(s, p, c) {
         Step::At(p + 1)
     } else {
-        failed(31)
+        failed(31, p)
     }
 }
 

@@ -7,7 +7,7 @@ use mathlib.Core.List.{List, [], _∷_}
 use native.Mathlib.Omega.{arith}
 use Rattle.net.specs.Choice.{choose}
 use Rattle.readers.specs.Reader.{Fault, Parsed, got, fault, Reader, pure, andThen, _>>=_, _>>_, turns, each}
-use Rattle.readers.specs.Reader.{alternative, numbered, require}
+use Rattle.readers.specs.Reader.{alternative, faultAt, requireIn, require, tested}
 use Rattle.readers.specs.Progress.{Step, reached, outcome, runFrom, Went}
 use Rattle.net.proofs.ReadingLaws.{never}
 use Rattle.readers.proofs.ReaderLaws.{no-fault, same-value, no-outcome}
@@ -87,21 +87,37 @@ module _ {N : ℕ → Type 0} {A : Type 0} (P : A → Type 0) where
 
 -- ---- a test
 pub fine-unless :
-    {N : ℕ → Type 0} {A : Type 0} (P : A → Type 0) (b : Bool) (o : Parsed A) (n : ℕ) → N n → (b ≡ true → Fine N P o)
-    → Fine N P (choose b o (fault (numbered n)))
-unfolding choose numbered
-fine-unless P true o n l h = h refl
-fine-unless P false o n l h = stopped l
+    {N : ℕ → Type 0} {A : Type 0} (P : A → Type 0) (b : Bool) (o : Parsed A) (n at w : ℕ) → N n → (b ≡ true → Fine N P o)
+    → Fine N P (choose b o (fault (faultAt n at w)))
+unfolding choose faultAt
+fine-unless P true o n at w l h = h refl
+fine-unless P false o n at w l h = stopped l
+
+pub gives-require-in : {N : ℕ → Type 0} (at w : ℕ) (ok : Bool) (n : ℕ) → N n → Gives N (requireIn at w ok n) (λ _. ok ≡ true)
+unfolding requireIn
+gives-require-in at w ok n l = record { run = λ s p. fine-unless (λ _. ok ≡ true) ok (got tt p) n at w l (λ e. value e) }
 
 pub gives-require : {N : ℕ → Type 0} (ok : Bool) (n : ℕ) → N n → Gives N (require ok n) (λ _. ok ≡ true)
 unfolding require
-gives-require ok n l = record { run = λ s p. fine-unless (λ _. ok ≡ true) ok (got tt p) n l (λ e. value e) }
+gives-require ok n l = record { run = λ s p. gives-require-in p 0 ok n l .run s p }
 
 -- a value that has to pass it
 pub gives-tested :
     {N : ℕ → Type 0} {A : Type 0} {P : A → Type 0} {m : Reader A} (test : A → Bool) (n : ℕ) → N n → Gives N m P
     → Gives N (m >>= (λ a. require (test a) n >> pure a)) (λ a. P a × (test a ≡ true))
 gives-tested test n l g = gives-then g (λ a h. gives-and (gives-require (test a) n l) (λ _ e. gives-pure _ a (h, e)))
+
+-- a field that has to
+gives-through :
+    {N : ℕ → Type 0} {A : Type 0} {P : A → Type 0} {m : Reader A} (at w : ℕ) (test : A → Bool) (n : ℕ) → N n → Gives N m P
+    → Gives N (m >>= (λ a. requireIn at w (test a) n >> pure a)) (λ a. P a × (test a ≡ true))
+gives-through at w test n l g = gives-then g (λ a h. gives-and (gives-require-in at w (test a) n l) (λ _ e. gives-pure _ a (h, e)))
+
+pub gives-passing :
+    {N : ℕ → Type 0} {A : Type 0} {P : A → Type 0} {m : Reader A} (w : ℕ) (test : A → Bool) (n : ℕ) → N n → Gives N m P
+    → Gives N (tested w m test n) (λ a. P a × (test a ≡ true))
+unfolding tested
+gives-passing w test n l g = record { run = λ s p. gives-through p w test n l g .run s p }
 
 -- ---- whatever the number of a fault
 abbrev pub Any : ℕ → Type 0

@@ -7,7 +7,7 @@ use mathlib.Core.List.{List}
 use native.Mathlib.Omega.{arith}
 use lib.ListN.{length}
 use Rattle.net.specs.Choice.{choose}
-use Rattle.readers.specs.Reader.{Fault, Parsed, got, fault, Reader, pure, andThen, _>>=_, _>>_, turns, each, require}
+use Rattle.readers.specs.Reader.{Fault, Parsed, got, fault, Reader, pure, andThen, _>>=_, _>>_, turns, each, requireIn, require}
 
 -- from place p to place q: the bytes between them stand in the text, and P holds of how many they are
 pub record Span (s : List ℕ) (p q : ℕ) (P : ℕ → Type 0) : Type 0 where
@@ -112,7 +112,7 @@ module _ {A : Type 0} (f : ℕ → A → Reader A) (l : (i : ℕ) (a : A) → Lo
   goes-each n a = goes-turns n 0 a
 
 pub goes-require : (ok : Bool) (n : ℕ) → Long (require ok n) Any
-unfolding require choose pure
+unfolding require requireIn choose pure
 goes-require true n = goes-pure tt
 goes-require false n = record { run = λ s p. stopped }
 

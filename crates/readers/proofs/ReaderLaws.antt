@@ -11,8 +11,8 @@ use native.Mathlib.Numerals.{add-one}
 use native.Mathlib.Omega.{arith}
 use Rattle.net.specs.Choice.{choose}
 use Rattle.readers.specs.Reader.{Fault, Parsed, got, fault, Reader, pure, andThen, _>>=_, _>>_, turns, each}
-use Rattle.readers.specs.Reader.{alternative, require, numbered}
-use Rattle.readers.specs.Progress.{Step, reached, outcome, runFrom, Went, Loop}
+use Rattle.readers.specs.Reader.{alternative, faultAt, requireIn, require, tested}
+use Rattle.readers.specs.Progress.{Step, reached, placeOfStep, outcome, runFrom, Went, Loop}
 use Rattle.net.proofs.Laws.{choose-true, choose-false}
 use Rattle.net.proofs.ReadingLaws.{never}
 
@@ -104,21 +104,44 @@ pub past6 : (k : ℕ) → (k ≡ 0 → ⊥) → (k ≡ 1 → ⊥) → (k ≡ 2 �
 past6 k a b c d e f = omega arith
 
 -- ---- a test that has to be passed
-pub not-passed : (ok : Bool) (p n : ℕ) (f : Fault) → ok ≡ false → f ≡ numbered n
-    → Step.Failed f ≡ choose ok (Step.At p) (Step.Failed (numbered n))
-not-passed ok p n f e d = ap Step.Failed d ∙ sym (choose-false _ _ _ e)
+pub not-passed : (ok : Bool) (p n at w : ℕ) (f : Fault) → ok ≡ false → f ≡ faultAt n at w
+    → Step.Failed f ≡ choose ok (Step.At p) (Step.Failed (faultAt n at w))
+not-passed ok p n at w f e d = ap Step.Failed d ∙ sym (choose-false _ _ _ e)
 
-pub passed : (s : List ℕ) (p : ℕ) (q : Step) (ok : Bool) (n : ℕ) → q ≡ choose ok (Step.At p) (Step.Failed (numbered n)) → Went s (Step.At p) (require ok n) q tt
-unfolding outcome runFrom require choose
-passed s p q true n e = record { went = cc }
-passed s p q false n e = record { went = cc }
+pub passed-in : (s : List ℕ) (p : ℕ) (q : Step) (at w : ℕ) (ok : Bool) (n : ℕ)
+    → q ≡ choose ok (Step.At p) (Step.Failed (faultAt n at w)) → Went s (Step.At p) (requireIn at w ok n) q tt
+unfolding outcome runFrom requireIn choose
+passed-in s p q at w true n e = record { went = cc }
+passed-in s p q at w false n e = record { went = cc }
 
-pub passed-at : (s : List ℕ) (p q : Step) (k : ℕ) (ok : Bool) (n : ℕ) → p ≡ Step.At k → q ≡ choose ok (Step.At k) (Step.Failed (numbered n)) → Went s p (require ok n) q tt
-passed-at s p q k ok n e f = rw e (passed s k q ok n f)
+pub passed-at : (s : List ℕ) (p q : Step) (k at w : ℕ) (ok : Bool) (n : ℕ) → p ≡ Step.At k
+    → q ≡ choose ok (Step.At k) (Step.Failed (faultAt n at w)) → Went s p (requireIn at w ok n) q tt
+passed-at s p q k at w ok n e f = rw e (passed-in s k q at w ok n f)
+
+pub passed-here : (s : List ℕ) (p q : Step) (k : ℕ) (ok : Bool) (n : ℕ) → p ≡ Step.At k
+    → q ≡ choose ok (Step.At k) (Step.Failed (faultAt n k 0)) → Went s p (require ok n) q tt
+unfolding runFrom require
+passed-here s p q k ok n e f = rw e (record { went = passed-in s k q k 0 ok n f .went })
 
 pub passed-failed : {A : Type 0} (s : List ℕ) (p : Step) (f : Fault) (m : Reader A) (a : A) → p ≡ Step.Failed f → Went s p m p a
 unfolding outcome runFrom
 passed-failed s p f m a e = record { went = rw e refl }
+
+-- a field whose value has to pass it
+tested-as : {A : Type 0} (s : List ℕ) (p r : Step) (at w : ℕ) (m : Reader A) (a : A) (test : A → Bool) (n : ℕ)
+    → at ≡ placeOfStep p → Went s p (m >>= (λ x. requireIn at w (test x) n >> pure x)) r a → Went s p (tested w m test n) r a
+unfolding runFrom placeOfStep tested
+tested-as s (Step.At p) r at w m a test n e v = record { went = (rw e at v) .went }
+tested-as s (Step.Failed f) r at w m a test n e v = record { went = v .went }
+
+module _ {A : Type 0} (s : List ℕ) (p q r : Step) (at w : ℕ) (m : Reader A) (a : A) where
+  through : (test : A → Bool) (n : ℕ) (ok : Bool) → Went s p m q a → ok ≡ test a
+      → ((t : List ℕ) → Went t q (requireIn at w ok n) r tt) → Went s p (m >>= (λ x. requireIn at w (test x) n >> pure x)) r a
+  through test n ok v e c = on s p q r _ _ a a v (next s q r r _ _ tt a (rw e at (c s)) (stop s r a))
+
+  pub passes : (test : A → Bool) (n : ℕ) (ok : Bool) → at ≡ placeOfStep p → Went s p m q a → ok ≡ test a
+      → ((t : List ℕ) → Went t q (requireIn at w ok n) r tt) → Went s p (tested w m test n) r a
+  passes test n ok d v e c = tested-as s p r at w m a test n d (through test n ok v e c)
 
 -- ---- outcomes
 
@@ -126,12 +149,21 @@ passed-failed s p f m a e = record { went = rw e refl }
 pub no-fault : {A C : Type 0} {n : Fault} {a : A} {q : ℕ} → fault n ≡ got a q → C
 no-fault e = let z : _≡_ {A = ℕ} 0 1 = cc in absurd (omega arith)
 
+pub same-faults : {A : Type 0} {f g : Fault} → _≡_ {A = Parsed A} (fault f) (fault g) → f ≡ g
+same-faults e = cc
+
 -- a test that came out well
 pub choose-got : {A : Type 0} (t : Bool) {x : Parsed A} (n : Fault) {a : A} {q : ℕ} → choose t x (fault n) ≡ got a q
     → (t ≡ true) × (x ≡ got a q)
 unfolding choose
 choose-got true n e = (refl, e)
 choose-got false n e = no-fault e
+
+-- one that came out badly
+pub choose-fault : {A : Type 0} (t : Bool) (a : A) (q : ℕ) (n f : Fault) → choose t (got a q) (fault n) ≡ fault f → n ≡ f
+unfolding choose
+choose-fault true a q n f e = no-fault (sym e)
+choose-fault false a q n f e = same-faults e
 
 -- ---- whether a step is a place
 pub place-is : (q : Step) (k : ℕ) → q ≡ Step.At k → true ≡ reached q

@@ -12,6 +12,11 @@ unfoldable pub reached : Step → Bool
 reached (Step.At p) = true
 reached (Step.Failed f) = false
 
+-- the place of a step, 0 after a fault
+unfoldable pub placeOfStep : Step → ℕ
+placeOfStep (Step.At p) = p
+placeOfStep (Step.Failed f) = 0
+
 -- a value at a step, as an outcome: after a fault the value counts for nothing
 unfoldable pub outcome : {A : Type 0} → Step → A → Parsed A
 outcome (Step.At p) a = got a p

@@ -1,7 +1,7 @@
 -- Readers (document 01, "The image"): from the bytes and a place to a value with the place after it, or to the first
 -- fault. What a place counts, bits or bytes, is for the readers of fields to say.
 pub use Rattle.readers.specs.declared.fault.Fault.{Fault}
-use Prim.Native.Nat.{ℕ, zero, suc}
+use Prim.Native.Nat.{ℕ, zero, suc, _+_}
 use mathlib.Core.Bool.{Bool}
 use mathlib.Core.List.{List}
 use lib.ListN.{getD}
@@ -45,10 +45,22 @@ each n f a = turns n 0 f a
 unfoldable pub alternative : {A : Type 0} → List (Reader A) → Reader A → ℕ → Reader A
 alternative rs last k = getD rs k last
 
--- the fault of a number
-unfoldable pub numbered : ℕ → Fault
-numbered n = record { number = n }
+-- the fault n in the field of width w that begins at place p (document 02, slip 2)
+unfoldable pub faultAt : ℕ → ℕ → ℕ → Fault
+faultAt n p w = record { number = n; place = p; width = w }
 
--- fault n, unless the test holds
+-- where the field at fault ends
+unfoldable pub fieldEnd : Fault → ℕ
+fieldEnd f = f .place + f .width
+
+-- the fault n in that field, unless the test holds
+unfoldable pub requireIn : ℕ → ℕ → Bool → ℕ → Reader (Unit {0})
+requireIn at w ok n s p = choose ok (got tt p) (fault (faultAt n at w))
+
+-- the fault n here, unless the test holds
 unfoldable pub require : Bool → ℕ → Reader (Unit {0})
-require ok n s p = choose ok (got tt p) (fault (numbered n))
+require ok n s p = requireIn p 0 ok n s p
+
+-- a field of width w whose value passes the test, or else the fault n in it
+unfoldable pub tested : {A : Type 0} → ℕ → Reader A → (A → Bool) → ℕ → Reader A
+tested w m ok n s p = (m >>= (λ a. requireIn p w (ok a) n >> pure a)) s p

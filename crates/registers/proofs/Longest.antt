@@ -17,7 +17,7 @@ use Rattle.net.proofs.Every.{chosen, chosen-lt}
 use Rattle.plans.specs.Answer.{numberOf}
 use Rattle.step.specs.Pick.{hostOf, slotOf}
 use Rattle.run.specs.Run.{Ran, Outcome, refused, refused-text, ran, numbers}
-use Rattle.registers.specs.Types.{Locality, Item, Tuple, Node, Net, Answer}
+use Rattle.registers.specs.Types.{Locality, Item, Tuple, Node, Net, Answer, Fault}
 use Rattle.registers.specs.Words.{Word, name, number, wordText, spaced, lineText, printed}
 use Rattle.registers.specs.Shown.{current}
 use Rattle.registers.specs.Lines.{fewer, refusalLine, refusedLine, netLine, pickLine, madeLine, nodeLine}
@@ -133,6 +133,10 @@ refused-short : (n : ℕ) → length (printed (refusalLine n ∷ [])) ≤ 29
 unfolding refusalLine bytes
 refused-short n = line-short _ _ 21 (number-more _ _ 0 no-words)
 
+refused-at-short : (f : Fault) → length (printed (refusedLine current f ∷ [])) ≤ 53
+unfolding refusedLine current choose bytes wordText
+refused-at-short f = line-short _ _ 45 (number-more _ _ 24 (word-more (name _) _ 2 21 (omega arith) (number-more _ _ 0 no-words)))
+
 net-short : (n k : ℕ) → length (printed (netLine n k ∷ [])) ≤ 46
 unfolding netLine bytes
 net-short n k = line-short _ _ 42 (number-more _ _ 21 (number-more _ _ 0 no-words))
@@ -223,8 +227,8 @@ picks-short picks r h g =
 register-short :
     (s : Net) (picks : List ℕ) (x : Outcome) → length picks ≤ 65536 → ((i : ℕ) → getD picks i 0 < 256)
     → length (registerIn s picks x) ≤ longest
-unfolding registerIn registerLines refusedLine longest
-register-short s picks (refused f) h g = omega (arith, refused-short (f .number))
+unfolding registerIn registerLines longest
+register-short s picks (refused f) h g = omega (arith, refused-at-short f)
 register-short s picks (refused-text n) h g = omega (arith, refused-short n)
 register-short s picks (ran r) h g =
     let rest = two-short printed printed-none printed-both _ _ _ _ (picks-short picks r h g) (after-short (r .net)) in

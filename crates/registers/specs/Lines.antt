@@ -17,12 +17,13 @@ use Rattle.registers.specs.Shown.{Shown}
 unfoldable pub fewer : ℕ → ℕ → ℕ
 fewer count size = choose (ltb count size) count size
 
--- refused N: of a text by its number alone, of an image by its fault
+-- refused N: of a text by its number alone, of an image with the bit at which the field at fault begins (document 02, slip 2)
 unfoldable pub refusalLine : ℕ → List Word
 refusalLine n = name (bytes "refused") ∷ number n ∷ []
 
 unfoldable pub refusedLine : Shown → Fault → List Word
-refusedLine shown f = refusalLine (f .number)
+refusedLine shown f =
+    name (bytes "refused") ∷ number (f .number) ∷ choose (shown .place) (name (bytes "at") ∷ number (f .place) ∷ []) []
 
 -- net, the image's address count and code length
 unfoldable pub netLine : ℕ → ℕ → List Word

@@ -1,11 +1,11 @@
 -- What a listing may show beyond document 01's register.
 use mathlib.Core.Bool.{Bool, true, false}
 
--- The lines take it where each part has its place. Today the total alone is shown: no line looks at the other parts.
+-- The lines take it where each part has its place. Today the total and the place are shown: no line looks at the other parts.
 pub record Shown : Type 0 where
   -- after the last line, `total` and the number of tuples in the net (document 02, slip 1)
   pub total : Bool
-  -- in the line of a refusal, the bit at which the field at fault begins
+  -- in the line of a refusal, `at` and the bit at which the field at fault begins (slip 2)
   pub place : Bool
   -- at the end of a tuple's line, the address of the node that put it
   pub mark : Bool
@@ -14,4 +14,4 @@ pub record Shown : Type 0 where
 
 -- what a register shows
 unfoldable pub current : Shown
-current = record { total = true; place = false; mark = false; names = false }
+current = record { total = true; place = true; mark = false; names = false }

@@ -1,6 +1,7 @@
 // The lines of a register (document 01, "The register"): each is written word by word.
 use crate::words::put_item;
 use crate::words::put_number;
+use crate::words::put_place;
 use crate::words::put_two;
 use net::locality::Locality;
 use net::network::Net;
@@ -38,10 +39,14 @@ pub fn put_refusal(out: &mut [u8], at: usize, n: u8) -> usize
     put(out, second, 10)
 }
 
+// A refusal with the bit at which the field at fault begins.
 pub fn put_refused(out: &mut [u8], at: usize, fault: Fault) -> usize
     ensures { λ r. ⌜ Wrote (now (out .entry)) at (printed (refusedLine current fault ∷ [])) (now (out .exit)) r ⌝ }
 {
-    put_refusal(out, at, fault.number)
+    let first = put_bytes(out, at, b"refused");
+    let second = put_number(out, first, fault.number as usize);
+    let third = put_place(out, second, fault.place);
+    put(out, third, 10)
 }
 
 pub fn put_net(out: &mut [u8], at: usize, n: usize, k: usize) -> usize

@@ -4,9 +4,11 @@ use net::tuple::Item;
 use text::decimal::put_marked;
 use text::decimal::put_signed;
 use text::writing::put;
+use text::writing::put_bytes;
 ghost use mathlib.Core.List.{[], _∷_};
+ghost use Rattle.text.specs.Bytes.{bytes};
 ghost use Rattle.text.specs.Writing.{Wrote};
-ghost use Rattle.registers.specs.Words.{number, reading, address, spaced};
+ghost use Rattle.registers.specs.Words.{name, number, reading, address, spaced};
 ghost use Rattle.registers.specs.Lines.{itemWord};
 
 // A number.
@@ -22,6 +24,14 @@ pub fn put_two(out: &mut [u8], at: usize, m: usize, n: usize) -> usize
 {
     let next = put_number(out, at, m);
     put_number(out, next, n)
+}
+
+// `at` and a place.
+pub fn put_place(out: &mut [u8], at: usize, p: usize) -> usize
+    ensures { λ r. ⌜ Wrote (now (out .entry)) at (spaced (name (bytes "at") ∷ number p ∷ [])) (now (out .exit)) r ⌝ }
+{
+    let next = put_bytes(out, at, b" at");
+    put_number(out, next, p)
 }
 
 // A reading.

@@ -11,7 +11,7 @@ use Rattle.net.specs.Choice.{choose, both, all}
 use Rattle.net.specs.Records.{emptyNet, nodeAt, withNode, withRow, withCounts, addressOf}
 use Rattle.net.proofs.Laws.{choose-true, choose-false, both-l, both-r}
 use Rattle.net.proofs.ReadingLaws.{never}
-use Rattle.readers.specs.Reader.{got, Reader, pure, andThen, _>>=_, _>>_, require}
+use Rattle.readers.specs.Reader.{got, Reader, pure, andThen, _>>=_, _>>_, requireIn, require}
 use Rattle.readers.specs.Progress.{runFrom, Went}
 use Rattle.readers.proofs.ReaderLaws.{after, on, next, stop, stop-as}
 use Rattle.lexemes.specs.Lexemes.{fail}
@@ -88,7 +88,7 @@ module _ (s : List ℕ) where
     ended :
         (p : Step) (k : ℕ) (b : Bool) → isRowHere s p ≡ b → (b ≡ true → k ≡ 0)
         → runFrom s p (require (not b) 22 >> pure rs) ≡ runFrom s p (rowsAfter k rs)
-    unfolding isRowHere runFrom require choose _>>_ _>>=_ andThen pure fail
+    unfolding isRowHere runFrom require requireIn choose _>>_ _>>=_ andThen pure fail
     ended (Step.At p) k true e z = let full : k ≡ 0 = z refl in rw full (sym (one-too-many p e))
     ended (Step.At p) k false e z = sym (none-more p k e)
     ended (Step.Failed f) k b e z = refl

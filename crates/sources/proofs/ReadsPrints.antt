@@ -12,7 +12,7 @@ use lib.Dec.{eqb, ltb}
 use borrow.Author.Tests.{ltb-true, lt-ltb, eqb-true, eq-eqb, ne-eqb}
 use Rattle.net.specs.Choice.{choose, both}
 use Rattle.net.proofs.Laws.{both-i, both-l, both-r, choose-true, choose-false}
-use Rattle.readers.specs.Reader.{Parsed, got, fault, Reader, pure, andThen, _>>=_, _>>_, require}
+use Rattle.readers.specs.Reader.{Parsed, got, fault, Reader, pure, andThen, _>>=_, _>>_, requireIn, require}
 use Rattle.readers.proofs.ReaderLaws.{no-fault, choose-got}
 use Rattle.lexemes.specs.Lexemes.{byteAt, look, fail, byte, word, present, optional}
 use Rattle.sources.proofs.Stands.{Stands, stands-none, stands-one, stands-append, stands-first, stands-rest, stands-opens}
@@ -191,7 +191,7 @@ module _ {B : Type 0} {f : Reader B} {R : B → List ℕ → Type 0} {E : ℕ �
 
   -- a test that has to be passed
   pub reads-require : (ok : Bool) (n : ℕ) → Reads f R E → Reads (require ok n >> f) (λ b u. (ok ≡ true) × R b u) E
-  unfolding require _>>_ _>>=_ andThen choose
+  unfolding require requireIn _>>_ _>>=_ andThen choose
   reads-require true n r =
       reads-equal _ (λ s p. refl) (reads-as r (λ b u h. (refl, h)) (λ b u h. h .1) (λ d e. e))
   reads-require false n r = record {

@@ -9,7 +9,7 @@ use lib.Dec.{eqb, leb, ltb}
 use borrow.Author.Tests.{leb-true}
 use Rattle.net.specs.Choice.{both}
 use Rattle.net.proofs.Laws.{both-r}
-use Rattle.readers.specs.Reader.{Parsed, got, Reader, require, numbered}
+use Rattle.readers.specs.Reader.{Parsed, got, Reader, require, faultAt}
 use Rattle.readers.proofs.Gives as Logic
 use Rattle.readers.proofs.Gives.{fine-unless}
 use Rattle.lexemes.specs.Lexemes.{byteAt, look, fail, byte, word, present, optional, digitOf, digit, longer}
@@ -36,13 +36,13 @@ unfolding look
 gives-look P f g = record { run = λ s p. g (byteAt s p) .run s p }
 
 pub gives-fail : {A : Type 0} (P : A → Type 0) (n : ℕ) → TextNumber n → Gives (fail n) P
-unfolding fail numbered
+unfolding fail faultAt
 gives-fail P n h = record { run = λ s p. stopped h }
 
 pub gives-byte : (c : ℕ) → Gives (byte c) Any
 unfolding byte
 gives-byte c = record {
-  run = λ s p. fine-unless Any (both (ltb p (length s)) (eqb (byteAt s p) c)) (got tt (p + 1)) 31 astray (λ _. value tt);
+  run = λ s p. fine-unless Any (both (ltb p (length s)) (eqb (byteAt s p) c)) (got tt (p + 1)) 31 p 0 astray (λ _. value tt);
 }
 
 pub gives-word : (cs : List ℕ) → Gives (word cs) Any

@@ -11,13 +11,13 @@ use Rattle.net.specs.Choice.{choose, all}
 use Rattle.net.specs.Records.{emptyNet, nodeAt, addressOf}
 use Rattle.sound.specs.Soundness.{soundOf}
 use Rattle.written.specs.Types.{Net}
-use Rattle.readers.specs.Reader.{Parsed, got, fault, Reader, pure, andThen, require, numbered, _>>=_, _>>_}
+use Rattle.readers.specs.Reader.{Parsed, got, fault, Reader, pure, andThen, requireIn, require, faultAt, _>>=_, _>>_}
 use Rattle.written.specs.Types.{Fault}
 use Rattle.image.specs.Image.{header, rows, allProcesses, allTuples, code, layout}
 use Rattle.bitreader.specs.Ending.{endsAt, ending}
 use Rattle.written.specs.Types.{Verdict, Opened}
 use Rattle.keeping.specs.Admission.{admits}
-use Rattle.image.specs.Image.{refused, accepted, judgedNet, openedOf}
+use Rattle.image.specs.Image.{beyondRow, refused, accepted, judgedNet, openedOf}
 use Rattle.accepted.specs.ImageClaims.{AcceptedIsSound}
 use Rattle.written.specs.ImageOf.{netBits, imageOf}
 use Rattle.fresh.specs.Fresh.{netFits, nodeStarts, freshOf}
@@ -58,16 +58,16 @@ record Laid (s : List ℕ) (net : Net) : Type 0 where
   ends : endsAt s (length (netBits net)) ≡ true
 
 closing-only : (s : List ℕ) (p : ℕ) (x net : Net) (q : ℕ) → closing x s p ≡ got net q → (endsAt s p ≡ true) × (x ≡ net)
-unfolding closing ending _>>_ _>>=_ require andThen pure choose
+unfolding closing ending _>>_ _>>=_ require requireIn andThen pure choose
 closing-only s p x net q = go (endsAt s p)
   where
-    go : (b : Bool) → andThen (choose b (got tt p) (fault (numbered 29))) s (λ (u : Unit {0}). pure x) ≡ got net q
+    go : (b : Bool) → andThen (choose b (got tt p) (fault (faultAt 29 p 0))) s (λ (u : Unit {0}). pure x) ≡ got net q
         → (b ≡ true) × (x ≡ net)
     go true e = (refl, cc)
     go false e = no-fault e
 
 closing-back : (s : List ℕ) (p : ℕ) (net : Net) → endsAt s p ≡ true → closing net s p ≡ got net p
-unfolding closing ending _>>_ _>>=_ require andThen pure
+unfolding closing ending _>>_ _>>=_ require requireIn andThen pure
 closing-back s p net e = ap (λ o. andThen o s (λ (u : Unit {0}). pure net)) (choose-true (endsAt s p) _ _ e)
 
 layout-only : (s : List ℕ) (net : Net) (q : ℕ) → layout s 0 ≡ got net q → Laid s net
@@ -102,25 +102,25 @@ same-net : (x net : Net) → accepted x ≡ accepted net → x ≡ net
 unfolding accepted
 same-net x net e = ap (λ (r : Opened). r .net) e
 
-judged-only : (s : List ℕ) (net : Net) (o : Parsed Net) → layout s 0 ≡ o → judgedNet o ≡ accepted net
+judged-only : (s : List ℕ) (net : Net) (o : Parsed Net) → layout s 0 ≡ o → judgedNet s o ≡ accepted net
     → Laid s net × (admits net ≡ true)
 unfolding judgedNet choose
 judged-only s net (fault f) d e = refused-not f net e
 judged-only s net (got x q) d e = go (admits x) refl e
   where
-    go : (b : Bool) → admits x ≡ b → choose b (accepted x) (refused (numbered 30)) ≡ accepted net
+    go : (b : Bool) → admits x ≡ b → choose b (accepted x) (refused (beyondRow s x)) ≡ accepted net
         → Laid s net × (admits net ≡ true)
     go true a f = subst (λ (y : Net). Laid s y × (admits y ≡ true)) (same-net x net f) (layout-only s x q d, a)
     go false a f = refused-not _ net f
 
 -- the net that is opened, whether accepted or not
-judged-ok : (s : List ℕ) (o : Parsed Net) → layout s 0 ≡ o → NetOk (judgedNet o .net) ⊎ (emptyNet ≡ judgedNet o .net)
+judged-ok : (s : List ℕ) (o : Parsed Net) → layout s 0 ≡ o → NetOk (judgedNet s o .net) ⊎ (emptyNet ≡ judgedNet s o .net)
 unfolding judgedNet choose accepted refused
 judged-ok s (fault f) d = inr refl
 judged-ok s (got x q) d = go (admits x)
   where
-    go : (b : Bool) → NetOk (choose b (accepted x) (refused (numbered 30)) .net)
-        ⊎ (emptyNet ≡ choose b (accepted x) (refused (numbered 30)) .net)
+    go : (b : Bool) → NetOk (choose b (accepted x) (refused (beyondRow s x)) .net)
+        ⊎ (emptyNet ≡ choose b (accepted x) (refused (beyondRow s x)) .net)
     go true = inl (layout-only s x q d .net-ok)
     go false = inr refl
 
@@ -152,7 +152,7 @@ pub fresh-accepted : (net : Net) → freshOf net ≡ true → openedOf (imageOf 
 unfolding openedOf imageOf judgedNet
 fresh-accepted net h =
     let (ok, a) = fresh-only net h in
-    ap judgedNet
+    ap (judgedNet (imageOf net))
     (layout-back (imageOf net) net
     (record { net-ok = ok; stands = bytes-stand (netBits net); ends = bytes-end (netBits net) }))
     ∙ choose-true (admits net) _ _ a

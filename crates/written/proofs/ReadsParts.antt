@@ -4,7 +4,7 @@ use Prim.Native.Nat.{ℕ, _+_}
 use mathlib.Core.Path.{_≡_, refl, sym, ap, subst, _∙_}
 use mathlib.Core.Bool.{Bool, true}
 use mathlib.Core.List.{List, _++_, append-nil}
-use Rattle.readers.specs.Reader.{Reader, pure, require, _>>=_, _>>_}
+use Rattle.readers.specs.Reader.{Reader, pure, requireIn, tested, _>>=_, _>>_}
 use Rattle.written.proofs.ReadsWrites.{Reads, reads-then, reads-require}
 
 -- a good value of that kind
@@ -37,14 +37,23 @@ module _ {A B : Type 0} {w : A → List Bool} {P : A → Type 0} {v : A → B �
   reads-in u r g writes =
       reads-then r g (record { keeps = λ a b x y. (a, x, y); writes = writes; parts = λ b z. z })
 
--- a value that is tested once it is read
-pub reads-tested :
-    {A : Type 0} {w : A → List Bool} {P : A → Type 0} {m : Reader A} (test : A → Bool) (n : ℕ) → Reads m w P
-    → Reads (m >>= (λ a. require (test a) n >> pure a)) w (λ a. P a × (test a ≡ true))
-reads-tested {w} {P} test n r =
-    reads-then r (λ a h. reads-require (test a) n a)
+-- a field that is tested once it is read
+reads-through :
+    {A : Type 0} {w : A → List Bool} {P : A → Type 0} {m : Reader A} (at k : ℕ) (test : A → Bool) (n : ℕ) → Reads m w P
+    → Reads (m >>= (λ a. requireIn at k (test a) n >> pure a)) w (λ a. P a × (test a ≡ true))
+reads-through {w} {P} at k test n r =
+    reads-then r (λ a h. reads-require at k (test a) n a)
     (record {
       keeps = λ a b h k. subst (λ x. P x × (test x ≡ true)) (k .1) (h, k .0);
       writes = λ a b h k. ap w (sym (k .1)) ∙ sym (append-nil (w a));
       parts = λ b h. (b, h .0, (h .1, refl));
     })
+
+pub reads-tested :
+    {A : Type 0} {w : A → List Bool} {P : A → Type 0} {m : Reader A} (k : ℕ) (test : A → Bool) (n : ℕ) → Reads m w P
+    → Reads (tested k m test n) w (λ a. P a × (test a ≡ true))
+unfolding tested
+reads-tested k test n r = record {
+  only = λ s p. reads-through p k test n r .only s p;
+  back = λ s p. reads-through p k test n r .back s p;
+}

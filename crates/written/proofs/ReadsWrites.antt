@@ -11,7 +11,7 @@ use lib.Dec.{leb, ltb}
 use borrow.Author.Tests.{leb-true, ltb-true, le-leb, lt-ltb}
 use Rattle.net.specs.Choice.{choose, both}
 use Rattle.readers.specs.Reader.{Parsed, got, fault, Reader, pure, andThen, _>>=_, _>>_, turns, each}
-use Rattle.readers.specs.Reader.{require}
+use Rattle.readers.specs.Reader.{requireIn}
 use Rattle.bitreader.specs.BitReader.{numberAt, judged, field, bits}
 use Rattle.written.specs.ImageOf.{bitsOf}
 use Rattle.text.specs.Joined.{joined}
@@ -123,7 +123,7 @@ reads-field w low end n fits = record { only = only; back = back }
         let at : p + w ≡ p + length (bitsOf w v) = omega arith in
         let d = stands-number s p w v (omega (arith, h .below)) f in
         choose-true _ _ _ (le-leb (p + w) (8 * length s) (omega arith))
-        ∙ ap (judged low end n (p + w)) d
+        ∙ ap (judged low end n p w) d
         ∙ choose-true _ _ _ (both-i _ _ (le-leb low v (h .above)) (lt-ltb v end (h .below)))
         ∙ ap (got v) at
 
@@ -178,12 +178,12 @@ module _ {A B : Type 0} {w : A → List Bool} {P : A → Type 0} {w′ : B → L
       })
 
 -- ---- a test, then a value
-pub reads-require : {A : Type 0} (ok : Bool) (n : ℕ) (a : A)
-    → Reads (require ok n >> pure a) (λ _. []) (λ b. (ok ≡ true) × (a ≡ b))
-unfolding require _>>_ _>>=_ andThen pure choose
-reads-require true n a =
+pub reads-require : {A : Type 0} (at w : ℕ) (ok : Bool) (n : ℕ) (a : A)
+    → Reads (requireIn at w ok n >> pure a) (λ _. []) (λ b. (ok ≡ true) × (a ≡ b))
+unfolding requireIn _>>_ _>>=_ andThen pure choose
+reads-require at w true n a =
     reads-as (reads-pure a) (λ b e. (refl, e)) (λ b e. e .1) (λ b e. refl)
-reads-require false n a = record {
+reads-require at w false n a = record {
   only = λ s p b q h e. no-fault e;
   back = λ s p b h st. let z : _≡_ {A = ℕ} 0 1 = cc (h .0) in absurd (omega arith);
 }

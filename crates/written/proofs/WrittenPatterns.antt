@@ -137,7 +137,7 @@ KindOk formals v = (Ranged 0 6 v) × (implies (not formals) (ltb v 4) ≡ true)
 
 reads-patternKind : (formals : Bool) → Reads (kind formals) (bitsOf 3) (KindOk formals)
 unfolding kind KindOk
-reads-patternKind formals = reads-tested (λ v. implies (not formals) (ltb v 4)) 26 (reads-field 3 0 6 25 (omega arith))
+reads-patternKind formals = reads-tested 3 (λ v. implies (not formals) (ltb v 4)) 26 (reads-field 3 0 6 25 (omega arith))
 
 kind-ok : (formals : Bool) (n : ℕ) (x : Pattern) → PatternOk formals n x → KindOk formals (patternKind x)
 unfolding KindOk patternKind isActual
@@ -233,7 +233,7 @@ module _ (formals : Bool) (n : ℕ) (c : Instruction) (h : n ≤ 16) where
 
   reads-fresh : Reads (fresh c) variableBits (λ v. (v < 8) × (unboundBefore c (c .count) v ≡ true))
   unfolding fresh
-  reads-fresh = reads-tested (unboundBefore c (c .count)) 27 reads-variable
+  reads-fresh = reads-tested 3 (unboundBefore c (c .count)) 27 reads-variable
 
   reads-formalReading : implies (not formals) false ≡ true → Reads (formalReading c) patternRest (PatternOf 4)
   unfolding formalReading patternRest patternKind patternSound patternFits isActual bindsAnew

@@ -11,4 +11,4 @@ read-fresh-spec =
     (λ c κs. search needs)
     (λ c κs. search needs)
     (λ c κs. search needs)
-    (λ c. search (needs, fresh-parts, c .require-that .ensures)))
+    (λ c. search (needs, fresh-parts, c .require-in .ensures)))

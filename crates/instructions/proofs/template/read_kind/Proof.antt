@@ -11,4 +11,4 @@ read-kind-spec =
     (λ c κs. search needs)
     (λ c κs. search needs)
     (λ c κs. search needs)
-    (λ c. search (needs, kind-parts, c .require-that .ensures)))
+    (λ c. search (needs, kind-parts, c .require-in .ensures)))

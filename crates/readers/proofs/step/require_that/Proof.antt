@@ -1,5 +1,5 @@
 -- `readers::step::require_that` meets its contract. Assumes nothing.
-use Rattle.readers.proofs.ReaderLaws.{passed-at, passed-failed}
+use Rattle.readers.proofs.ReaderLaws.{passed-here, passed-failed}
 use borrow.Author.Needs.{needs}
 use Rattle.readers.proofs.step.require_that.Statement.{statement}
 use Rattle.readers.proofs.step.require_that.Tie as tie
@@ -11,5 +11,5 @@ require-that-spec =
     (λ c. search needs)
     (λ c κs. search needs)
     (λ c. search needs)
-    (λ c. search (needs, passed-at))
+    (λ c. search (needs, passed-here))
     (λ c. search (needs, passed-failed)))

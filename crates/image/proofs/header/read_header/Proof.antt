@@ -1,8 +1,8 @@
--- `image::reader::read_header` meets its contract. Assumes nothing.
+-- `image::header::read_header` meets its contract. Assumes nothing.
 use Rattle.image.proofs.LayoutLaws.{headed}
 use borrow.Author.Needs.{needs}
-use Rattle.image.proofs.reader.read_header.Statement.{statement}
-use Rattle.image.proofs.reader.read_header.Tie as tie
+use Rattle.image.proofs.header.read_header.Statement.{statement}
+use Rattle.image.proofs.header.read_header.Tie as tie
 
 pub read-header-spec : {M : Type 1} → statement M
 read-header-spec =

@@ -1,11 +1,10 @@
--- `inspect::number_of` meets its contract. Assumes nothing.
+-- `image::reader::number_of` meets its contract. Assumes nothing.
 use Prim.Native.Nat.{ℕ}
 use mathlib.Core.Path.{_≡_}
-use Rattle.image.specs.Image.{numberOf}
-use Rattle.image.specs.declared.reader.Verdict.{Verdict}
+use Rattle.image.specs.Image.{Verdict, numberOf}
 use borrow.Author.Needs.{needs}
-use Rattle.inspect.proofs.number_of.Statement.{statement}
-use Rattle.inspect.proofs.number_of.Tie as tie
+use Rattle.image.proofs.reader.number_of.Statement.{statement}
+use Rattle.image.proofs.reader.number_of.Tie as tie
 
 -- the number in an arm, by what the arm knows of the answer
 by : (x y : Verdict) (r : ℕ) → x ≡ y → r ≡ numberOf y → r ≡ numberOf x

@@ -1,0 +1,2 @@
+pub mod FaultClaims
+pub mod Types

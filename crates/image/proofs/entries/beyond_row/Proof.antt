@@ -1,0 +1,17 @@
+-- `image::entries::beyond_row` meets its contract. Assumes nothing.
+use Rattle.image.proofs.LayoutLaws.{beyond-end, beyond-entry}
+use borrow.Author.Needs.{needs}
+use Rattle.image.proofs.entries.beyond_row.Statement.{statement}
+use Rattle.image.proofs.entries.beyond_row.Tie as tie
+
+pub beyond-row-spec : {M : Type 1} → statement M
+beyond-row-spec =
+    tie.close
+    (tie.spec
+    (λ c κs. search needs)
+    (λ c. search needs)
+    (λ c κs. search needs)
+    (λ c. search needs)
+    (λ c κs. search needs)
+    (λ c. search (needs, beyond-end))
+    (λ c. search (needs, beyond-entry)))

@@ -1,0 +1,25 @@
+// The header of an image (document 01, "The image", part 1).
+use crate::built::NetRead;
+use bitreader::bits::take;
+use net::network::Net;
+use readers::step::Step;
+ghost use Rattle.image.specs.Image.{header};
+ghost use Rattle.image.specs.Progress.{Headed};
+ghost use Rattle.bitreader.specs.Progress.{seen};
+
+// Format, address count and code length.
+pub(crate) fn read_header(s: &[u8]) -> NetRead
+    ensures { λ r. ⌜ Headed (seen (now (s .entry))) header r ⌝ }
+{
+    let start = Step::At(0);
+    let format = take(s, start, 4, 1, 2, 21);
+    let second = format.next;
+    let addresses = take(s, second, 5, 1, 17, 22);
+    let third = addresses.next;
+    let length = take(s, third, 10, 1, 513, 22);
+    let next = length.next;
+    let mut net = Net::empty();
+    net.addresses = addresses.value;
+    net.length = length.value;
+    NetRead { net, next }
+}
