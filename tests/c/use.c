@@ -49,18 +49,35 @@ static size_t written(size_t image_length, size_t length) {
 }
 
 static void use_register(void) {
-    const char refused[] = "refused 28\n";
+    const char refused[] = "refused 28 at 0\n";
     size_t length;
     expect(written(0, SIZE(text)) == strlen(refused), "no bytes have a register");
-    expect(memcmp(text, refused, strlen(refused)) == 0, "it says 28");
+    expect(memcmp(text, refused, strlen(refused)) == 0, "it says 28 at 0");
     expect(written(SIZE(image), 10) == 0, "ten bytes are too short");
     length = written(SIZE(image), SIZE(text));
     expect(length > 0, "there is room for every register");
     expect(fwrite(text, 1, length, stdout) == length, "it is printed");
 }
 
+/* The register's image with its first starting place past the code. */
+static void use_refusal_place(void) {
+    const char refused[] = "refused 24 at 27\n";
+    uint8_t bad[SIZE(image)], other[100];
+    size_t length;
+    memcpy(bad, image, SIZE(image));
+    bad[4] = 0x20;
+    expect(cavindorum_refusal_place(image, 0) == 0, "no bytes go bad at 0");
+    expect(cavindorum_refusal_place(image, SIZE(image)) == 0, "an accepted image has no place");
+    expect(cavindorum_refusal_place(image, 4) == 27, "four bytes end in the starting place");
+    expect(cavindorum_refusal_place(bad, SIZE(bad)) == 27, "the starting place is at 27");
+    length = cavindorum_register(bad, SIZE(bad), picks, SIZE(picks), other, SIZE(other));
+    expect(length == strlen(refused), "a refused image has a register");
+    expect(memcmp(other, refused, length) == 0, "it says 24 at 27");
+}
+
 static void use_texts(void) {
     const uint8_t performed[] = {0, 1, 7};
+    const char refused[] = "refused 31\n";
     uint8_t answers[] = {99, 99, 99};
     uint8_t other[1000];
     size_t length;
@@ -74,11 +91,15 @@ static void use_texts(void) {
                                       SIZE(other));
     expect(length == written(SIZE(image), SIZE(text)), "its register is as long as the image's");
     expect(memcmp(other, text, length) == 0, "and the same");
+    length = cavindorum_register_text(notation, 0, picks, SIZE(picks), other, SIZE(other));
+    expect(length == strlen(refused), "no text has a register");
+    expect(memcmp(other, refused, length) == 0, "it says 31 and no place");
 }
 
 int main(void) {
     use_run();
     use_texts();
+    use_refusal_place();
     use_register();
     return 0;
 }

@@ -12,6 +12,12 @@ impl<'a> BitReader<'a> {
         BitReader { bytes, next: 0 }
     }
 
+    /// The next bit, counted from 0: the first of the field that is taken
+    /// next.
+    pub fn next_bit(&self) -> usize {
+        self.next
+    }
+
     /// The next `width` bits as a number (width at most 32),
     /// or nothing when they end too soon.
     pub fn take(&mut self, width: usize) -> Option<u32> {
@@ -39,13 +45,15 @@ impl<'a> BitReader<'a> {
     }
 }
 
-/// The sorts of field an image is made of.
+/// The sorts of field an image is made of: one for each bit width in its
+/// layout, the four rights over an address together one.
 #[derive(Clone, Copy, PartialEq, Eq, Debug)]
 pub enum Sort {
     Format,
     AddressCount,
     CodeLength,
-    Right,
+    Create,
+    Rights,
     ProcessCount,
     Place,
     TupleCount,
@@ -59,12 +67,40 @@ pub enum Sort {
     Variable,
 }
 
+impl Sort {
+    pub const ALL: [Sort; 16] = [
+        Sort::Format,
+        Sort::AddressCount,
+        Sort::CodeLength,
+        Sort::Create,
+        Sort::Rights,
+        Sort::ProcessCount,
+        Sort::Place,
+        Sort::TupleCount,
+        Sort::FieldCount,
+        Sort::TupleFieldKind,
+        Sort::Reading,
+        Sort::Address,
+        Sort::Action,
+        Sort::TargetKind,
+        Sort::FieldKind,
+        Sort::Variable,
+    ];
+}
+
 /// Where a field of an image lies.
 #[derive(Clone, Copy, PartialEq, Eq, Debug)]
 pub struct FieldAt {
     pub sort: Sort,
     pub first_bit: usize,
     pub width: usize,
+}
+
+impl FieldAt {
+    /// The first bit after the field.
+    pub fn end(&self) -> usize {
+        self.first_bit + self.width
+    }
 }
 
 /// The bytes written so far, and where each field lies in them.
@@ -129,6 +165,19 @@ mod tests {
         assert_eq!(bits.take(8), Some(0xFF));
         assert_eq!(bits.take(1), None);
         assert_eq!(bits.take(0), Some(0));
+    }
+
+    #[test]
+    fn each_field_begins_where_the_last_one_ends() {
+        let mut bits = BitReader::new(&[0xFF, 0xFF]);
+        assert_eq!(bits.next_bit(), 0);
+        bits.take(5);
+        assert_eq!(bits.next_bit(), 5);
+        // One that ends too soon leaves its first bit the next.
+        assert_eq!(bits.take(12), None);
+        assert_eq!(bits.next_bit(), 5);
+        bits.take(11);
+        assert_eq!((bits.take(1), bits.next_bit()), (None, 16));
     }
 
     #[test]

@@ -164,16 +164,22 @@ pub fn bits(text: &str) -> Vec<u8> {
     digits.chunks(8).map(byte).collect()
 }
 
+/// The 32 bits before the code of one address with all rights, no process, no
+/// tuple and two instructions.
+pub const BEFORE_CODE: &str = "0001 00001 0000000010 1 1111 000 00000";
+
+/// The 32 bits before the tuple of one address without rights, no process, one
+/// tuple and one instruction.
+pub const BEFORE_TUPLE: &str = "0001 00001 0000000001 0 0000 000 00001";
+
 /// One address with all rights, no process, no tuple, and two instructions
 /// that these bits write.
 pub fn with_code(code: &str) -> Vec<u8> {
-    bits(&format!("0001 00001 0000000010 1 1111 000 00000 {code}"))
+    bits(&format!("{BEFORE_CODE} {code}"))
 }
 
 /// One address without rights, no process, one tuple and one instruction
 /// that these bits write.
 pub fn with_tuple(tuple_and_code: &str) -> Vec<u8> {
-    bits(&format!(
-        "0001 00001 0000000001 0 0000 000 00001 {tuple_and_code}"
-    ))
+    bits(&format!("{BEFORE_TUPLE} {tuple_and_code}"))
 }

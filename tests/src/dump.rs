@@ -5,15 +5,25 @@
 use crate::net::*;
 use crate::program::start;
 use std::io::{Read, Write};
+use std::process::ChildStdout;
 
 /// The bytes of a dumped net.
 pub const DUMP_BYTES: usize = 23_267;
 
-/// What is made of an image or a text: 0 or the number it is refused with,
-/// and the dump of the net it gives.
+/// What is made of a text: 0 or the number it is refused with, and the dump
+/// of the net it gives.
 #[derive(Clone, PartialEq, Eq, Debug)]
 pub struct Opened {
     pub number: u8,
+    pub dump: Vec<u8>,
+}
+
+/// What is made of an image: besides, the bit at which the field at fault
+/// begins, 0 where it is accepted.
+#[derive(Clone, PartialEq, Eq, Debug)]
+pub struct OpenedImage {
+    pub number: u8,
+    pub bit: usize,
     pub dump: Vec<u8>,
 }
 
@@ -137,18 +147,18 @@ pub fn record_at(byte: usize) -> String {
 }
 
 /// What the program `inspect` makes of each of these images.
-pub fn inspect(images: &[Vec<u8>]) -> Vec<Opened> {
-    inspect_by("inspect", images)
+pub fn inspect(images: &[Vec<u8>]) -> Vec<OpenedImage> {
+    inspect_by("inspect", images, OpenedImage::read)
 }
 
 /// What the program `inspect_text` makes of each of these texts.
 pub fn inspect_text(texts: &[Vec<u8>]) -> Vec<Opened> {
-    inspect_by("inspect_text", texts)
+    inspect_by("inspect_text", texts, Opened::read)
 }
 
 // What a program makes of each of these. A missing program, or one that
 // writes too little or too much, is a failure.
-fn inspect_by(name: &str, all: &[Vec<u8>]) -> Vec<Opened> {
+fn inspect_by<T>(name: &str, all: &[Vec<u8>], read: fn(&mut ChildStdout) -> T) -> Vec<T> {
     let mut child = start(name);
     let mut input = child.stdin.take().expect("the input is a pipe");
     let mut output = child.stdout.take().expect("the output is a pipe");
@@ -159,7 +169,7 @@ fn inspect_by(name: &str, all: &[Vec<u8>]) -> Vec<Opened> {
                 let _ = input.write_all(&framed(one));
             }
         });
-        let opened = all.iter().map(|_| read_opened(&mut output)).collect();
+        let opened = all.iter().map(|_| read(&mut output)).collect();
         assert_eq!(output.read(&mut [0]).ok(), Some(0), "more than the answers");
         opened
     });
@@ -175,13 +185,29 @@ pub fn framed(bytes: &[u8]) -> Vec<u8> {
     [&length.to_le_bytes(), bytes].concat()
 }
 
-fn read_opened(output: &mut impl Read) -> Opened {
-    let mut bytes = vec![0; 1 + DUMP_BYTES];
-    output.read_exact(&mut bytes).expect("an answer for each");
-    Opened {
-        number: bytes[0],
-        dump: bytes.split_off(1),
+impl Opened {
+    // The number in a byte, and the dump.
+    fn read(output: &mut impl Read) -> Opened {
+        let [number] = read_bytes(output);
+        let dump = read_bytes::<DUMP_BYTES>(output).to_vec();
+        Opened { number, dump }
     }
+}
+
+impl OpenedImage {
+    // The number in a byte, the bit in four, the lowest first, and the dump.
+    fn read(output: &mut impl Read) -> OpenedImage {
+        let [number] = read_bytes(output);
+        let bit = u32::from_le_bytes(read_bytes(output)) as usize;
+        let dump = read_bytes::<DUMP_BYTES>(output).to_vec();
+        OpenedImage { number, bit, dump }
+    }
+}
+
+fn read_bytes<const COUNT: usize>(output: &mut impl Read) -> [u8; COUNT] {
+    let mut bytes = [0; COUNT];
+    output.read_exact(&mut bytes).expect("an answer for each");
+    bytes
 }
 
 #[cfg(test)]
@@ -191,6 +217,20 @@ mod tests {
     #[test]
     fn a_dump_has_its_length() {
         assert_eq!(dump(&Net::empty()).len(), DUMP_BYTES);
+    }
+
+    #[test]
+    fn what_is_written_of_an_image_and_of_a_text() {
+        let dump = dump(&Net::empty());
+        let image = [&[24, 0xDA, 0xCC, 1, 0][..], &dump].concat();
+        let mut written = &image[..];
+        let opened = OpenedImage::read(&mut written);
+        assert_eq!((opened.number, opened.bit), (24, 117_978));
+        assert!(opened.dump == dump && written.is_empty());
+        let text = [&[31][..], &dump].concat();
+        let mut written = &text[..];
+        let opened = Opened::read(&mut written);
+        assert!(opened == Opened { number: 31, dump } && written.is_empty());
     }
 
     #[test]

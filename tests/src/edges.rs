@@ -128,7 +128,10 @@ pub fn stops_image(addresses: usize, length: usize) -> Vec<u8> {
     bits.put(Sort::AddressCount, 5, addresses as u32);
     bits.put(Sort::CodeLength, 10, length as u32);
     let mut zeros = |sort, width, count| (0..count).for_each(|_| bits.put(sort, width, 0));
-    zeros(Sort::Right, 1, addresses * (1 + 4 * addresses));
+    for _ in 0..addresses {
+        zeros(Sort::Create, 1, 1);
+        zeros(Sort::Rights, 4, addresses);
+    }
     zeros(Sort::ProcessCount, 3, addresses);
     zeros(Sort::TupleCount, 5, addresses);
     zeros(Sort::Action, 3, length);

@@ -1,6 +1,7 @@
-//! Four small nets that a person can follow, with picks and register. They
-//! are stored below `examples`.
+//! Four small nets that a person can follow, with picks and register, and an
+//! image that is refused. They are stored below `examples`.
 
+pub mod damaged;
 mod nets;
 
 use crate::image::{read_image, write_image};
@@ -25,7 +26,7 @@ pub struct Example {
     pub picks: &'static [(u8, &'static str)],
 }
 
-/// All examples.
+/// All examples with an accepted net.
 pub fn examples() -> Vec<Example> {
     vec![
         nets::put_and_take(),
@@ -37,7 +38,15 @@ pub fn examples() -> Vec<Example> {
 
 /// The files of all examples.
 pub fn stored_files() -> Vec<Stored> {
-    examples().iter().flat_map(Example::files).collect()
+    let accepted = examples();
+    let files = accepted.iter().flat_map(Example::files);
+    files.chain(damaged::files()).collect()
+}
+
+// A file of an example.
+fn file(example: &str, name: &str, content: Vec<u8>) -> Stored {
+    let path = format!("examples/{example}/{name}");
+    Stored { path, content }
 }
 
 impl Example {
@@ -54,10 +63,7 @@ impl Example {
     }
 
     fn files(&self) -> Vec<Stored> {
-        let file = |name: &str, content| Stored {
-            path: format!("examples/{}/{name}", self.name),
-            content,
-        };
+        let file = |name: &str, content| file(self.name, name, content);
         vec![
             file("net.txt", self.notation.as_bytes().to_vec()),
             file("net.bin", self.image()),
@@ -113,7 +119,8 @@ mod tests {
     fn the_texts_give_the_nets_of_the_images() {
         for example in examples() {
             let read = read_text(example.notation.as_bytes());
-            assert_eq!(read, read_image(&example.image()), "{}", example.name);
+            let image = read_image(&example.image());
+            assert_eq!(image.as_ref(), Ok(&example.net), "{}", example.name);
             assert_eq!(read, Ok(example.net), "{}", example.name);
         }
     }

@@ -7,6 +7,7 @@ pub mod by_hand;
 pub mod dump;
 pub mod edges;
 pub mod examples;
+pub mod faulty;
 pub mod generate;
 pub mod image;
 pub mod matching;

@@ -1,10 +1,10 @@
-//! The register (document 01, "The register"; document 02, slip 1).
+//! The register (document 01, "The register"; document 02, slips 1 and 2).
 
 use crate::image::read_image;
 use crate::net::*;
 use crate::notation::read_text;
 use crate::step::{pick_address, pick_slot, step};
-use std::fmt::Write;
+use std::fmt::{Display, Write};
 
 /// The register works through no more picks than these.
 pub const MOST_PICKS: usize = 65_536;
@@ -19,11 +19,12 @@ pub fn register_text(text: &[u8], picks: &[u8]) -> String {
     register_of(read_text(text), picks)
 }
 
-// The register of a net, or of the number with which it is refused.
-fn register_of(read: Result<Net, u8>, picks: &[u8]) -> String {
+// The register of a net, or of what it is refused with: a number for a text,
+// a number and a bit for an image.
+fn register_of(read: Result<Net, impl Display>, picks: &[u8]) -> String {
     let mut net = match read {
         Ok(net) => net,
-        Err(number) => return format!("refused {number}\n"),
+        Err(fault) => return format!("refused {fault}\n"),
     };
     let mut text = format!("net {} {}\n", net.address_count, net.code_length);
     let made = &picks[..picks.len().min(MOST_PICKS)];
@@ -110,11 +111,20 @@ mod tests {
     }
 
     #[test]
-    fn a_refused_image_prints_its_number_only() {
-        assert_eq!(register(&[], &[0, 0]), "refused 28\n");
+    fn a_refused_image_prints_its_number_and_bit_only() {
+        assert_eq!(register(&[], &[0, 0]), "refused 28 at 0\n");
         let mut barred = PAPER_IMAGE;
         barred[2] = 0x40;
-        assert_eq!(register(&barred, &[0]), "refused 30\n");
+        assert_eq!(register(&barred, &[0]), "refused 30 at 27\n");
+    }
+
+    /// The paper's line for the first starting place of a one-address image,
+    /// here the register's with place 2 of 2 instructions.
+    #[test]
+    fn the_paper_s_refusal() {
+        let mut image = PAPER_IMAGE;
+        image[4] = 0x20;
+        assert_eq!(register(&image, &[0]), "refused 24 at 27\n");
     }
 
     #[test]
@@ -124,7 +134,13 @@ mod tests {
             register_text(text, &[0, 0, 0]),
             register(&PAPER_IMAGE, &[0, 0, 0])
         );
+    }
+
+    #[test]
+    fn a_refused_text_prints_its_number_only() {
         assert_eq!(register_text(b"", &[0]), "refused 31\n");
+        let barred = b"0 has\n0 :: out(5)@self.nil\n";
+        assert_eq!(register_text(barred, &[0]), "refused 30\n");
     }
 
     #[test]

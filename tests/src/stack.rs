@@ -162,7 +162,8 @@ fn edging() -> Job {
 
 fn inspecting() -> Job {
     let input = loads().map(|load| framed(&load.image())).concat();
-    let printed = loads().map(|load| [vec![0], dump(&load.net)].concat());
+    // Accepted: the answer and four bytes of place, all 0.
+    let printed = loads().map(|load| [vec![0; 5], dump(&load.net)].concat());
     Job::new(&[], &input, printed.concat())
 }
 

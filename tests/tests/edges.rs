@@ -50,7 +50,8 @@ fn the_claims_are_those_of_the_starred_edges() {
 
 /// What the paper states of an edge.
 enum Stated {
-    Refused(u8),
+    /// The number, and the bit at which the field at fault begins.
+    Refused(u8, usize),
     /// The picks' answers, and lines that end the register.
     Answers(&'static [u8], &'static [&'static str]),
 }
@@ -60,15 +61,15 @@ use Stated::{Answers, Refused};
 /// Each edge by its name, those without a star first, as in the paper.
 const STATED: [(&str, Stated); 29] = [
     ("16 addresses", Answers(&[7], &["node 15 0 0", "total 0"])),
-    ("17 addresses", Refused(22)),
-    ("0 addresses", Refused(22)),
+    ("17 addresses", Refused(22, 4)),
+    ("0 addresses", Refused(22, 4)),
     (
         "512 instructions",
         Answers(&[1], &["node 0 0 0", "total 0"]),
     ),
-    ("513 instructions", Refused(22)),
-    ("0 instructions", Refused(22)),
-    ("0 addresses and 0 instructions", Refused(22)),
+    ("513 instructions", Refused(22, 9)),
+    ("0 instructions", Refused(22, 9)),
+    ("0 addresses and 0 instructions", Refused(22, 4)),
     (
         "eval to itself with four busy slots",
         Answers(&[3, 3], &["node 0 0 4", "total 0"]),
@@ -89,20 +90,24 @@ const STATED: [(&str, Stated); 29] = [
         "creation at 16 addresses with n",
         Answers(&[3], &["node 15 0 0", "total 0"]),
     ),
-    ("creation at 16 addresses without n, started", Refused(30)),
+    (
+        "creation at 16 addresses without n, started",
+        // After 16 rows of 65 bits and a process count.
+        Refused(30, 19 + 16 * 65 + 3),
+    ),
     (
         "creation at 16 addresses without n, sent",
         Answers(&[5], &["node 15 0 0", "total 0"]),
     ),
-    ("no bytes", Refused(28)),
+    ("no bytes", Refused(28, 0)),
     (
         "one stop",
         Answers(&[], &["net 1 1", "node 0 0 0", "total 0"]),
     ),
-    ("one stop, last byte 01", Refused(29)),
-    ("one stop, sixth byte 00", Refused(29)),
-    ("one stop, sixth byte FF", Refused(29)),
-    ("the register's image with third byte 40", Refused(30)),
+    ("one stop, last byte 01", Refused(29, 35)),
+    ("one stop, sixth byte 00", Refused(29, 35)),
+    ("one stop, sixth byte FF", Refused(29, 35)),
+    ("the register's image with third byte 40", Refused(30, 27)),
     (
         "the register's run",
         Answers(&[0, 1, 7], &["node 0 1 0", "tuple 0 5", "total 1"]),
@@ -163,7 +168,7 @@ fn check(edge: &Edge, stated: &Stated) {
     let name = &edge.name;
     let text = register(&edge.image, &edge.picks);
     match stated {
-        Refused(number) => assert_eq!(text, format!("refused {number}\n"), "{name}"),
+        Refused(number, bit) => assert_eq!(text, format!("refused {number} at {bit}\n"), "{name}"),
         Answers(answers, ending) => {
             assert!(text.starts_with("net "), "{name}: {text}");
             assert_eq!(answers_in(&text), *answers, "{name}");

@@ -100,7 +100,7 @@ fn a_missing_file() {
     symlink("nowhere", picks).expect("it can be made");
     assert_eq!(said("register", &directory.path, Stdio::null()), expected);
     let empty = TestDirectory::holding([]);
-    let refused = (b"refused 28\n".to_vec(), String::new());
+    let refused = (b"refused 28 at 0\n".to_vec(), String::new());
     assert_eq!(said("register", &empty.path, Stdio::null()), refused);
     let nothing = (Vec::new(), String::new());
     assert_eq!(said("repack", &empty.path, Stdio::null()), nothing);
@@ -149,7 +149,7 @@ fn an_input_that_fails_midway() {
     let (whole, part) = (framed(&ONE_STOP), framed(&PAPER_IMAGE));
     let (input, _other) = failing_after(&[&whole[..], &part[..8]].concat());
     let (printed, errors) = said("inspect", &here.path, input);
-    assert_eq!((printed.len(), &errors[..]), (23_268, INPUT_FAILS));
+    assert_eq!((printed.len(), &errors[..]), (23_272, INPUT_FAILS));
     let text = framed(TEXT);
     let (input, _other) = failing_after(&[&text[..], &text[..8]].concat());
     let (printed, errors) = said("inspect_text", &here.path, input);

@@ -1,36 +1,50 @@
 //! The proved image reader beside the model: the edges of document 01
-//! that concern images, and random images. Each image is compared in its
-//! answer and in the whole net.
+//! that concern images, images with each fault, and random images. Each
+//! image is compared in its number, in the bit at which the field at fault
+//! begins, and in the whole net.
 
+use cavindorum_tests::bits::Sort;
 use cavindorum_tests::by_hand::*;
-use cavindorum_tests::dump::{dump, inspect, record_at, Opened};
-use cavindorum_tests::generate::{damaged_image, valid_image};
-use cavindorum_tests::image::{read_image, write_image};
+use cavindorum_tests::dump::{dump, inspect, record_at, OpenedImage};
+use cavindorum_tests::faulty::faulty_images;
+use cavindorum_tests::generate::{damaged_image, image_net, valid_image};
+use cavindorum_tests::image::{read_image, write_image, write_with_fields};
 use cavindorum_tests::net::*;
 use cavindorum_tests::random::Random;
+use std::collections::BTreeSet;
 
 // Comparing.
 
-/// The numbers of images, 0 for accepted, each the same from the program
-/// and the model, as is the net.
-fn numbers(images: &[Vec<u8>]) -> Vec<u8> {
+/// A number and a bit, both 0 for accepted.
+type Answer = (u8, usize);
+
+const ACCEPTED: Answer = (0, 0);
+
+/// The answers to images, each the same from the program and the model, as
+/// is the net.
+fn answers(images: &[Vec<u8>]) -> Vec<Answer> {
     let found = inspect(images);
     for (image, found) in images.iter().zip(&found) {
         compare(image, found);
     }
-    found.iter().map(|opened| opened.number).collect()
+    found.iter().map(answer_of).collect()
 }
 
-fn number(image: &[u8]) -> u8 {
-    numbers(&[image.to_vec()])[0]
+fn answer(image: &[u8]) -> Answer {
+    answers(&[image.to_vec()])[0]
 }
 
-fn compare(image: &[u8], found: &Opened) {
-    let (number, net) = match read_image(image) {
-        Ok(net) => (0, net),
-        Err(number) => (number, Net::empty()),
+fn answer_of(opened: &OpenedImage) -> Answer {
+    (opened.number, opened.bit)
+}
+
+fn compare(image: &[u8], found: &OpenedImage) {
+    let (answer, net) = match read_image(image) {
+        Ok(net) => (ACCEPTED, net),
+        Err(fault) => ((fault.number, fault.bit), Net::empty()),
     };
-    assert_eq!(found.number, number, "program, model; image {image:02X?}");
+    let found_answer = answer_of(found);
+    assert_eq!(found_answer, answer, "program, model; image {image:02X?}");
     let expected = dump(&net);
     if let Some(at) = (0..expected.len()).find(|at| found.dump[*at] != expected[*at]) {
         let (program, model) = (found.dump[at], expected[at]);
@@ -43,7 +57,7 @@ fn compare(image: &[u8], found: &Opened) {
 fn assert_accepted(image: &[u8], net: &Net) {
     let opened = inspect(&[image.to_vec()]).remove(0);
     compare(image, &opened);
-    assert_eq!(opened.number, 0);
+    assert_eq!(answer_of(&opened), ACCEPTED);
     assert_eq!(opened.dump, dump(net));
 }
 
@@ -51,7 +65,7 @@ fn assert_accepted(image: &[u8], net: &Net) {
 
 #[test]
 fn no_bytes_are_28() {
-    assert_eq!(number(&[]), 28);
+    assert_eq!(answer(&[]), (28, 0));
 }
 
 #[test]
@@ -61,8 +75,8 @@ fn one_stop_is_accepted() {
 
 #[test]
 fn more_after_the_code_is_29() {
-    let found = numbers(&more_than_one_stop());
-    assert!(found.iter().all(|number| *number == 29));
+    let found = answers(&more_than_one_stop());
+    assert!(found.iter().all(|answer| *answer == (29, 35)));
 }
 
 #[test]
@@ -72,8 +86,8 @@ fn the_address_count_is_1_to_16() {
         assert_accepted(&write_image(&net), &net);
     }
     let header = |count| bits(&format!("0001 {count:05b} 0000000001 {:0200}", 0));
-    let found = numbers(&(0..32).map(header).collect::<Vec<_>>());
-    let out_of_range = |count| found[count] == 22;
+    let found = answers(&(0..32).map(header).collect::<Vec<_>>());
+    let out_of_range = |count| found[count] == (22, 4);
     assert!((0..32).all(|count| out_of_range(count) != (1..=16).contains(&count)));
 }
 
@@ -84,8 +98,8 @@ fn the_code_length_is_1_to_512() {
         assert_accepted(&write_image(&net), &net);
     }
     let header = |length| bits(&format!("0001 00001 {length:010b} {:0200}", 0));
-    let found = numbers(&(0..1024).map(header).collect::<Vec<_>>());
-    let out_of_range = |length| found[length] == 22;
+    let found = answers(&(0..1024).map(header).collect::<Vec<_>>());
+    let out_of_range = |length| found[length] == (22, 9);
     assert!((0..1024).all(|length| out_of_range(length) != (1..=512).contains(&length)));
 }
 
@@ -95,11 +109,12 @@ fn the_longest_image_has_14_749_bytes() {
     let mut image = write_image(&net);
     assert_eq!(image.len(), 14_749);
     assert_accepted(&image, &net);
-    assert_eq!(number(&image[..14_748]), 28);
+    // The code ends with a place, at bit 117,987.
+    assert_eq!(answer(&image[..14_748]), (28, 117_978));
     image.push(0);
-    assert_eq!(number(&image), 29);
+    assert_eq!(answer(&image), (29, 117_987));
     image.resize(32_767, 0);
-    assert_eq!(number(&image), 29);
+    assert_eq!(answer(&image), (29, 117_987));
 }
 
 /// The reader looks at the first 32,768 bytes, which decide: images that end
@@ -109,10 +124,12 @@ fn the_longest_image_has_14_749_bytes() {
 fn images_around_what_the_reader_looks_at() {
     let mut random = Random::new(104);
     let longest = write_image(&longest());
-    let heads: [&[u8]; 3] = [&longest, &PAPER_IMAGE, &ONE_STOP];
-    let mut images = Vec::new();
+    // Each with the first bit after its code.
+    let heads: [(&[u8], usize); 3] = [(&longest, 117_987), (&PAPER_IMAGE, 95), (&ONE_STOP, 35)];
+    let (mut images, mut expected) = (Vec::new(), Vec::new());
     for length in [16_384, 32_767, 32_768, 32_769, 32_770, 40_000, 65_535] {
-        for head in heads {
+        for (head, end) in heads {
+            expected.extend([(29, end); 3]);
             let mut image = head.to_vec();
             image.resize(length, 0);
             images.push(image.clone());
@@ -123,8 +140,7 @@ fn images_around_what_the_reader_looks_at() {
             images.push(image);
         }
     }
-    let found = numbers(&images);
-    assert!(found.iter().all(|number| *number == 29), "{found:?}");
+    assert_eq!(answers(&images), expected);
     // 16 addresses and 512 instructions, of any bits.
     let noise = |length| {
         let head = [0x18, 0x40, random.byte() & 0x1F];
@@ -132,7 +148,7 @@ fn images_around_what_the_reader_looks_at() {
         head.into_iter().chain(rest).collect::<Vec<u8>>()
     };
     let lengths = [32_767, 32_768, 32_769, 40_000].into_iter().cycle();
-    numbers(&lengths.take(200).map(noise).collect::<Vec<_>>());
+    answers(&lengths.take(200).map(noise).collect::<Vec<_>>());
 }
 
 #[test]
@@ -140,7 +156,7 @@ fn the_register_s_image() {
     assert_accepted(&PAPER_IMAGE, &paper_net());
     let mut barred = PAPER_IMAGE;
     barred[2] = 0x40;
-    assert_eq!(number(&barred), 30);
+    assert_eq!(answer(&barred), (30, 27));
 }
 
 #[test]
@@ -165,56 +181,15 @@ fn readings_are_twos_complement() {
     }
 }
 
-/// The numbers in the paper's order, each met in the ways it names.
+/// Each number in the ways the paper names, with its bit.
 #[test]
 fn every_number() {
-    let expected = [
-        (bits("0010 00001 0000000001 0 0000 000 00000 000"), 21),
-        (bits("0000"), 21),
-        (bits("0001 00001 0000000001 0 0000 101"), 22),
-        (bits("0001 00001 0000000001 0 0000 000 10001"), 22),
-        (with_tuple("00 1 0001 000"), 23),
-        (with_code("001 00 0001 00 010 000000000 000"), 23),
-        (with_code("001 01 00 001 0001 000000000 000"), 23),
-        (
-            bits("0001 00001 0000000001 0 0000 001 000000001 00000 000"),
-            24,
-        ),
-        (with_code("001 01 00 010 000000010 000"), 24),
-        (with_code("100 01 000000010 000000000 000"), 24),
-        (with_code("100 01 000000000 000000010 000"), 24),
-        (with_code("101 000 000000010 000"), 24),
-        (with_code("110 000000010 000000000 000"), 24),
-        (with_code("110 000000000 000000010 000"), 24),
-        (with_code("111 000"), 25),
-        (with_code("001 11 00 010 000000000 000"), 25),
-        (with_code("100 11 000000000 000000000 000"), 25),
-        (with_code("001 01 00 110 000000000 000"), 25),
-        (with_code("010 01 00 111 000000000 000"), 25),
-        (with_code("001 01 00 100 000 000000000 000"), 26),
-        (with_code("001 01 01 010 101 000 000000000 000"), 26),
-        (with_code("010 01 01 100 001 100 001 000000000 000"), 27),
-        (with_code("011 01 10 100 001 010 101 001 000000000 000"), 27),
-        (with_code("010 01 01 101 111 100 111 000000000 000"), 27),
-        (ONE_STOP[..4].to_vec(), 28),
-        (with_code("001 01 00 000 1111"), 28),
-        ([&ONE_STOP[..], &[0]].concat(), 29),
-        ([&ONE_STOP[..4], &[1]].concat(), 29),
-        (
-            bits("0001 00001 0000000001 0 1111 001 000000000 00000 101 000 000000000"),
-            30,
-        ),
-        (
-            bits("0001 00001 0000000001 1 1110 001 000000000 00000 100 01 000000000 000000000"),
-            30,
-        ),
-    ];
-    let images: Vec<Vec<u8>> = expected.iter().map(|(image, _)| image.clone()).collect();
-    let found = numbers(&images);
-    for ((image, number), found) in expected.iter().zip(found) {
-        assert_eq!(found, *number, "image {image:02X?}");
+    let (images, faults): (Vec<_>, Vec<_>) = faulty_images().into_iter().unzip();
+    let found = answers(&images);
+    for ((image, fault), found) in images.iter().zip(&faults).zip(found) {
+        assert_eq!(found, (fault.number, fault.bit), "image {image:02X?}");
     }
-    assert!((21..=30).all(|number| expected.iter().any(|(_, met)| *met == number)));
+    assert!((21..=30).all(|number| faults.iter().any(|fault| fault.number == number)));
 }
 
 /// One address with the right e on itself, a process at a place, and the
@@ -229,16 +204,20 @@ fn beside_a_new(place: u16, first: &str) -> Vec<u8> {
 #[test]
 fn reaching() {
     let sends = "100 01 000000001 000000000";
-    assert_eq!(number(&beside_a_new(0, sends)), 0);
-    assert_eq!(number(&beside_a_new(1, sends)), 30);
+    let beyond = (30, 27);
+    assert_eq!(answer(&beside_a_new(0, sends)), ACCEPTED);
+    assert_eq!(answer(&beside_a_new(1, sends)), beyond);
     let goes_on = "100 01 000000000 000000001";
-    assert_eq!(number(&beside_a_new(0, goes_on)), 30);
-    assert_eq!(number(&beside_a_new(0, "110 000000000 000000000")), 0);
-    assert_eq!(number(&beside_a_new(0, "110 000000001 000000000")), 30);
-    assert_eq!(number(&beside_a_new(0, "110 000000000 000000001")), 30);
+    assert_eq!(answer(&beside_a_new(0, goes_on)), beyond);
+    let forks = |places: &str| answer(&beside_a_new(0, &format!("110 {places}")));
+    assert_eq!(forks("000000000 000000000"), ACCEPTED);
+    assert_eq!(forks("000000001 000000000"), beyond);
+    assert_eq!(forks("000000000 000000001"), beyond);
     let mut barred = longest();
     barred.nodes[15].row.rights[15].take = false;
-    assert_eq!(number(&write_image(&barred)), 30);
+    // 16 rows of 65 bits, 15 addresses of 3 + 4 * 9, and a process count.
+    let bit = 19 + 16 * 65 + 15 * 39 + 3;
+    assert_eq!(answer(&write_image(&barred)), (30, bit));
 }
 
 // Neighbours of accepted images.
@@ -254,7 +233,7 @@ fn the_register_s_image_with_any_one_byte() {
             images.push(image);
         }
     }
-    numbers(&images);
+    answers(&images);
 }
 
 #[test]
@@ -262,21 +241,49 @@ fn the_longest_image_with_any_one_bit() {
     let image = write_image(&longest());
     let mut random = Random::new(1);
     let images: Vec<_> = (0..300).map(|_| flipped(&mut random, &image)).collect();
-    numbers(&images);
+    answers(&images);
+}
+
+/// Images cut anywhere. Of each sort of field some end early.
+#[test]
+fn cut_images() {
+    let mut random = Random::new(105);
+    let (mut images, mut layouts) = (Vec::new(), Vec::new());
+    for _ in 0..3_000 {
+        let (mut image, fields) = write_with_fields(&image_net(&mut random));
+        image.truncate(random.below(image.len()));
+        images.push(image);
+        layouts.push(fields);
+    }
+    let mut met = Vec::new();
+    for ((number, bit), fields) in answers(&images).into_iter().zip(layouts) {
+        assert_eq!(number, 28);
+        let early = fields.iter().find(|field| field.first_bit == bit);
+        met.push(early.expect("a field begins there").sort);
+    }
+    assert!(Sort::ALL.iter().all(|sort| met.contains(sort)));
 }
 
 // Random images.
 
 const BATCH: usize = 500;
 
-/// Images compared in batches, and how often each number was met.
-fn compare_many(seed: u64, count: usize, make: fn(&mut Random) -> Vec<u8>) -> [usize; 31] {
+/// How often each number was met, and at which bits.
+#[derive(Default)]
+struct Met {
+    counts: [usize; 31],
+    bits: [BTreeSet<usize>; 31],
+}
+
+/// Images compared in batches.
+fn compare_many(seed: u64, count: usize, make: fn(&mut Random) -> Vec<u8>) -> Met {
     let mut random = Random::new(seed);
-    let mut met = [0; 31];
+    let mut met = Met::default();
     for _ in 0..count / BATCH {
         let images: Vec<_> = (0..BATCH).map(|_| make(&mut random)).collect();
-        for number in numbers(&images) {
-            met[number as usize] += 1;
+        for (number, bit) in answers(&images) {
+            met.counts[number as usize] += 1;
+            met.bits[number as usize].insert(bit);
         }
     }
     met
@@ -297,19 +304,34 @@ fn one_bit_off(random: &mut Random) -> Vec<u8> {
 
 #[test]
 fn valid_images() {
-    let met = compare_many(101, 10_000, valid_image);
-    assert!(met[0] > 9_000 && met[30] > 100, "{met:?}");
+    let counts = compare_many(101, 10_000, valid_image).counts;
+    assert!(counts[0] > 9_000 && counts[30] > 100, "{counts:?}");
 }
 
 #[test]
 fn images_one_bit_off() {
-    let met = compare_many(102, 8_000, one_bit_off);
-    assert!(met[0] > 1_000, "{met:?}");
+    let counts = compare_many(102, 8_000, one_bit_off).counts;
+    assert!(counts[0] > 1_000, "{counts:?}");
 }
 
+/// Processes that start anywhere, mostly beyond their rows: their entries
+/// begin at many bits.
+#[test]
+fn images_with_barred_starts() {
+    let met = compare_many(106, 2_000, |random| write_image(&image_net(random)));
+    let (count, bits) = (met.counts[30], met.bits[30].len());
+    assert!(count > 1_000 && bits > 100, "{count} at {bits} bits");
+}
+
+/// More than 20,000 of these are refused. Every number is met often, each at
+/// many bits but for 21, whose field is the first.
 #[test]
 fn damaged_images() {
-    let met = compare_many(103, 8_000, damaged_image);
-    assert!(met[0] > 80, "{met:?}");
-    assert!(met[21..].iter().all(|count| *count > 80), "{met:?}");
+    let Met { counts, bits } = compare_many(103, 28_000, damaged_image);
+    assert!(counts[0] > 280, "{counts:?}");
+    assert!(counts[21..].iter().sum::<usize>() > 20_000, "{counts:?}");
+    assert!(counts[21..].iter().all(|count| *count > 500), "{counts:?}");
+    assert_eq!(bits[21], BTreeSet::from([0]));
+    let many = |bits: &BTreeSet<usize>| bits.len() > 100;
+    assert!(bits[22..].iter().all(many), "{counts:?}");
 }

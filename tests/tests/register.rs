@@ -2,6 +2,7 @@
 //! directories, byte for byte.
 
 use cavindorum_tests::by_hand::{longest, PAPER_IMAGE};
+use cavindorum_tests::faulty::faulty_images;
 use cavindorum_tests::generate::{damaged_image, picks, valid_image};
 use cavindorum_tests::image::{read_image, write_image};
 use cavindorum_tests::program::{print_register, TestDirectory};
@@ -79,6 +80,28 @@ fn the_paper_s_run() {
     assert_eq!(registers, [paper]);
 }
 
+/// The first starting place of a one-address image.
+#[test]
+fn the_paper_s_refusal() {
+    let mut image = PAPER_IMAGE;
+    image[4] = 0x20;
+    let registers = compare_all(&[files(&image, &[0, 0, 0])]);
+    assert_eq!(registers, ["refused 24 at 27\n"]);
+}
+
+/// Each number in the ways the paper names, with its bit.
+#[test]
+fn every_number() {
+    let (images, faults): (Vec<_>, Vec<_>) = faulty_images().into_iter().unzip();
+    let all: Vec<_> = images.iter().map(|image| files(image, &[0])).collect();
+    for (register, fault) in compare_all(&all).iter().zip(faults) {
+        assert_eq!(
+            *register,
+            format!("refused {} at {}\n", fault.number, fault.bit)
+        );
+    }
+}
+
 /// A missing file counts as empty.
 #[test]
 fn missing_and_empty_files() {
@@ -90,7 +113,9 @@ fn missing_and_empty_files() {
         }
     }
     let registers = compare_all(&all);
-    assert!(registers[..6].iter().all(|text| text == "refused 28\n"));
+    assert!(registers[..6]
+        .iter()
+        .all(|text| text == "refused 28 at 0\n"));
     let unpicked = "net 1 2\nnode 0 0 1\ntotal 0\n";
     assert_eq!(registers[6..8], [unpicked, unpicked]);
 }
@@ -109,7 +134,8 @@ fn long_lists_of_picks() {
     for (text, length) in registers.iter().zip(lengths) {
         assert_eq!(answers_in(text).len(), length.min(MOST_PICKS));
     }
-    assert_eq!(compare_all(&[files(&[], &[0; 70_000])]), ["refused 28\n"]);
+    let refused = compare_all(&[files(&[], &[0; 70_000])]);
+    assert_eq!(refused, ["refused 28 at 0\n"]);
 }
 
 /// Files longer than the longest accepted image.
@@ -132,8 +158,11 @@ fn long_images() {
     }
     let registers = compare_all(&all);
     assert!(registers[0].starts_with("net 16 512\npick 1 "));
-    assert_eq!(registers[1], "refused 28\n");
-    assert!(registers[2..].iter().all(|text| text == "refused 29\n"));
+    assert_eq!(registers[1], "refused 28 at 117978\n");
+    // The bit after the code, of either image.
+    let (longest, paper) = registers[2..].split_at(7);
+    assert!(longest.iter().all(|text| text == "refused 29 at 117987\n"));
+    assert!(paper.iter().all(|text| text == "refused 29 at 95\n"));
 }
 
 #[test]
@@ -209,8 +238,9 @@ fn damaged_images() {
         .collect();
     let registers = compare_all(&all);
     for number in 21..=30 {
-        let refused = format!("refused {number}\n");
-        let met = registers.iter().filter(|text| **text == refused).count();
+        let refused = format!("refused {number} at ");
+        let met = registers.iter().filter(|text| text.starts_with(&refused));
+        let met = met.count();
         assert!(met > 5, "{number}: {met}");
     }
     assert!(registers.iter().any(|text| text.starts_with("net ")));

@@ -34,7 +34,7 @@ pub const MODEL: Machine = Machine {
 fn model_run(image: &[u8], picks: &[u8], answers: &mut [u8]) -> u8 {
     let mut net = match read_image(image) {
         Ok(net) => net,
-        Err(number) => return number,
+        Err(fault) => return fault.number,
     };
     for (pick, answer) in picks.iter().zip(answers) {
         *answer = step(&mut net, *pick);

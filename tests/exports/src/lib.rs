@@ -35,6 +35,7 @@ extern "C" {
         out: *mut u8,
         out_length: usize,
     ) -> usize;
+    fn cavindorum_refusal_place(image: *const u8, image_length: usize) -> usize;
 }
 
 /// Bytes of stack that are enough for a call, as the header says.
@@ -83,6 +84,14 @@ pub fn register_in(image: &[u8], picks: &[u8], out: &mut [u8]) -> usize {
 /// The same for a text.
 pub fn register_text_in(text: &[u8], picks: &[u8], out: &mut [u8]) -> usize {
     call(cavindorum_register_text, text, picks, out)
+}
+
+/// The bit at which the field at fault of a refused image begins, 0 where the
+/// image is accepted.
+pub fn refusal_place(image: &[u8]) -> usize {
+    // SAFETY: the pointer goes with the length of its slice, which outlives
+    // the call.
+    unsafe { cavindorum_refusal_place(image.as_ptr(), image.len()) }
 }
 
 /// The whole register.

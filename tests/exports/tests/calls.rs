@@ -1,13 +1,16 @@
-//! The exported calls beside the model: numbers, answers and whole buffers,
-//! within the stack that the header states.
+//! The exported calls beside the model: numbers, places, answers and whole
+//! buffers, within the stack that the header states.
 
-use cavindorum_exports::{register_in, register_text_in, run, run_text, LONGEST_REGISTER, STACK};
+use cavindorum_exports::{
+    refusal_place, register_in, register_text_in, run, run_text, LONGEST_REGISTER, STACK,
+};
 use cavindorum_tests::by_hand::{longest, PAPER_IMAGE};
 use cavindorum_tests::edges::edges;
-use cavindorum_tests::examples::examples;
+use cavindorum_tests::examples::{damaged, examples};
+use cavindorum_tests::faulty::faulty_images;
 use cavindorum_tests::generate::{damaged_image, picks, valid_image};
-use cavindorum_tests::image::{read_image, write_image};
-use cavindorum_tests::net::Net;
+use cavindorum_tests::image::{answer, read_image, write_image};
+use cavindorum_tests::net::{Net, Row};
 use cavindorum_tests::notation::edges::{chain, edges as text_edges};
 use cavindorum_tests::notation::generate::damage::damaged_text;
 use cavindorum_tests::notation::generate::valid_text;
@@ -31,7 +34,7 @@ struct Form {
 }
 
 const IMAGE: Form = Form {
-    read: read_image,
+    read: |image| read_image(image).map_err(|fault| fault.number),
     run,
     register: register::register,
     register_in,
@@ -91,11 +94,42 @@ impl Form {
     }
 }
 
+/// Fails unless the place of an image's fault is the model's. The number of
+/// the fault, and the place, both 0 for an accepted image.
+fn compare_place(image: &[u8]) -> (u8, usize) {
+    let found = (run(image, &[], &mut []), refusal_place(image));
+    assert_eq!(found, answer(image), "call, model; {image:02X?}");
+    found
+}
+
 #[test]
 fn the_edges() {
     for edge in edges() {
         IMAGE.compare(&edge.image, &edge.picks);
+        compare_place(&edge.image);
     }
+}
+
+/// Each number in the ways the paper names.
+#[test]
+fn places_by_hand() {
+    assert_eq!(compare_place(&PAPER_IMAGE), (0, 0));
+    assert_eq!(compare_place(&[]), (28, 0));
+    for (image, fault) in faulty_images() {
+        assert_eq!(compare_place(&image), (fault.number, fault.bit));
+    }
+}
+
+#[test]
+fn places_of_damaged_images() {
+    let mut random = Random::new(603);
+    let mut met = [0; 31];
+    for _ in 0..5_000 {
+        let (number, _) = compare_place(&damaged_image(&mut random));
+        met[number as usize] += 1;
+    }
+    assert!(met[0] > 50, "{met:?}");
+    assert!(met[21..].iter().all(|count| *count > 50), "{met:?}");
 }
 
 #[test]
@@ -105,6 +139,8 @@ fn the_examples() {
         IMAGE.compare(&write_image(&example.net), &picks);
         TEXT.compare(example.notation.as_bytes(), &picks);
     }
+    IMAGE.compare(&damaged::image(), &damaged::picks());
+    assert_eq!(compare_place(&damaged::image()), (24, 52));
 }
 
 /// More bytes than the reader looks at, and more picks than a register has.
@@ -116,6 +152,7 @@ fn long_images_and_long_lists() {
             let mut image = head.to_vec();
             image.resize(length, 0);
             IMAGE.compare(&image, &[0, 4, 0x10]);
+            compare_place(&image);
         }
     }
     for length in [65_535, 65_536, 65_537, 200_000] {
@@ -124,7 +161,7 @@ fn long_images_and_long_lists() {
 }
 
 /// Picks that mostly perform, where the net is accepted.
-fn some_picks(random: &mut Random, read: Result<Net, u8>) -> Vec<u8> {
+fn some_picks<F>(random: &mut Random, read: Result<Net, F>) -> Vec<u8> {
     read.map_or(vec![0; 3], |net| picks(random, &net, 100))
 }
 
@@ -178,9 +215,32 @@ fn the_header_s_numbers() {
     assert!(header.contains(&longest));
 }
 
-/// All calls, on the longest image and on a net with every action, on the
-/// deepest text and on the widest, in a thread with the stack that the header
-/// states. With too little the whole test ends.
+/// Makes calls in a thread with the stack that the header states. With too
+/// little the whole test ends.
+fn within_the_stated_stack(calls: impl FnOnce() + Send + 'static) {
+    let thread = std::thread::Builder::new().stack_size(STACK);
+    let thread = thread.spawn(calls).expect("it starts");
+    thread.join().expect("the calls give what the model gives");
+}
+
+/// The place of no fault, of one after the code and of one in the rows, in
+/// the longest image and in a net with every action.
+#[test]
+fn places_within_the_stated_stack() {
+    for load in loads() {
+        let image = load.image();
+        let longer = [&image[..], &[0]].concat();
+        let mut barred = load.net;
+        barred.nodes[14].row = Row::ZERO;
+        for image in [image, longer, write_image(&barred)] {
+            let expected = answer(&image);
+            within_the_stated_stack(move || assert_eq!(refusal_place(&image), expected.1));
+        }
+    }
+}
+
+/// All other calls, on the longest image and on a net with every action, on
+/// the deepest text and on the widest.
 #[test]
 fn calls_within_the_stated_stack() {
     let [_, busy] = loads();
@@ -198,8 +258,6 @@ fn calls_within_the_stated_stack() {
             assert_eq!((form.register_in)(&net, &picks, &mut out), text.len());
             assert!(out == text);
         };
-        let thread = std::thread::Builder::new().stack_size(STACK);
-        let thread = thread.spawn(calls).expect("it starts");
-        thread.join().expect("the calls give what the model gives");
+        within_the_stated_stack(calls);
     }
 }

@@ -26,7 +26,7 @@ pub fn damaged_image(random: &mut Random) -> Vec<u8> {
 
 // Damage that records can hold: a formal in an out, a variable formal
 // twice, rights taken away.
-fn damage_records(random: &mut Random, net: &mut Net) {
+pub(super) fn damage_records(random: &mut Random, net: &mut Net) {
     let at = random.below(net.code_length as usize);
     match random.below(5) {
         0 => net.code[at] = out_with_formal(random, net, at as u16),
@@ -110,31 +110,13 @@ fn noise(random: &mut Random) -> Vec<u8> {
     bytes
 }
 
-const DAMAGED: [Sort; 15] = [
-    Sort::Format,
-    Sort::AddressCount,
-    Sort::CodeLength,
-    Sort::Right,
-    Sort::ProcessCount,
-    Sort::Place,
-    Sort::TupleCount,
-    Sort::FieldCount,
-    Sort::TupleFieldKind,
-    Sort::Reading,
-    Sort::Address,
-    Sort::Action,
-    Sort::TargetKind,
-    Sort::FieldKind,
-    Sort::Variable,
-];
-
 // Writes a number, mostly one out of range, over one field of some sort.
 fn damage_field(random: &mut Random, net: &Net, fields: &[FieldAt], bytes: &mut [u8]) {
-    let sort = random.choose(&DAMAGED);
+    let sort = random.choose(&Sort::ALL);
     let some: Vec<FieldAt> = fields
         .iter()
         .filter(|field| field.sort == sort)
-        .filter(|field| field.first_bit + field.width <= bytes.len() * 8)
+        .filter(|field| field.end() <= bytes.len() * 8)
         .copied()
         .collect();
     if !some.is_empty() {

@@ -2,7 +2,7 @@
 
 use super::*;
 use crate::bits::{patch, FieldAt, Sort};
-use crate::image::{read_image, read_layout, starts_keep_within, write_with_fields};
+use crate::image::{answer, read_image, read_layout, starts_keep_within, write_with_fields, Fault};
 use crate::sound::sound;
 use crate::step::pick;
 
@@ -23,9 +23,33 @@ fn image_nets_are_written_and_read_back() {
         let net = image_net(&mut random);
         let bytes = write_image(&net);
         assert_eq!(read_layout(&bytes).as_ref(), Ok(&net));
-        let accepted = starts_keep_within(&net);
-        assert_eq!(read_image(&bytes), if accepted { Ok(net) } else { Err(30) });
+        let beyond = first_beyond_row(&net);
+        assert_eq!(starts_keep_within(&net), beyond.is_none());
+        let expected = match beyond {
+            None => Ok(net),
+            Some(bit) => Err(Fault { number: 30, bit }),
+        };
+        assert_eq!(read_image(&bytes), expected);
     }
+}
+
+// The bit at which the first entry of a process that reaches beyond its row
+// begins, counted from the layout.
+fn first_beyond_row(net: &Net) -> Option<usize> {
+    let addresses = net.address_count as usize;
+    let mut bit = 19 + addresses * (1 + 4 * addresses);
+    for address in 0..net.address_count {
+        let node = &net.nodes[address as usize];
+        bit += 3;
+        for process in &node.processes[..node.busy_slots()] {
+            let (code, length) = (&net.code[..], net.code_length);
+            if !keeps_within(code, length, process.at, Locality(address), &node.row) {
+                return Some(bit);
+            }
+            bit += 9;
+        }
+    }
+    None
 }
 
 #[test]
@@ -54,7 +78,7 @@ fn damaged_images_meet_every_number() {
     let mut random = Random::new(4);
     let mut seen = [0; 31];
     for _ in 0..20_000 {
-        let number = read_image(&damaged_image(&mut random)).err().unwrap_or(0);
+        let (number, _) = answer(&damaged_image(&mut random));
         seen[number as usize] += 1;
     }
     assert!(seen[0] > 200, "{seen:?}");
@@ -90,9 +114,10 @@ fn bad(random: &mut Random, net: &Net, field: FieldAt) -> u32 {
     }
 }
 
-/// Everything before the field is right, so its own number is reported.
+/// Everything before the field is right, so its own number is reported, and
+/// the bit at which it begins.
 #[test]
-fn each_single_field_out_of_range_has_its_number() {
+fn each_single_field_out_of_range_has_its_number_and_bit() {
     let mut random = Random::new(6);
     for _ in 0..3000 {
         let net = image_net(&mut random);
@@ -101,21 +126,60 @@ fn each_single_field_out_of_range_has_its_number() {
         if has_bad(&net, field.sort) {
             let number = bad(&mut random, &net, field);
             patch(&mut bytes, field, number);
-            assert_eq!(read_image(&bytes).err(), expected(field.sort));
+            let expected = expected(field.sort).expect("it has a range");
+            assert_eq!(answer(&bytes), (expected, field.first_bit));
         }
     }
 }
 
+/// A formal in an out is at fault in its kind, one that is there twice in its
+/// variable, a process beyond its row in its place.
+#[test]
+fn damaged_records_are_at_fault_in_their_fields() {
+    let mut random = Random::new(14);
+    let mut seen = [0; 31];
+    for _ in 0..3000 {
+        let mut net = image_net(&mut random);
+        damage::damage_records(&mut random, &mut net);
+        let (bytes, fields) = write_with_fields(&net);
+        let (number, bit) = answer(&bytes);
+        let sort = match number {
+            0 => continue,
+            26 => Sort::FieldKind,
+            27 => Sort::Variable,
+            30 => Sort::Place,
+            other => panic!("{other}"),
+        };
+        let at_fault = fields.iter().find(|field| field.first_bit == bit);
+        assert_eq!(at_fault.map(|field| field.sort), Some(sort));
+        seen[number as usize] += 1;
+    }
+    assert!(
+        [26, 27, 30].iter().all(|number| seen[*number] > 200),
+        "{seen:?}"
+    );
+}
+
+/// Of each sort of field some end early; what stands after the code is at
+/// fault from the code's end on.
 #[test]
 fn each_cut_image_is_28_and_each_longer_one_29() {
     let mut random = Random::new(7);
-    for _ in 0..1000 {
-        let mut bytes = write_image(&image_net(&mut random));
+    let mut seen = Vec::new();
+    for _ in 0..3000 {
+        let (mut bytes, fields) = write_with_fields(&image_net(&mut random));
         let cut = random.below(bytes.len());
-        assert_eq!(read_image(&bytes[..cut]), Err(28));
+        let early = fields.iter().find(|field| field.end() > cut * 8);
+        let early = early.expect("the last one at least");
+        assert_eq!(answer(&bytes[..cut]), (28, early.first_bit));
+        if !seen.contains(&early.sort) {
+            seen.push(early.sort);
+        }
         bytes.push(random.byte());
-        assert_eq!(read_image(&bytes), Err(29));
+        let end = fields.last().map(FieldAt::end);
+        assert_eq!(answer(&bytes), (29, end.expect("there are fields")));
     }
+    assert_eq!(seen.len(), Sort::ALL.len(), "{seen:?}");
 }
 
 #[test]

@@ -40,7 +40,7 @@ fn a_net_s_text_gives_the_net_of_its_image() {
     for _ in 0..5_000 {
         let net = valid_net(&mut random);
         let text = text(&from_net(&net));
-        let expected = read_image(&write_image(&net));
+        let expected = read_image(&write_image(&net)).map_err(|fault| fault.number);
         assert!(read_text(&text) == expected, "{}", shown(&text));
     }
 }

@@ -2,7 +2,9 @@
 //! stack of a thread in which the call returns. A call that has too little
 //! ends the process, so each is tried in a process of its own.
 
-use cavindorum_exports::{register_in, register_text_in, run, run_text, LONGEST_REGISTER};
+use cavindorum_exports::{
+    refusal_place, register_in, register_text_in, run, run_text, LONGEST_REGISTER,
+};
 use cavindorum_tests::stack::{least, loads, texts};
 use std::env;
 use std::process::{Command, Stdio};
@@ -10,12 +12,15 @@ use std::process::{Command, Stdio};
 /// An image or a text, picks, and the buffer that is written.
 type Call = fn(&[u8], &[u8], &mut [u8]);
 
-const CALLS: [(&str, Call); 4] = [
+const CALLS: [(&str, Call); 5] = [
     ("cavindorum_run", |image, picks, out| {
         run(image, picks, out);
     }),
     ("cavindorum_register", |image, picks, out| {
         register_in(image, picks, out);
+    }),
+    ("cavindorum_refusal_place", |image, _, _| {
+        refusal_place(image);
     }),
     ("cavindorum_run_text", |text, picks, out| {
         run_text(text, picks, out);
