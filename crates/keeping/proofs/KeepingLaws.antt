@@ -1,16 +1,12 @@
--- Laws of rights and of code that keeps within a row (`specs/Keeping.antt`). Assumes nothing.
-use Prim.Native.Nat.{ℕ, _≤_}
+-- Laws of rights (`specs/Keeping.antt`). Assumes nothing.
+use Prim.Native.Nat.{_≤_}
 use mathlib.Core.Path.{_≡_, sym, ap, _∙_}
-use mathlib.Core.Bool.{Bool, false}
-use mathlib.Core.List.{List}
+use mathlib.Core.Bool.{Bool}
 use native.Mathlib.Omega.{arith}
-use lib.ListN.{length, getD, List·getD-eq-default}
-use Rattle.net.specs.Choice.{implies, all}
-use Rattle.keeping.specs.Types.{Locality, Place, Rights, Row, Target, Instruction}
-use Rattle.net.specs.Records.{rightsAt, instructionAt, noRights, placeOf}
-use Rattle.keeping.specs.Reaching.{reachedOf}
-use Rattle.keeping.specs.Keeping.{mayTake, mayRead, mayPut, maySend, atTarget, permits, permitsMarked, keepsOf}
-use Rattle.net.proofs.AllLaws.{all-end}
+use lib.ListN.{length, List·getD-eq-default}
+use Rattle.keeping.specs.Types.{Locality, Rights, Row, Target}
+use Rattle.net.specs.Records.{rightsAt, noRights}
+use Rattle.keeping.specs.Keeping.{mayTake, mayRead, mayPut, maySend, atTarget}
 
 -- past the last address a row grants nothing
 pub rights-past : (row : Row) (l : Locality) (r : Rights) → length (row .rights) ≡ 16 → 16 ≤ l .0 → r ≡ noRights → r ≡ rightsAt row l
@@ -39,11 +35,3 @@ module _ (row : Row) (l : Locality) (h : Rights) (e : h ≡ rightsAt row l) wher
 module _ (a : Locality) (may : Locality → Bool) where
   pub at-target : (t u : Target) (r : Bool) → t ≡ u → r ≡ atTarget u a may → r ≡ atTarget t a may
   at-target t u r p q = rw p q
-
--- ---- every marked instruction is permitted
-pub keeps-end : (code : List Instruction) (p : Place) (a : Locality) (row : Row) (marks : List Bool) (i : ℕ) (ok : Bool)
-    → marks ≡ reachedOf code p
-    → ok ≡ all i (λ q. implies (getD marks q false) (permits row a (instructionAt code (placeOf q) .action)))
-    → i ≤ 512 → 512 ≤ i → ok ≡ keepsOf code p a row
-unfolding keepsOf permitsMarked
-keeps-end code p a row marks i ok e h l g = all-end i 512 _ ok h l g ∙ ap (λ (ms : List Bool). permitsMarked ms code a row) e

@@ -1,16 +1,14 @@
 -- The marks are the places reached, and the computed keeping is a right for each of them (`specs/ReachingClaims.antt`).
 -- Assumes nothing.
 use Prim.Native.Nat.{ℕ, zero, suc, _<_, _≤_}
-use mathlib.Core.Path.{_≡_, refl, sym, ap, _∙_}
+use mathlib.Core.Path.{_≡_, refl, ap}
 use mathlib.Core.Bool.{Bool, true, false}
 use mathlib.Core.Logic.{_⊎_, inl, inr, ⊎-elim, ⊎-map, ⊎-swap}
 use mathlib.Core.List.{List, [], _∷_, List·Memᴰ, List·Memᴰ·head, List·Memᴰ·tail}
 use mathlib.Core.List.{List·Memᴰ·not-nil, List·Memᴰ·eq-of-singleton, List·Memᴰ·cases-cons}
-use native.Mathlib.Nat.{zero-add}
 use native.Mathlib.Omega.{arith}
-use native.Mathlib.Decide.{ℕ-discrete, decLe}
-use lib.ListN.{length, getD, set, replicate, length-replicate, List·getD-eq-default}
-use lib.Seq.{getD-set-same, getD-set-other}
+use native.Mathlib.Decide.{decLe}
+use lib.ListN.{length, getD, replicate, List·getD-eq-default}
 use Rattle.keeping.specs.Types.{Place, Action, Instruction}
 use Rattle.net.specs.Records.{instructionAt}
 use Rattle.keeping.specs.Reaching.{Follows, Reaches, itself, onward, followers, Search, meet, meetAll}
@@ -19,8 +17,9 @@ use Rattle.keeping.specs.Reaching.{visitFirst, visit, visits, startedAt,
 use Rattle.keeping.specs.Keeping.{permits, permitsMarked, keepsOf}
 use Rattle.keeping.specs.ReachingClaims.{MarkedIsReached, KeepsIsEvery}
 use Rattle.net.proofs.Laws.{implies-i, implies-e, all-i, all-e}
-use Rattle.keeping.proofs.Unmarked.{unmarked-replicate, meet-cases, meetAll-keeps}
+use Rattle.keeping.proofs.Unmarked.{unmarked-at, meet-cases, meetAll-keeps, fresh, fresh-measured}
 use Rattle.keeping.proofs.Unmarked.{Measured, measured-meet, measured-meetAll}
+use Rattle.keeping.proofs.Unmarked.{Marked, set-marked, marked-meet, met-marked}
 
 -- ---- the computed followers are the places that follow
 follows-in : (q : Place) (a : Action) → Follows q a → List·Memᴰ q (followers a)
@@ -45,42 +44,8 @@ in-follows q (Action.Fork p r) (List·Memᴰ·head e) = rw e fork-first
 in-follows q (Action.Fork p r) (List·Memᴰ·tail m) = rw (List·Memᴰ·eq-of-singleton m) fork-second
 
 -- ---- marks
-unmarked-at : (n i : ℕ) → getD (replicate n false) i false ≡ false
-unmarked-at zero i = refl
-unmarked-at (suc n) zero = refl
-unmarked-at (suc n) (suc i) = unmarked-at n i
-
-marked-set : (marks : List Bool) (i j : ℕ) → getD marks j false ≡ true → getD (set marks i true) j false ≡ true
-marked-set [] i j h = h
-marked-set (m ∷ ms) zero zero h = refl
-marked-set (m ∷ ms) zero (suc j) h = h
-marked-set (m ∷ ms) (suc i) zero h = h
-marked-set (m ∷ ms) (suc i) (suc j) h = marked-set ms i j h
-
-Marked : List Bool → Place → Type 0
-Marked marks q = getD marks (q .0) false ≡ true
-
-set-marked : (marks : List Bool) (p q : Place) → Marked (set marks (p .0) true) q → (q ≡ p) ⊎ Marked marks q
-unfolding Marked
-set-marked marks p q h =
-    elim (ℕ-discrete (q .0) (p .0)) [
-      | yes e ↦ inl (λ i. record { 0 = e i })
-      | no n ↦ inr (sym (getD-set-other marks (p .0) (q .0) true false n) ∙ h)
-    ]
-
-marked-meet : (q : Place) (s : Search) (p : Place) → Marked (s .marks) q → Marked (meet s p .marks) q
-unfolding Marked
-marked-meet q s p h =
-    meet-cases (λ t. Marked (t .marks) q) s p (λ _. h) (λ _ _. marked-set (s .marks) (p .0) (q .0) h)
-
 marked-meetAll : (q : Place) (s : Search) (ps : List Place) → Marked (s .marks) q → Marked (meetAll s ps .marks) q
 marked-meetAll q s ps h = meetAll-keeps (λ t. Marked (t .marks) q) ps (λ t p _. marked-meet q t p) s h
-
-met-marked : {k : ℕ} (s : Search) (p : Place) → Measured k s → p .0 < 512 → Marked (meet s p .marks) p
-unfolding Marked
-met-marked s p h low =
-    meet-cases (λ t. Marked (t .marks) p) s p (λ old. old low)
-    (λ _ _. getD-set-same (s .marks) (p .0) true false (omega arith))
 
 allMet-marked :
     {k : ℕ} (q : Place) (ps : List Place) (s : Search)
@@ -223,13 +188,6 @@ followed-low code p q fits f =
     ]
 
 -- ---- the search from p
-fresh : Search
-fresh = record { marks = replicate 512 false; waiting = [] }
-
-fresh-measured : Measured 512 fresh
-unfolding fresh
-fresh-measured = record { long = length-replicate 512 false; left = zero-add _ ∙ unmarked-replicate 512 }
-
 fresh-good : (R C : Place → Type 0) → Good R C fresh
 unfolding fresh Marked
 fresh-good R C =

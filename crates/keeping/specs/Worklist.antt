@@ -1,37 +1,29 @@
--- Describes the code, and is no part of what a reader has to believe: the worklist that fills
--- the marks, how it stands for a search of `Reaching.antt`, and the number that falls with each visit.
-pub use Rattle.keeping.specs.declared.reaching.Worklist.{Worklist}
-use Prim.Native.Nat.{ℕ, zero, suc, _+_}
+-- Describes the code, and is no part of what a reader has to believe: the places at which the loop over reached places goes
+-- on from the one that it visits.
+pub use Rattle.keeping.specs.declared.reaching.Onward.{Onward}
+use Prim.Native.Nat.{_<_}
 use mathlib.Core.Path.{_≡_}
-use mathlib.Core.Bool.{Bool, true, false}
-use mathlib.Core.List.{List, [], _∷_}
-use lib.ListN.{getD, replicate}
-use Rattle.keeping.specs.Types.{Place}
-use Rattle.keeping.specs.Reaching.{Search}
+use mathlib.Core.Bool.{true, false}
+use lib.ListN.{getD, length}
+use lib.Dec.{ltb}
+use Rattle.net.specs.Choice.{choose}
+use Rattle.keeping.specs.Types.{Place, Action}
+use Rattle.keeping.specs.Reaching.{Search, meet, meetAll, followers}
 
--- the first n places of a list, the last one on top
-unfoldable pub tops : List Place → ℕ → List Place
-tops ps zero = []
-tops ps (suc n) = getD ps n (record { 0 = 0 }) ∷ tops ps n
+-- the place q, or p where q is past the code
+unfoldable pub lowOr : Place → Place → Place
+lowOr q p = choose (ltb (q .0) 512) q p
 
-unfoldable pub searchOf : Worklist → Search
-searchOf w = record { marks = w .marks; waiting = tops (w .waiting) (w .count) }
+unfoldable pub onwardTo : Place → Place → Place → Onward
+onwardTo p q r = record { first = lowOr q p; second = lowOr r p }
 
--- no place marked, none waiting
-unfoldable pub blank : Search
-blank = record { marks = replicate 512 false; waiting = [] }
-
--- how many places are not marked
-unfoldable pub unmarked : List Bool → ℕ
-unmarked [] = 0
-unmarked (true ∷ marks) = unmarked marks
-unmarked (false ∷ marks) = suc (unmarked marks)
-
--- the places that wait and those that are not marked
-unfoldable pub left : Worklist → ℕ
-left w = w .count + unmarked (w .marks)
-
--- the worklist r stands for the search s, with as many places left as w
-pub record Represents (w : Worklist) (s : Search) (r : Worklist) : Type 0 where
-  pub search : searchOf r ≡ s
-  pub same : left r ≡ left w
+-- where an action at place p leads to the two places of r: both are below 512 as p is, and to meet the two is to meet
+-- what follows the action, once p itself is marked
+pub record Leads (action : Action) (p : Place) (r : Onward) : Type 0 where
+  pub first-low : p .0 < 512 → r .first .0 < 512
+  pub second-low : p .0 < 512 → r .second .0 < 512
+  pub meets :
+      (s : Search)
+      → length (s .marks) ≡ 512
+      → getD (s .marks) (p .0) false ≡ true
+      → meet (meet s (r .first)) (r .second) ≡ meetAll s (followers action)

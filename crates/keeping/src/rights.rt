@@ -1,5 +1,6 @@
 // Rights, and code that keeps within a row (document 01, "Reaching and rights").
-use crate::reaching::reached;
+use crate::reaching::follow;
+use crate::reaching::waiting_more;
 use net::instruction::Action;
 use net::instruction::Instruction;
 use net::instruction::Target;
@@ -8,7 +9,6 @@ use net::locality::Place;
 use net::policy::Rights;
 use net::policy::Row;
 ghost use mathlib.Core.Path.{_≡_};
-ghost use Rattle.net.specs.Choice.{implies};
 ghost use Rattle.keeping.specs.Keeping.{mayTake, mayRead, mayPut, maySend, mayCreate, atTarget, permits, keepsOf};
 ghost use Rattle.net.specs.Records.{rightsAt};
 
@@ -122,29 +122,40 @@ fn permitted(row: Row, a: Locality, action: Action) -> bool
     }
 }
 
-// The same, where the instruction is reached.
-fn permitted_if(mark: bool, row: Row, a: Locality, c: Instruction) -> bool
-    ensures { λ r. ⌜ r ≡ implies mark (permits row a (c .action)) ⌝ }
-{
-    if mark {
-        let action = c.action;
-        permitted(row, a, action)
-    } else {
-        true
-    }
-}
-
-// Whether the code from place p keeps within the row of address a.
+// Whether the code from place p keeps within the row of address a. Each place reached is marked and put to wait when it is
+// first met, so it waits once at most and 512 places are room enough; it is judged when it is visited. Each place that
+// follows is written on top of the waiting ones, and counts there where it was not marked.
 pub fn keeps(code: [Instruction; 512], p: Place, a: Locality, row: Row) -> bool
     ensures { λ r. ⌜ r ≡ keepsOf code p a row ⌝ }
 {
-    let marks = reached(code, p);
+    let start = p.0 as usize;
+    if 512 <= start {
+        return true;
+    }
+    let mut marks = [false; 512];
+    let mut waiting = [p; 512];
+    let mut count: usize = 1;
     let mut ok = true;
-    let mut i = 0;
-    while i < 512 {
-        let good = permitted_if(marks[i], row, a, code[i]);
+    marks[start] = true;
+    while 0 < count {
+        let top = count - 1;
+        let place = waiting[top];
+        let at = place.0 as usize;
+        let instruction = code[at];
+        let action = instruction.action;
+        let good = permitted(row, a, action);
         ok = ok & good;
-        i += 1;
+        let on = follow(action, place);
+        let first = on.first;
+        let i = first.0 as usize;
+        let next = top + waiting_more(marks[i]);
+        marks[i] = true;
+        waiting[top] = first;
+        let second = on.second;
+        waiting[next] = second;
+        let j = second.0 as usize;
+        count = next + waiting_more(marks[j]);
+        marks[j] = true;
     }
     ok
 }

@@ -1,5 +1,5 @@
 -- `keeping::reaching::follow` meets its contract. Assumes nothing.
-use Rattle.keeping.proofs.WorklistLaws.{following}
+use Rattle.keeping.proofs.WorklistLaws.{leading}
 use Rattle.keeping.specs.Reaching.{followers}
 use borrow.Author.Needs.{needs}
 use Rattle.keeping.proofs.reaching.follow.Statement.{statement}
@@ -11,7 +11,6 @@ follow-spec =
     tie.close
     (tie.spec
     (λ c. search needs)
-    (λ c. search needs)
     (λ c κs. search needs)
     (λ c. search needs)
     (λ c κs. search needs)
@@ -23,10 +22,12 @@ follow-spec =
     (λ c κs. search needs)
     (λ c. search needs)
     (λ c κs. search needs)
-    (λ c. search (needs, following))
-    (λ c. search (needs, following))
-    (λ c. search (needs, following))
-    (λ c. search (needs, following))
-    (λ c. search (needs, following))
-    (λ c. search (needs, following))
-    (λ c. search (needs, following)))
+    (λ c. search needs)
+    (λ c κs. search needs)
+    (λ c. search (needs, leading))
+    (λ c. search (needs, leading))
+    (λ c. search (needs, leading))
+    (λ c. search (needs, leading))
+    (λ c. search (needs, leading))
+    (λ c. search (needs, leading))
+    (λ c. search (needs, leading)))

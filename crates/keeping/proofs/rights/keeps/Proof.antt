@@ -1,22 +1,22 @@
--- `keeping::rights::keeps` meets its contract. Assumes nothing.
-use Rattle.net.proofs.AllLaws.{all-none, all-more}
-use Rattle.keeping.proofs.KeepingLaws.{keeps-end}
-use Rattle.net.specs.Choice.{all, implies}
+-- `keeping::rights::keeps` meets its contract. The locals stand for the search after some visits, so that `NeverMoreWait` is
+-- used at each turn: by `top-in` for the index of the place on top, and by `place-low` for its index in the code.
+-- Assumes nothing.
+use Prim.Native.Nat.{_+_}
+use mathlib.Core.Path.{_≡_, refl}
+use lib.ListN.{length}
 use Rattle.net.specs.Records.{instructionAt, placeOf}
-use Rattle.keeping.specs.Keeping.{permits}
-use mathlib.Core.Path.{_≡_}
-use Prim.Native.Nat.{_≤_, _-_}
-use lib.ListN.{getD}
-use mathlib.Core.Bool.{false}
+use Rattle.keeping.proofs.Unmarked.{unmarked}
+use Rattle.keeping.proofs.WorklistLaws.{searchOf}
+use Rattle.keeping.proofs.VisitLaws.{Underway, none-reached, underway-first, top-in, top-scaled, place-low, first-low, second-low, next-in, next-fits, next-scaled, count-fits, turned, turned-less, all-judged}
 use borrow.Author.Needs.{needs}
 use Rattle.keeping.proofs.rights.keeps.Statement.{statement}
 use Rattle.keeping.proofs.rights.keeps.Tie as tie
 
 abbrev Inv-loop : tie.InvT-loop
-Inv-loop a row code marks ok₀ i₀ ok i = (i ≤ 512) × (ok ≡ all i (λ q. implies (getD marks q false) (permits row a (instructionAt code (placeOf q) .action))))
+Inv-loop a row code start marks₀ waiting₀ count₀ ok₀ marks waiting count ok = Underway code (placeOf start) a row (searchOf marks waiting count) ok × (length waiting ≡ length waiting₀)
 
 abbrev μ-loop : tie.MeasureT-loop
-μ-loop a row code marks ok₀ i₀ ok i = 512 - i
+μ-loop a row code start marks₀ waiting₀ count₀ ok₀ marks waiting count ok = count + unmarked marks
 
 pub keeps-spec : {M : Type 1} → statement M
 unfolding instructionAt
@@ -25,13 +25,32 @@ keeps-spec =
     (tie.spec
     Inv-loop
     μ-loop
+    (λ c. search needs)
+    (λ c. search (needs, none-reached))
+    (λ c. search needs)
+    (λ c. (search (needs, underway-first), refl))
+    (λ c. search needs)
+    (λ c. search (needs, top-scaled))
+    (λ c. search (needs, top-in))
+    (λ c. search needs)
+    (λ c. search needs)
+    (λ c. search (needs, place-low))
     (λ c κs. search needs)
-    (λ c. search (needs, all-none))
-    (λ c. search needs)
-    (λ c. search needs)
-    (λ c. search needs)
     (λ c κs. search needs)
     (λ c. search needs)
+    (λ c. search (needs, first-low))
+    (λ c κs. search needs)
+    (λ c. search (needs, next-fits))
+    (λ c. search (needs, first-low))
+    (λ c. search (needs, top-scaled))
+    (λ c. search (needs, top-in))
+    (λ c. search (needs, next-scaled))
+    (λ c. search (needs, next-in))
     (λ c. search needs)
-    (λ c. search (needs, all-more))
-    (λ c. search (needs, keeps-end)))
+    (λ c. search (needs, second-low))
+    (λ c κs. search needs)
+    (λ c. search (needs, count-fits))
+    (λ c. search (needs, second-low))
+    (λ c. search (needs, turned-less))
+    (λ c. (search (needs, turned), search needs))
+    (λ c. search (needs, all-judged)))
