@@ -178,6 +178,13 @@ pub fn with_code(code: &str) -> Vec<u8> {
     bits(&format!("{BEFORE_CODE} {code}"))
 }
 
+/// One address with these rights over itself, a process, no tuple, and the
+/// one instruction at which it starts, which these bits write.
+pub fn with_start(rights: u8, code: &str) -> Vec<u8> {
+    let head = format!("0001 00001 0000000001 0 {rights:04b} 001 000000000 00000");
+    bits(&format!("{head} {code}"))
+}
+
 /// One address without rights, no process, one tuple and one instruction
 /// that these bits write.
 pub fn with_tuple(tuple_and_code: &str) -> Vec<u8> {

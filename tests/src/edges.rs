@@ -1,5 +1,6 @@
-//! The edges of document 01 ("Edges, those with * to be proved"), each as
-//! an image and picks: first those without a star, then those that
+//! The edges of document 01 ("Edges, those with * to be proved"; that of i
+//! without r as document 02, slip 6, answers it), each as an image and picks:
+//! first those without a star, then those that
 //! crates/edges/specs/Starred.antt claims.
 
 use crate::bits::{BitWriter, Sort};
@@ -284,8 +285,13 @@ fn starred_picks() -> Vec<Edge> {
         net_edge("out to 16 tuples", out_to_tuples(16), &[0]),
         net_edge("out to 15 tuples", out_to_tuples(15), &[0]),
         net_edge(
-            "read at a variable holding self, i but not r",
-            read_without_right(),
+            "read at a variable holding self, i but not r, a tuple fits",
+            read_where_it_may_take(readings(&[3])),
+            &[0, 0],
+        ),
+        net_edge(
+            "read at a variable holding self, i but not r, none fits",
+            read_where_it_may_take(one_address(0)),
             &[0, 0],
         ),
         net_edge(
@@ -309,15 +315,15 @@ fn take_reading(tuples: &[Tuple]) -> Net {
     net
 }
 
-// Takes the own address from a tuple and reads there, holding i only; a
-// tuple that would fit is held.
-fn read_without_right() -> Net {
+// Takes the own address from a tuple and reads a reading there, holding i
+// only, where then this tuple is the only one.
+fn read_where_it_may_take(left: Tuple) -> Net {
     let code = [
         take(OWN, &[TemplateField::FormalAddress(0)], 1),
         read(Target::Variable(0), &[TemplateField::FormalReading(1)], 2),
     ];
     let mut net = net(1, &code);
     grant(&mut net, 0, 0, TAKE);
-    fill(&mut net, 0, &[one_address(0), readings(&[3])]);
+    fill(&mut net, 0, &[one_address(0), left]);
     net
 }

@@ -234,7 +234,7 @@ fn fill_code(random: &mut Random, net: &mut Net, style: &Style) {
 
 // Making starting processes keep within their rows.
 
-/// Grants each starting process the rights its code needs, no others.
+/// Grants each starting process what its code needs and its row lacks.
 pub fn grant_needed(net: &mut Net) {
     for address in 0..net.address_count {
         for slot in 0..SLOTS {
@@ -271,7 +271,7 @@ fn grant(row: &mut Row, action: &Action, address: Locality) {
         Action::New { .. } => row.create = true,
         Action::Out { target, .. } => give(target, |rights| rights.put = true),
         Action::In { target, .. } => give(target, |rights| rights.take = true),
-        Action::Read { target, .. } => give(target, |rights| rights.read = true),
+        Action::Read { target, .. } => give(target, |rights| rights.read |= !rights.take),
         Action::Eval { target, .. } => give(target, |rights| rights.send = true),
     }
 }

@@ -43,7 +43,8 @@ pub struct Tuple {
     pub fields: [Field; FIELDS],
 }
 
-/// The rights of a row over one address: i, r, o, e.
+/// The rights of a row over one address: i, r, o, e. What a row holds is kept
+/// as it is written; i grants reading whether or not r is held beside it.
 #[derive(Clone, Copy, PartialEq, Eq, Debug)]
 pub struct Rights {
     pub take: bool,
@@ -175,6 +176,11 @@ impl Rights {
         put: true,
         send: true,
     };
+
+    /// Whether a read is granted: by r, or by i, which includes it.
+    pub fn grants_read(self) -> bool {
+        self.read || self.take
+    }
 }
 
 impl Row {
@@ -294,6 +300,21 @@ mod tests {
         assert_eq!(node.busy_slots(), 2);
         node.processes = [Process::starting(Place(0)); SLOTS];
         assert_eq!(node.free_slot(), None);
+    }
+
+    /// By i or by r, and not by o and e.
+    #[test]
+    fn reading_is_granted_by_two_rights() {
+        for number in 0..16 {
+            let [take, read, put, send] = [8, 4, 2, 1].map(|right| number & right != 0);
+            let rights = Rights {
+                take,
+                read,
+                put,
+                send,
+            };
+            assert_eq!(rights.grants_read(), number >= 4);
+        }
     }
 
     #[test]

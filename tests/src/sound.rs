@@ -1,5 +1,6 @@
 //! Soundness of a net (document 01, "One pick"), and what code reaches
-//! and whether it keeps within a row ("Reaching and rights").
+//! and whether it keeps within a row ("Reaching and rights"; document 02,
+//! slip 6: taking covers reading).
 
 use crate::net::*;
 
@@ -87,7 +88,9 @@ fn allowed(action: &Action, address: Locality, row: &Row) -> bool {
         Action::New { .. } => row.create,
         Action::Out { target, .. } => known(target, address).is_none_or(|at| row.over(at).put),
         Action::In { target, .. } => known(target, address).is_none_or(|at| row.over(at).take),
-        Action::Read { target, .. } => known(target, address).is_none_or(|at| row.over(at).read),
+        Action::Read { target, .. } => {
+            known(target, address).is_none_or(|at| row.over(at).grants_read())
+        }
         Action::Eval { target, .. } => known(target, address).is_none_or(|at| row.over(at).send),
     }
 }

@@ -1,4 +1,5 @@
-//! One pick (document 01, "One pick").
+//! One pick (document 01, "One pick"; document 02, slip 6: taking covers
+//! reading).
 
 use crate::matching::{bind, evaluate, evaluate_tuple, oldest_fitting};
 use crate::net::*;
@@ -136,7 +137,7 @@ impl Run<'_> {
     }
 
     fn read(&mut self, target: Target, next: Place) -> Result<(), u8> {
-        self.fit(target, next, |rights| rights.read)?;
+        self.fit(target, next, Rights::grants_read)?;
         Ok(())
     }
 

@@ -45,7 +45,7 @@ fn the_claims_are_those_of_the_starred_edges() {
         let claimed = claims.iter().filter(|claim| claim.is_of(&edge)).count();
         assert_eq!(claimed, 1, "{}", edge.name);
     }
-    assert_eq!(claims.len(), 14);
+    assert_eq!(claims.len(), 15);
 }
 
 /// What the paper states of an edge.
@@ -59,7 +59,7 @@ enum Stated {
 use Stated::{Answers, Refused};
 
 /// Each edge by its name, those without a star first, as in the paper.
-const STATED: [(&str, Stated); 29] = [
+const STATED: [(&str, Stated); 30] = [
     ("16 addresses", Answers(&[7], &["node 15 0 0", "total 0"])),
     ("17 addresses", Refused(22, 4)),
     ("0 addresses", Refused(22, 4)),
@@ -141,8 +141,12 @@ const STATED: [(&str, Stated); 29] = [
         Answers(&[0], &["tuple 0 15", "tuple 0 100", "total 16"]),
     ),
     (
-        "read at a variable holding self, i but not r",
-        Answers(&[0, 4], &["node 0 1 1", "tuple 0 3", "total 1"]),
+        "read at a variable holding self, i but not r, a tuple fits",
+        Answers(&[0, 0], &["node 0 1 1", "tuple 0 3", "total 1"]),
+    ),
+    (
+        "read at a variable holding self, i but not r, none fits",
+        Answers(&[0, 2], &["node 0 1 1", "tuple 0 @0", "total 1"]),
     ),
     (
         "formal reading against an address",

@@ -79,7 +79,8 @@ fn tenant() -> Example {
     found.expect("the example is there")
 }
 
-/// What demand 3 asks of the rows.
+/// What demand 3 asks of the rows. In it i is more than read, though it
+/// includes r.
 #[test]
 fn the_tenant_is_fenced() {
     let net = tenant().net;

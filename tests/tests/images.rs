@@ -220,6 +220,24 @@ fn reaching() {
     assert_eq!(answer(&write_image(&barred)), (30, bit));
 }
 
+/// A read or an in at self, or at the written address 0, started with any
+/// rights there: i includes r, and r does not include i.
+#[test]
+fn a_starting_read_needs_i_or_r_and_a_starting_in_needs_i() {
+    let (mut images, mut expected) = (Vec::new(), Vec::new());
+    for (action, needed) in [("011", 0b1100), ("010", 0b1000)] {
+        for target in ["01", "00 0000"] {
+            for rights in 0..16 {
+                let code = format!("{action} {target} 00 010 000000000");
+                images.push(with_start(rights, &code));
+                let held = rights & needed != 0;
+                expected.push(if held { ACCEPTED } else { (30, 27) });
+            }
+        }
+    }
+    assert_eq!(answers(&images), expected);
+}
+
 // Neighbours of accepted images.
 
 #[test]

@@ -76,19 +76,58 @@ fn out_to_15_tuples_is_0_and_to_16_is_3() {
     assert_eq!(unchanged(&after), 4);
 }
 
+/// 0 if a tuple fits, which stays, and 2 if none does.
 #[test]
-fn read_at_a_variable_holding_self_with_i_but_not_r_is_4() {
+fn read_at_a_variable_holding_self_with_i_but_not_r_is_0_or_2() {
     let mut net = net(1, TAKE, &[read(HELD, &[FORMAL], 1)]);
     fill(&mut net, 0, &[readings(&[1])]);
     assert_eq!(unchanged(&net), 6);
     set(&mut net, 0, Value::Reading(0));
     assert_eq!(unchanged(&net), 6);
     set(&mut net, 0, Value::Address(Locality(0)));
+    for rights in [TAKE, READ] {
+        net.nodes[0].row.rights[0] = rights;
+        let after = performed(&net);
+        assert_eq!(after.nodes[0].tuples, net.nodes[0].tuples);
+        assert_eq!(after.nodes[0].processes[0].variables[0], Value::Reading(1));
+        let mut without = net.clone();
+        fill(&mut without, 0, &[one_address(0)]);
+        assert_eq!(unchanged(&without), 2);
+        fill(&mut without, 0, &[]);
+        assert_eq!(unchanged(&without), 2);
+    }
+    net.nodes[0].row.rights[0] = Rights { send: true, ..PUT };
     assert_eq!(unchanged(&net), 4);
-    net.nodes[0].row.rights[0] = READ;
-    let after = performed(&net);
-    assert_eq!(after.nodes[0].tuples, net.nodes[0].tuples);
-    assert_eq!(after.nodes[0].processes[0].variables[0], Value::Reading(1));
+}
+
+#[test]
+fn in_at_a_variable_holding_self_with_r_but_not_i_is_4() {
+    let mut net = net(1, READ, &[take(HELD, &[FORMAL], 1)]);
+    set(&mut net, 0, Value::Address(Locality(0)));
+    assert_eq!(unchanged(&net), 4);
+    fill(&mut net, 0, &[readings(&[1])]);
+    assert_eq!(unchanged(&net), 4);
+}
+
+/// Code sent to a node that may take there reads, with both answers.
+#[test]
+fn sent_code_may_read_where_the_target_may_take() {
+    let mut net = net(2, NONE, &[eval(FAR, 1, 2), read(OWN, &[FORMAL], 2)]);
+    net.nodes[0].row.rights[1] = SEND;
+    net.nodes[1].row.rights[0] = Rights::ALL;
+    assert_eq!(unchanged(&net), 5);
+    net.nodes[1].row.rights[1] = TAKE;
+    assert_eq!(made(&net, &[0, 0x10]).answers, [0, 2]);
+    fill(&mut net, 1, &[readings(&[1])]);
+    assert_eq!(made(&net, &[0, 0x10, 0x10]).answers, [0, 0, 1]);
+}
+
+#[test]
+fn sent_code_may_not_take_where_the_target_may_read() {
+    let mut net = net(2, NONE, &[eval(FAR, 1, 2), take(OWN, &[FORMAL], 2)]);
+    net.nodes[0].row.rights[1] = SEND;
+    net.nodes[1].row.rights[1] = READ;
+    assert_eq!(unchanged(&net), 5);
 }
 
 #[test]

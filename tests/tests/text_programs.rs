@@ -69,7 +69,7 @@ fn compare_register(files: &Files) -> String {
 
 #[test]
 fn random_registers() {
-    let mut random = Random::new(805);
+    let mut random = Random::new(807);
     let mut answers = [0; 11];
     for _ in 0..600 {
         let text = valid_text(&mut random);

@@ -49,7 +49,8 @@ starredEdges = record {
   nothing-to-take = refl;
   full = refl;
   room = refl;
-  barred = refl;
+  covered = refl;
+  covered-none = refl;
   other-sort = refl;
   oldest = refl;
 }

@@ -81,12 +81,18 @@ pub record StarredEdges : Type 0 where
       0 ∷ 0 ∷ 60 ∷ 160 ∷ 0 ∷ 0 ∷ 0 ∷ 100 ∷ 0 ∷ 128 ∷ [])
       (0 ∷ [])
       ≡ bytes "net 1 2\npick 1 0 0 0\nnode 0 16 1\ntuple 0 1\ntuple 0 2\ntuple 0 3\ntuple 0 4\ntuple 0 5\ntuple 0 6\ntuple 0 7\ntuple 0 8\ntuple 0 9\ntuple 0 10\ntuple 0 11\ntuple 0 12\ntuple 0 13\ntuple 0 14\ntuple 0 15\ntuple 0 100\ntotal 16\n"
-  -- Row with i but not r, read at a variable holding self: 4.
-  pub barred :
+  -- Row with i but not r, read at a variable holding self (document 02, slip 6): 0 where a tuple fits.
+  pub covered :
       registerOf
       (16 ∷ 128 ∷ 104 ∷ 32 ∷ 1 ∷ 16 ∷ 0 ∷ 0 ∷ 0 ∷ 0 ∷ 105 ∷ 40 ∷ 0 ∷ 184 ∷ 16 ∷ 128 ∷ 128 ∷ [])
       (0 ∷ 0 ∷ [])
-      ≡ bytes "net 1 3\npick 1 0 0 0\npick 2 0 0 4\nnode 0 1 1\ntuple 0 3\ntotal 1\n"
+      ≡ bytes "net 1 3\npick 1 0 0 0\npick 2 0 0 0\nnode 0 1 1\ntuple 0 3\ntotal 1\n"
+  -- The same where none does: 2.
+  pub covered-none :
+      registerOf
+      (16 ∷ 128 ∷ 104 ∷ 32 ∷ 1 ∷ 16 ∷ 32 ∷ 146 ∷ 128 ∷ 11 ∷ 129 ∷ 8 ∷ 8 ∷ 0 ∷ [])
+      (0 ∷ 0 ∷ [])
+      ≡ bytes "net 1 3\npick 1 0 0 0\npick 2 0 0 2\nnode 0 1 1\ntuple 0 @0\ntotal 1\n"
   -- Formal reading against an address field: 2.
   pub other-sort :
       registerOf

@@ -1,12 +1,14 @@
 -- Laws of rights (`specs/Keeping.antt`). Assumes nothing.
 use Prim.Native.Nat.{_≤_}
 use mathlib.Core.Path.{_≡_, sym, ap, _∙_}
-use mathlib.Core.Bool.{Bool}
+use mathlib.Core.Bool.{Bool, true, false}
 use native.Mathlib.Omega.{arith}
 use lib.ListN.{length, List·getD-eq-default}
+use Rattle.net.specs.Choice.{choose}
 use Rattle.keeping.specs.Types.{Locality, Rights, Row, Target}
 use Rattle.net.specs.Records.{rightsAt, noRights}
 use Rattle.keeping.specs.Keeping.{mayTake, mayRead, mayPut, maySend, atTarget}
+use Rattle.net.proofs.Laws.{choose-true, choose-false}
 
 -- past the last address a row grants nothing
 pub rights-past : (row : Row) (l : Locality) (r : Rights) → length (row .rights) ≡ 16 → 16 ≤ l .0 → r ≡ noRights → r ≡ rightsAt row l
@@ -19,9 +21,15 @@ module _ (row : Row) (l : Locality) (h : Rights) (e : h ≡ rightsAt row l) wher
   unfolding mayTake
   takes = ap (λ (x : Rights). x .take) e
 
-  pub reads : h .read ≡ mayRead row l
+  reads-both : choose (h .take) true (h .read) ≡ mayRead row l
   unfolding mayRead
-  reads = ap (λ (x : Rights). x .read) e
+  reads-both = ap (λ (x : Rights). choose (x .take) true (x .read)) e
+
+  pub reads-taking : h .take ≡ true → true ≡ mayRead row l
+  reads-taking t = sym (choose-true _ _ _ t) ∙ reads-both
+
+  pub reads-only : h .take ≡ false → h .read ≡ mayRead row l
+  reads-only t = sym (choose-false _ _ _ t) ∙ reads-both
 
   pub puts : h .put ≡ mayPut row l
   unfolding mayPut

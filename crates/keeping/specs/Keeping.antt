@@ -2,17 +2,17 @@
 use mathlib.Core.Bool.{Bool, true, false}
 use mathlib.Core.List.{List}
 use lib.ListN.{getD}
-use Rattle.net.specs.Choice.{implies, all}
+use Rattle.net.specs.Choice.{choose, implies, all}
 use Rattle.keeping.specs.Types.{Locality, Place, Row, Target, Action, Instruction}
 use Rattle.net.specs.Records.{rightsAt, instructionAt, placeOf}
 use Rattle.keeping.specs.Reaching.{reachedOf}
 
--- ---- the rights of a row: no right includes another
+-- ---- the rights of a row: taking covers reading (document 02, slip 6), and no other right includes another
 unfoldable pub mayTake : Row → Locality → Bool
 mayTake r l = rightsAt r l .take
 
 unfoldable pub mayRead : Row → Locality → Bool
-mayRead r l = rightsAt r l .read
+mayRead r l = choose (rightsAt r l .take) true (rightsAt r l .read)
 
 unfoldable pub mayPut : Row → Locality → Bool
 mayPut r l = rightsAt r l .put

@@ -7,15 +7,16 @@ use mathlib.Core.Path.{_≡_}
 use mathlib.Core.Logic.{_↔_}
 use mathlib.Core.Bool.{true}
 use mathlib.Core.List.{List}
+use Rattle.net.specs.Choice.{choose}
 use Rattle.keeping.specs.Types.{Locality, Place, Row, Instruction}
 use Rattle.net.specs.Records.{rightsAt, instructionAt}
 use Rattle.keeping.specs.Reaching.{Follows, Reaches}
 use Rattle.keeping.specs.Keeping.{mayTake, mayRead, mayPut, maySend, mayCreate, permits, keepsOf}
 
 pub record KeepingPromise : Type 0 where
-  -- "A policy row at a node has the right n and, for each address, any of i, r, o, e"
+  -- "A policy row at a node has the right n and, for each address, any of i, r, o, e", and i includes r (document 02, slip 6)
   pub takes : (r : Row) (l : Locality) → mayTake r l ≡ rightsAt r l .take
-  pub reads : (r : Row) (l : Locality) → mayRead r l ≡ rightsAt r l .read
+  pub reads : (r : Row) (l : Locality) → mayRead r l ≡ choose (rightsAt r l .take) true (rightsAt r l .read)
   pub puts : (r : Row) (l : Locality) → mayPut r l ≡ rightsAt r l .put
   pub sends : (r : Row) (l : Locality) → maySend r l ≡ rightsAt r l .send
   pub creates : (r : Row) → mayCreate r ≡ r .create

@@ -32,12 +32,12 @@ pub fn may_take(row: Row, l: Locality) -> bool
     held.take
 }
 
-// The right r.
+// The right r, which i includes.
 pub fn may_read(row: Row, l: Locality) -> bool
     ensures { λ r. ⌜ r ≡ mayRead row l ⌝ }
 {
     let held = rights_over(row, l);
-    held.read
+    if held.take { true } else { held.read }
 }
 
 // The right o.

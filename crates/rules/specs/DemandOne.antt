@@ -13,7 +13,7 @@ use Rattle.rules.specs.Types.{Locality, Place, Row, Process, Target, Act
 use Rattle.rules.specs.Types.{Aim}
 
 -- the row holds the right of an action of the process p hosted at a: at the address that its target points to o for an
--- out, i for an in, r for a read and e for an eval, and n for a new. A fork needs none, and a stop is no action.
+-- out, i for an in, r or i for a read and e for an eval, and n for a new. A fork needs none, and a stop is no action.
 pub data Held (row : Row) (a : Locality) (p : Process) : Action → Type 0 where
   out-held :
       {t : Target} {q : Place} {l : Locality}

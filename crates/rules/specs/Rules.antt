@@ -86,7 +86,8 @@ pub data Reduces (s : Net) (a : Locality) (k : ℕ) : Net → Type 0 where
       (movedTo (boundOf (processIn s a k) (tupleAt (nodeAt s l) i) (templateIn s a k)) q))
       l
       i)
-  -- l :: read(T)@l′.P ∥ l′ :: ⟨et⟩ ↣ l :: Pσ ∥ l′ :: ⟨et⟩, where T evaluated matches et with the substitution σ
+  -- l :: read(T)@l′.P ∥ l′ :: ⟨et⟩ ↣ l :: Pσ ∥ l′ :: ⟨et⟩, where T evaluated matches et with the substitution σ.
+  -- The right is r or i at l′ (document 02, slip 6)
   READ :
       {t : Target} {q : Place} {l : Locality} {i : ℕ}
       → Stands s a k (Action.Read t q)

@@ -275,7 +275,7 @@ module _ (s : Net) (a : Locality) (k : ℕ) (seat : Standing s a k) (p : Process
       rw (here l (λ r. r .take) refl (sym (keeping .takes _ l) ∙ g))
       (in-back s a k (seat .size) (seat .low) l _ q _ (matching .stored p (nodeAt s l) e))
   granted-back (Request.Read l q) g =
-      rw (here l (λ r. r .read) refl (sym (keeping .reads _ l) ∙ g)) (read-back s a k (seat .size) (seat .low) l _ q _)
+      rw (here l (λ r. choose (r .take) true (r .read)) refl (sym (keeping .reads _ l) ∙ g)) (read-back s a k (seat .size) (seat .low) l _ q _)
   granted-back (Request.Eval l sent q) g =
       rw (here l (λ r. r .send) refl (sym (keeping .sends _ l) ∙ g))
       (eval-back s a k (seat .size) (seat .low) l (seat .busy) p sent q)

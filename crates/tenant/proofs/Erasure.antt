@@ -4,6 +4,7 @@
 use Prim.Native.Nat.{ℕ}
 use mathlib.Core.Path.{_≡_, refl, ap, _∙_}
 use mathlib.Core.Bool.{Bool, true, false}
+use Rattle.net.specs.Choice.{choose}
 use Rattle.net.specs.Records.{nodeAt, rightsAt, rowFor, noRights}
 use Rattle.keeping.specs.Keeping.{mayTake, mayRead, mayPut, maySend, mayCreate}
 use Rattle.net.proofs.Every.{chosen}
@@ -62,6 +63,10 @@ module _ (tenant : Locality → Bool) where
     target-out l right n h =
         tested (tenant l) (λ t. never _ h (ap right (f .rows a .outside l o t) ∙ n)) (λ t. t)
 
+    none-reads : choose (noRights .take) true (noRights .read) ≡ false
+    unfolding choose noRights
+    none-reads = refl
+
     in-out :
         (l : Locality) (q : Place) (i : Found) (p : Process) → tenant l ≡ false
         → seen tenant (inFound s a k l q i p) ≡ inFound (view tenant s) a k l q i p
@@ -98,7 +103,7 @@ module _ (tenant : Locality → Bool) where
     done-out p e (Request.In l q) h =
         let t : tenant l ≡ false = target-out l (λ x. x .take) refl h in simp (outward, in-out)
     done-out p e (Request.Read l q) h =
-        let t : tenant l ≡ false = target-out l (λ x. x .read) refl h in simp (outward, read-out)
+        let t : tenant l ≡ false = target-out l (λ x. choose (x .take) true (x .read)) none-reads h in simp (outward, read-out)
     done-out p e (Request.Eval l sent q) h =
         let t : tenant l ≡ false = target-out l (λ x. x .send) refl h in simp (outward, started-out)
     done-out p e (Request.New v q) h = let t = new-outside tenant s f in simp outward

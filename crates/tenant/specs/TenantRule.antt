@@ -73,7 +73,7 @@ grants s a l = rightsAt (nodeAt s a .row) l
 unfoldable pub creates : Net → Locality → Bool
 creates s a = nodeAt s a .row .create
 
--- "at most read means no i, o or e"
+-- "at most read means no i, o or e": of the rights held, though i at an address covers reading there
 pub record AtMostRead (r : Rights) : Type 0 where
   pub no-take : r .take ≡ false
   pub no-put : r .put ≡ false

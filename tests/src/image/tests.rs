@@ -364,6 +364,30 @@ fn a_start_that_reaches_beyond_its_row_is_30() {
     assert_eq!(image("0", "000"), ACCEPTED);
 }
 
+/// i includes r, whatever else is held; r does not include i.
+#[test]
+fn a_starting_read_needs_i_or_r_and_a_starting_in_needs_i() {
+    let expected = |held: bool| if held { ACCEPTED } else { (30, 27) };
+    for rights in 0..16 {
+        for target in ["01", "00 0000"] {
+            let template = format!("{target} 00 010 000000000");
+            let read = with_start(rights, &format!("011 {template}"));
+            assert_eq!(answer(&read), expected(rights & 0b1100 != 0));
+            let take = with_start(rights, &format!("010 {template}"));
+            assert_eq!(answer(&take), expected(rights & 0b1000 != 0));
+        }
+    }
+}
+
+/// What is included is not written into the row.
+#[test]
+fn a_row_with_i_alone_comes_back_unchanged() {
+    let bytes = with_start(0b1000, "011 01 00 010 000000000");
+    let net = read_image(&bytes).unwrap();
+    assert_eq!(net.nodes[0].row.rights[0], TAKE);
+    assert_eq!(write_image(&net), bytes);
+}
+
 /// Two addresses without rights, a stop and a new: the process counts lie at
 /// bit 37 and after the first address's entries.
 #[test]

@@ -51,6 +51,15 @@ fn the_paper_s_row() {
     assert_eq!(net, expected);
 }
 
+/// i lets a process read, and r is not written into the row.
+#[test]
+fn a_row_with_i_alone_comes_back_unchanged() {
+    let text = "0 has 0:i\nA0 = read(5)@self.A0\n0 :: A0\n";
+    let net = read_text(text.as_bytes()).expect("it is accepted");
+    assert_eq!(net.nodes[0].row.rights[0], TAKE);
+    assert_eq!(print::text(&from_net::from_net(&net)), text.as_bytes());
+}
+
 #[test]
 fn every_field_and_target() {
     let text = "0 has\n1 has\nA0 = out(5,@1,self,v0)@1.in(!x0,!u1)@self.read(-1)@v2.A0\n";

@@ -59,6 +59,7 @@ fn all_512_can_be_reached() {
     assert_eq!(places(&code, 511), [511]);
 }
 
+/// But for a read, for which i will do as well as r.
 #[test]
 fn each_action_needs_its_own_right() {
     let each = [
@@ -67,12 +68,28 @@ fn each_action_needs_its_own_right() {
         (out(FAR, 1), PUT),
         (eval(FAR, 1, 1), SEND),
     ];
-    for (index, (instruction, _)) in each.iter().enumerate() {
-        let code = [*instruction, Instruction::STOP];
-        for (other, (_, rights)) in each.iter().enumerate() {
-            assert_eq!(keeps(&code, &row_over(2, *rights)), index == other);
+    for (instruction, needed) in each {
+        let code = [instruction, Instruction::STOP];
+        for (_, held) in each {
+            let covered = needed == READ && held == TAKE;
+            let expected = needed == held || covered;
+            assert_eq!(keeps(&code, &row_over(2, held)), expected);
         }
         assert!(!keeps(&code, &row_over(1, Rights::ALL)));
+    }
+}
+
+/// i covers a read where it is held, and r covers no in there.
+#[test]
+fn taking_covers_reading_at_the_same_address() {
+    let own = [TemplateField::Own];
+    for (target, address, other) in [(Target::Own, 1, 2), (FAR, 2, 1)] {
+        let code = [read(target, &own, 1), take(target, &own, 0)];
+        assert!(keeps(&code, &row_over(address, TAKE)));
+        assert!(!keeps(&code, &row_over(address, READ)));
+        let reading = [read(target, &own, 0)];
+        assert!(keeps(&reading, &row_over(address, TAKE)));
+        assert!(!keeps(&reading, &row_over(other, Rights::ALL)));
     }
 }
 

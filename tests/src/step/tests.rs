@@ -234,38 +234,99 @@ fn self_in_a_template_is_the_host() {
     assert_eq!(picked(&net).0, 0);
 }
 
+/// 0 if a tuple fits, which stays, and 2 if none does.
 #[test]
-fn read_at_a_variable_with_i_but_not_r_is_4() {
+fn read_at_a_variable_with_i_but_not_r_is_0_or_2() {
     let mut net = net(1, &[read(HELD, &[TemplateField::FormalReading(1)], 1)]);
-    grant(&mut net, 0, 0, TAKE);
     set(&mut net, 0, Value::Address(Locality(0)));
     assert_eq!(unchanged(&net), 4);
-    fill(&mut net, 0, &[Tuple::of(&[reading(1)])]);
-    assert_eq!(unchanged(&net), 4);
-    grant(&mut net, 0, 0, READ);
-    assert_eq!(picked(&net).0, 0);
+    grant(&mut net, 0, 0, TAKE);
+    assert_eq!(unchanged(&net), 2);
+    fill(&mut net, 0, &[one_address(0)]);
+    assert_eq!(unchanged(&net), 2);
+    fill(&mut net, 0, &[one_address(0), readings(&[7])]);
+    let (answer, after) = picked(&net);
+    assert_eq!(answer, 0);
+    let mut expected = net.clone();
+    set(&mut expected, 1, Value::Reading(7));
+    process(&mut expected).at = Place(1);
+    assert_eq!(after, expected);
 }
 
 #[test]
-fn no_right_includes_another() {
+fn in_at_a_variable_with_r_but_not_i_is_4() {
+    let mut net = net(1, &[take(HELD, &[TemplateField::FormalReading(1)], 1)]);
+    set(&mut net, 0, Value::Address(Locality(0)));
+    grant(&mut net, 0, 0, READ);
+    assert_eq!(unchanged(&net), 4);
+    fill(&mut net, 0, &[readings(&[7])]);
+    assert_eq!(unchanged(&net), 4);
+    grant(&mut net, 0, 0, TAKE);
+    assert_eq!(picked(&net).0, 0);
+}
+
+/// i includes r; no other right includes another.
+#[test]
+fn each_action_needs_its_right() {
     let field = [TemplateField::Reading(0)];
     let code = [
-        take(FAR, &field, 1),
-        read(FAR, &field, 1),
-        out(FAR, &field, 1),
-        eval(FAR, 1, 1),
+        (take(FAR, &field, 1), TAKE),
+        (read(FAR, &field, 1), READ),
+        (out(FAR, &field, 1), PUT),
+        (eval(FAR, 1, 1), SEND),
     ];
-    let rights = [TAKE, READ, PUT, SEND];
-    for (action, instruction) in code.iter().enumerate() {
-        for (held, rights) in rights.iter().enumerate() {
-            let mut net = net(2, &[*instruction]);
+    for (instruction, needed) in code {
+        for held in [TAKE, READ, PUT, SEND] {
+            let mut net = net(2, &[instruction]);
             fill(&mut net, 1, &[Tuple::of(&[reading(0)])]);
-            grant(&mut net, 0, 1, *rights);
+            grant(&mut net, 0, 1, held);
             // The target's own row over the host is of no avail.
             grant(&mut net, 1, 0, Rights::ALL);
-            assert_eq!(picked(&net).0, if action == held { 0 } else { 4 });
+            let covered = needed == READ && held == TAKE;
+            let expected = if needed == held || covered { 0 } else { 4 };
+            assert_eq!(picked(&net).0, expected);
         }
     }
+}
+
+/// Code that reads is sent to a node that may take there and not read, and
+/// is answered there with 2 until a tuple fits.
+#[test]
+fn sent_code_may_read_where_the_target_may_take() {
+    let any = [TemplateField::FormalReading(1)];
+    let mut net = net(2, &[eval(FAR, 1, 2), read(OWN, &any, 2)]);
+    grant(&mut net, 0, 1, SEND);
+    assert_eq!(unchanged(&net), 5);
+    grant(&mut net, 1, 1, TAKE);
+    let (answer, mut after) = picked(&net);
+    assert_eq!(answer, 0);
+    assert_eq!(pick(&mut after, 0x10), 2);
+    fill(&mut after, 1, &[readings(&[7])]);
+    assert_eq!(pick(&mut after, 0x10), 0);
+    assert_eq!(after.nodes[1].tuples[0], readings(&[7]));
+}
+
+#[test]
+fn sent_code_may_not_take_where_the_target_may_read() {
+    let any = [TemplateField::FormalReading(1)];
+    let mut net = net(2, &[eval(FAR, 1, 2), take(OWN, &any, 2)]);
+    grant(&mut net, 0, 1, SEND);
+    grant(&mut net, 1, 1, READ);
+    assert_eq!(unchanged(&net), 5);
+    grant(&mut net, 1, 1, TAKE);
+    assert_eq!(picked(&net).0, 0);
+}
+
+/// What is included is not written into a row.
+#[test]
+fn a_new_row_has_i_without_r_where_the_creator_s_has() {
+    let mut net = net(1, &[new(0, 1)]);
+    net.nodes[0].row.create = true;
+    grant(&mut net, 0, 0, TAKE);
+    let (answer, after) = picked(&net);
+    assert_eq!(answer, 0);
+    assert_eq!(after.nodes[1].row.rights[0], TAKE);
+    assert_eq!(after.nodes[0].row.rights[0], TAKE);
 }
 
 #[test]

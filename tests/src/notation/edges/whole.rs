@@ -52,14 +52,21 @@ const CODE: [(&str, u8); 5] = [
     ("0 has 1:i\n0 :: A0\n", 23),
 ];
 
-// A starting process beyond its row; the sent place of an eval is not
-// followed, and actions at a variable are judged when they run.
-const REACHING: [(&str, u8); 22] = [
+// A starting process beyond its row, where i includes r; the sent place of
+// an eval is not followed, and actions at a variable are judged when they
+// run.
+const REACHING: [(&str, u8); 28] = [
     ("0 has 0:o\n0 :: out(5)@self.nil\n", 0),
     ("0 has 0:o\n0 :: out(5)@0.nil\n", 0),
     ("0 has n 0:ire\n0 :: out(5)@self.nil\n", 30),
     ("0 has n 0:roe\n0 :: in(5)@self.nil\n", 30),
-    ("0 has n 0:ioe\n0 :: read(5)@self.nil\n", 30),
+    ("0 has n 0:oe\n0 :: read(5)@self.nil\n", 30),
+    ("0 has 0:r\n0 :: read(5)@self.nil\n", 0),
+    ("0 has 0:i\n0 :: read(5)@self.nil\n", 0),
+    ("0 has 0:i\n0 :: read(5)@0.nil\n", 0),
+    ("0 has 0:i\n1 has 1:i\n1 :: read(5)@0.nil\n", 30),
+    ("0 has 0:r\n0 :: in(5)@self.nil\n", 30),
+    ("0 has 0:i\n0 :: read(!x0)@self.in(v0)@0.nil\n", 0),
     ("0 has n 0:iro\n0 :: eval(nil)@self.nil\n", 30),
     ("0 has 0:iroe\n0 :: newloc(u0).nil\n", 30),
     ("0 has\n0 :: out(5)@v0.nil\n", 0),
