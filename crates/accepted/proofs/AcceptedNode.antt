@@ -8,7 +8,7 @@ use native.Mathlib.Omega.{arith}
 use lib.Dec.{eqb}
 use borrow.Author.Tests.{lt-ltb}
 use Rattle.accepted.specs.Types.{Locality, Tuple, Row, Node}
-use Rattle.net.specs.Records.{zeroTuple, addressOf, withRights}
+use Rattle.net.specs.Records.{zeroTuple, marked, addressOf, withRights}
 use Rattle.sound.specs.Soundness.{itemSound}
 use Rattle.image.specs.Image.{eachAddress, creating, rightsOf, rights, row}
 use Rattle.bitreader.specs.Fields.{address, reading}
@@ -80,21 +80,21 @@ gives-tupleField : (n i : ℕ) (t : Tuple) → i < 4 → Filling n i t → Gives
 unfolding tupleField
 gives-tupleField n i t h ok = gives-then (gives-item n) (λ x s. gives-pure _ _ (next-field n i t _ h ok s))
 
-gives-tuple : (n : ℕ) → Gives (tuple n) (TupleOk n)
+gives-tuple : (n : ℕ) (a : Locality) → a .0 < n → Gives (tuple n) (λ t. TupleOk n (marked a t))
 unfolding tuple
-gives-tuple n =
+gives-tuple n a m =
     gives-then (gives-bits 2)
     (λ less l. gives-weaken
     (gives-each (Filling n) (less + 1) (tupleField n) (λ i h t ok. gives-tupleField n i t (omega arith) ok) zeroTuple
     (no-field n))
-    (λ t ok. all-fields n (less + 1) t (omega arith) (omega arith) ok))
+    (λ t ok. all-fields n (less + 1) t a (omega arith) (omega arith) m ok))
 
-gives-stored : (n k i : ℕ) (x : Node) → NodeOk n k x → Gives (stored n i x) (NodeOk n k)
+gives-stored : (n k : ℕ) (a : Locality) → a .0 < n → (i : ℕ) (x : Node) → NodeOk n k x → Gives (stored a n i x) (NodeOk n k)
 unfolding stored
-gives-stored n k i x ok = gives-then (gives-tuple n) (λ t h. gives-pure _ _ (with-tuple n k x ok t h))
+gives-stored n k a m i x ok = gives-then (gives-tuple n a m) (λ t h. gives-pure _ _ (with-tuple n k x ok (marked a t) h))
 
-pub gives-tuples : (n k : ℕ) (x : Node) → NodeOk n k x → Gives (tuples n x) (NodeOk n k)
+pub gives-tuples : (n k : ℕ) (a : Locality) (x : Node) → a .0 < n → NodeOk n k x → Gives (tuples a n x) (NodeOk n k)
 unfolding tuples
-gives-tuples n k x ok =
+gives-tuples n k a x m ok =
     gives-then (gives-field 5 0 17 22 (omega arith))
-    (λ count _. gives-each (λ i. NodeOk n k) count (stored n) (λ i h. gives-stored n k i) x ok)
+    (λ count _. gives-each (λ i. NodeOk n k) count (stored a n) (λ i h. gives-stored n k a m i) x ok)

@@ -122,7 +122,7 @@ module _ (n k : ℕ) where
   unfolding tuplesOf
   gives-tuplesOf a s h ok =
       gives-then
-      (gives-at (λ m. tuples m (nodeAt s a)) (ok .addresses-are) (gives-tuples n k _ (node-ok s a h ok)))
+      (gives-at (λ m. tuples a m (nodeAt s a)) (ok .addresses-are) (gives-tuples n k a _ h (node-ok s a h ok)))
       (λ x x-ok. gives-pure _ _ (set-node s a x h ok x-ok))
 
   gives-allTuples : (s : Net) → Making n k s → Gives (allTuples s) (Making n k)

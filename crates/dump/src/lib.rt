@@ -3,7 +3,7 @@
 //
 //   addresses    1
 //   code length  2
-//   16 nodes, 526 bytes each:
+//   16 nodes, 542 bytes each:
 //     create     1
 //     16 rights  1 each: 8 take, 4 read, 2 put, 1 send
 //     4 processes, 43 bytes each:
@@ -11,9 +11,10 @@
 //       place    2
 //       8 variables, 5 bytes each: kind 1 (0 unset, 1 reading, 2 address), value 4
 //     stored     1
-//     16 tuples, 21 bytes each:
+//     16 tuples, 22 bytes each:
 //       count    1
 //       4 fields, 5 bytes each: kind 1 (1 reading, 2 address), value 4
+//       mark     1
 //   512 instructions, 29 bytes each:
 //     action     1  0 to 6 as in document 01
 //     target     2  kind (0 written, 1 self, 2 variable; 0 where there is none), value
@@ -22,8 +23,8 @@
 //     count      1
 //     4 template fields, 5 bytes each: kind 1 (0 to 5 as in document 01), value 4
 //
-// A value is a reading in two's complement, an address or a variable. In all 23,267 bytes, of which the
-// first 8,419 are the counts and the nodes.
+// A value is a reading in two's complement, an address or a variable. In all 23,523 bytes, of which the
+// first 8,675 are the counts and the nodes.
 use crate::bytes::put_count;
 use crate::bytes::put_two;
 use crate::code::put_instruction;

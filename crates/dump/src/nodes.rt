@@ -84,7 +84,8 @@ fn put_tuple(out: &mut [u8], at: usize, tuple: Tuple) -> usize {
         next = put_item(out, next, item);
         i += 1;
     }
-    next
+    let mark = tuple.mark;
+    put(out, next, mark.0)
 }
 
 fn put_tuples(out: &mut [u8], at: usize, node: Node) -> usize {

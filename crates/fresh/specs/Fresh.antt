@@ -1,14 +1,15 @@
 -- Nets as an image can write them (document 01, "The net", "The image", "Numbers for an image"): sound, with the
--- processes of each node in slots 0 upward and every variable unset, and each starting process within its row.
+-- processes of each node in slots 0 upward and every variable unset, each tuple with its own node's mark, and each starting
+-- process within its row.
 use Prim.Native.Nat.{ℕ}
 use mathlib.Core.Bool.{Bool, true, not}
 use lib.ListN.{length}
 use lib.Dec.{eqb, ltb}
 use lib.IntN.{ℤ}
-use Rattle.net.specs.Choice.{choose, both, all}
+use Rattle.net.specs.Choice.{choose, both, implies, all}
 use Rattle.net.specs.Records.{fieldAt, processAt, tupleAt, patternAt, nodeAt, instructionAt, addressOf, placeOf, processCount}
 use Rattle.sound.specs.Soundness.{allUnset, soundOf}
-use Rattle.fresh.specs.Types.{Item, Tuple, Process, Node, Pattern, Instruction, Net}
+use Rattle.fresh.specs.Types.{Locality, Item, Tuple, Process, Node, Pattern, Instruction, Net}
 use Rattle.keeping.specs.Admission.{admits}
 
 -- ---- what the types of a running program fix and the definitions' lists and whole numbers do not: readings of 32
@@ -60,7 +61,18 @@ slotStarts x i =
 unfoldable pub nodeStarts : Node → Bool
 nodeStarts x = all 4 (slotStarts x)
 
+-- ---- "tuples of an image carry their own node's address" (document 02, slip 8)
+unfoldable pub ownMark : Locality → Node → ℕ → Bool
+ownMark a x i = implies (ltb i (x .stored)) (eqb (tupleAt x i .mark .0) (a .0))
+
+unfoldable pub ownMarks : Locality → Node → Bool
+ownMarks a x = all 16 (ownMark a x)
+
+-- the node at address a stands as an image starts it
+unfoldable pub startsAt : Net → Locality → Bool
+startsAt s a = both (nodeStarts (nodeAt s a)) (ownMarks a (nodeAt s a))
+
 -- ---- the whole: counts, addresses, places and variables in range, rules 26 and 27, zero or unset elsewhere (sound),
--- processes as they start, and rule 30
+-- processes and tuples as they start, and rule 30
 unfoldable pub freshOf : Net → Bool
-freshOf s = both (netFits s) (both (soundOf s) (both (all 16 (λ a. nodeStarts (nodeAt s (addressOf a)))) (admits s)))
+freshOf s = both (netFits s) (both (soundOf s) (both (all 16 (λ a. startsAt s (addressOf a))) (admits s)))

@@ -1,4 +1,5 @@
 -- The types of the crates below that the definitions of this crate speak of.
+pub use Rattle.net.specs.declared.locality.Locality.{Locality}
 pub use Rattle.net.specs.declared.tuple.Item.{Item}
 pub use Rattle.net.specs.declared.tuple.Field.{Field}
 pub use Rattle.net.specs.declared.tuple.Tuple.{Tuple}

@@ -1,17 +1,20 @@
 // Whether some accepted image gives a net: it is sound, its processes stand as an image starts them, and
 // each keeps within its row (document 01, "The image", "Numbers for an image").
 use keeping::admission::admitted;
+use net::locality::Locality;
 use net::network::Net;
 use net::node::Node;
 use net::process::Process;
+use net::tuple::Tuple;
 use sound::soundness::all_unset;
 use sound::soundness::sound;
 ghost use mathlib.Core.Bool.{not};
 ghost use mathlib.Core.Path.{_≡_};
-ghost use Rattle.net.specs.Choice.{choose, both, all};
-ghost use Rattle.net.specs.Records.{nodeAt, addressOf};
+ghost use lib.Dec.{eqb};
+ghost use Rattle.net.specs.Choice.{choose, both, implies, all};
+ghost use Rattle.net.specs.Records.{addressOf};
 ghost use Rattle.sound.specs.Soundness.{allUnset};
-ghost use Rattle.fresh.specs.Fresh.{nodeStarts, freshOf};
+ghost use Rattle.fresh.specs.Fresh.{nodeStarts, ownMarks, startsAt, freshOf};
 
 // Whether a slot is busy where it is used, and free elsewhere.
 fn busy_where(used: bool, p: Process) -> bool
@@ -45,15 +48,48 @@ fn node_starts(x: Node) -> bool
     ok
 }
 
-// Whether each node's slots do.
-fn nodes_start(net: Net) -> bool
-    ensures { λ r. ⌜ r ≡ all 16 (λ a. nodeStarts (nodeAt net (addressOf a))) ⌝ }
+// Whether a tuple, where it is stored, has the mark of address a.
+fn own_mark(a: Locality, stored: bool, t: Tuple) -> bool
+    ensures { λ r. ⌜ r ≡ implies stored (eqb (t .mark .0) (a .0)) ⌝ }
+{
+    let mark = t.mark;
+    if stored { mark.0 == a.0 } else { true }
+}
+
+// Whether each tuple of the node at address a does.
+fn own_marks(a: Locality, x: Node) -> bool
+    ensures { λ r. ⌜ r ≡ ownMarks a x ⌝ }
 {
     let mut ok = true;
     let mut i = 0;
     while i < 16 {
+        let t = x.tuples[i];
+        let good = own_mark(a, i < x.stored, t);
+        ok = ok & good;
+        i += 1;
+    }
+    ok
+}
+
+// Whether the node x at address a stands as an image starts it.
+fn starts_at(a: Locality, x: Node) -> bool
+    ensures { λ r. ⌜ r ≡ both (nodeStarts x) (ownMarks a x) ⌝ }
+{
+    let starting = node_starts(x);
+    let own = own_marks(a, x);
+    starting & own
+}
+
+// Whether each node does.
+fn nodes_start(net: Net) -> bool
+    ensures { λ r. ⌜ r ≡ all 16 (λ a. startsAt net (addressOf a)) ⌝ }
+{
+    let mut ok = true;
+    let mut i: usize = 0;
+    while i < 16 {
         let x = net.nodes[i];
-        let good = node_starts(x);
+        let a = Locality(i as u8);
+        let good = starts_at(a, x);
         ok = ok & good;
         i += 1;
     }

@@ -115,18 +115,18 @@ unfolding tuple
 tuple-within n =
     bind (bits-within _) (λ less h. each-within {n = 4} _ (omega arith) any (λ i t g. tupleField-within n i t))
 
-stored-within : (n i : ℕ) (x : Node) → Within (stored n i x) 134 Anything
+stored-within : (a : Locality) (n i : ℕ) (x : Node) → Within (stored a n i x) 134 Anything
 unfolding stored
-stored-within n i x = gives _ (tuple-within n)
+stored-within a n i x = gives _ (tuple-within n)
 
-tuples-within : (n : ℕ) (x : Node) → Within (tuples n x) (5 + 16 * 134) Anything
+tuples-within : (a : Locality) (n : ℕ) (x : Node) → Within (tuples a n x) (5 + 16 * 134) Anything
 unfolding tuples
-tuples-within n x =
-    bind (field-within _ _ _ _) (λ count h. each-within {n = 16} x (omega arith) any (λ i y g. stored-within n i y))
+tuples-within a n x =
+    bind (field-within _ _ _ _) (λ count h. each-within {n = 16} x (omega arith) any (λ i y g. stored-within a n i y))
 
 tuplesOf-within : (a : Locality) (s : Net) → Counted s → Within (tuplesOf a s) 2149 Counted
 unfolding tuplesOf
-tuplesOf-within a s c = bind (tuples-within _ _) (λ x h. pure-within _ (node-kept s c a x))
+tuplesOf-within a s c = bind (tuples-within _ _ _) (λ x h. pure-within _ (node-kept s c a x))
 
 allTuples-within : (s : Net) → Counted s → Within (allTuples s) (16 * 2149) Counted
 unfolding allTuples eachAddress

@@ -1,12 +1,12 @@
 -- What each turn of the image reader's loops comes to (`specs/Image.antt`), from what its parts came to.
 -- Assumes nothing.
 use Prim.Native.Nat.{ℕ}
-use mathlib.Core.Path.{_≡_, ap}
+use mathlib.Core.Path.{_≡_, ap, _∙_}
 use mathlib.Core.Bool.{Bool}
 use mathlib.Core.List.{List}
 use lib.ListN.{set}
 use Rattle.image.specs.Types.{Step, Locality, Place, Item, Tuple, Rights, Row, Process, Node, Changed, Instruction, Net}
-use Rattle.net.specs.Records.{startingAt, processAt, nodeAt, withField, withRights, withRow, withProcess, putIn, withNode, withInstruction}
+use Rattle.net.specs.Records.{startingAt, processAt, nodeAt, marked, withField, withRights, withRow, withProcess, withTuple, putIn, withNode, withInstruction}
 use Rattle.net.specs.Records.{addressOf, placeOf}
 use Rattle.keeping.specs.Admission.{admitsProcess}
 use Rattle.readers.specs.Reader.{requireIn}
@@ -55,13 +55,14 @@ module _ (s : List ℕ) (p q : Step) where
   unfolding tupleField
   field-turn n i t u x w e = on s p q q _ _ x _ w (stop-as s q _ _ e)
 
-  pub tuple-turn : (n i : ℕ) (x : Node) (put : Changed) (t : Tuple) → Went s p (tuple n) q t → put ≡ putIn x t
-      → Went s p (stored n i x) q (put .node)
+  pub tuple-turn : (a : Locality) (n i : ℕ) (x : Node) (put : Changed) (t u : Tuple) → Went s p (tuple n) q t → u ≡ marked a t
+      → put ≡ putIn x u → Went s p (stored a n i x) q (put .node)
   unfolding stored putIn
-  tuple-turn n i x put t w e = on s p q q _ _ t _ w (stop-as s q _ _ (ap (λ (c : Changed). c .node) e))
+  tuple-turn a n i x put t u w d e =
+      on s p q q _ _ t _ w (stop-as s q _ _ (ap (λ (c : Changed). c .node) e ∙ ap (λ (v : Tuple). withTuple x v) d))
 
-  pub tuples-turn : (n i : ℕ) (net : Net) (x : Node) → Went s p (tuples n (nodeAt net (addressOf i))) q x → net .addresses ≡ n
-      → Went s p (tuplesOf (addressOf i) net) q (withNode net (addressOf i) x)
+  pub tuples-turn : (n i : ℕ) (net : Net) (x : Node) → Went s p (tuples (addressOf i) n (nodeAt net (addressOf i))) q x
+      → net .addresses ≡ n → Went s p (tuplesOf (addressOf i) net) q (withNode net (addressOf i) x)
   unfolding tuplesOf nodeAt
   tuples-turn n i net x w e = on s p q q _ _ x _ (rw e w) (stop s q _)
 

@@ -10,7 +10,7 @@ use lib.Dec.{eqb}
 use Rattle.net.specs.Choice.{choose}
 use Rattle.image.specs.Types.{Fault, Locality, Place, Item, Tuple, Rights, Row, Node, Instruction, Net}
 use Rattle.net.specs.Records.{nodeAt, processAt, startingAt, zeroTuple, zeroRow, emptyNet, addressOf, placeOf}
-use Rattle.net.specs.Records.{withField, withRights, withRow, withProcess, withTuple, withNode, withInstruction, withCounts}
+use Rattle.net.specs.Records.{marked, withField, withRights, withRow, withProcess, withTuple, withNode, withInstruction, withCounts}
 use Rattle.keeping.specs.Admission.{admitsProcess, admits}
 use Rattle.readers.specs.Reader.{Parsed, got, fault, Reader, pure, _>>=_, _>>_, each, faultAt, tested}
 use Rattle.bitreader.specs.BitReader.{field, bits}
@@ -106,19 +106,20 @@ tuple n = do
   less ← bits 2
   each (less + 1) (tupleField n) zeroTuple
 
-unfoldable pub stored : ℕ → ℕ → Node → Reader Node
-stored n i x = do
+-- each bears its own node's address (document 02, slip 8)
+unfoldable pub stored : Locality → ℕ → ℕ → Node → Reader Node
+stored a n i x = do
   t ← tuple n
-  pure (withTuple x t)
+  pure (withTuple x (marked a t))
 
-unfoldable pub tuples : ℕ → Node → Reader Node
-tuples n x = do
+unfoldable pub tuples : Locality → ℕ → Node → Reader Node
+tuples a n x = do
   count ← field 5 0 17 22
-  each count (stored n) x
+  each count (stored a n) x
 
 unfoldable pub tuplesOf : Locality → Net → Reader Net
 tuplesOf a s = do
-  x ← tuples (s .addresses) (nodeAt s a)
+  x ← tuples a (s .addresses) (nodeAt s a)
   pure (withNode s a x)
 
 unfoldable pub allTuples : Net → Reader Net

@@ -4,6 +4,7 @@ use crate::built::NodeRead;
 use bitreader::bits::take;
 use bitreader::fields::read_address;
 use bitreader::fields::read_reading;
+use net::locality::Locality;
 use net::network::Net;
 use net::node::Node;
 use net::tuple::Field;
@@ -87,16 +88,17 @@ fn read_tuple(s: &[u8], from: Step, n: usize) -> TupleRead
     read_fields(s, next, n, count)
 }
 
-// As many tuples of a node, oldest first.
-fn read_store(s: &[u8], from: Step, n: usize, count: usize, start: Node) -> NodeRead
-    ensures { λ r. ⌜ Went (seen (now (s .entry))) from (each count (stored n) start) (r .next) (r .node) ⌝ }
+// As many tuples of the node at address a, oldest first, each with its mark.
+fn read_store(s: &[u8], from: Step, a: Locality, n: usize, count: usize, start: Node) -> NodeRead
+    ensures { λ r. ⌜ Went (seen (now (s .entry))) from (each count (stored a n) start) (r .next) (r .node) ⌝ }
 {
     let mut node = start;
     let mut step = from;
     let mut i = 0;
     while i < count {
         let got = read_tuple(s, step, n);
-        let tuple = got.tuple;
+        let read = got.tuple;
+        let tuple = read.marked(a);
         let put = node.put(tuple);
         node = put.node;
         step = got.next;
@@ -106,12 +108,12 @@ fn read_store(s: &[u8], from: Step, n: usize, count: usize, start: Node) -> Node
 }
 
 // The tuples of a node.
-fn read_tuples(s: &[u8], from: Step, n: usize, start: Node) -> NodeRead
-    ensures { λ r. ⌜ Went (seen (now (s .entry))) from (tuples n start) (r .next) (r .node) ⌝ }
+fn read_tuples(s: &[u8], from: Step, a: Locality, n: usize, start: Node) -> NodeRead
+    ensures { λ r. ⌜ Went (seen (now (s .entry))) from (tuples a n start) (r .next) (r .node) ⌝ }
 {
     let got = take(s, from, 5, 0, 17, 22);
     let next = got.next;
-    read_store(s, next, n, got.value, start)
+    read_store(s, next, a, n, got.value, start)
 }
 
 // The tuples of each address.
@@ -122,10 +124,11 @@ pub(crate) fn read_all_tuples(s: &[u8], from: Step, start: Net) -> NetRead
     let n = start.addresses;
     let mut net = start;
     let mut step = from;
-    let mut i = 0;
+    let mut i: usize = 0;
     while i < n {
         let node = net.nodes[i];
-        let got = read_tuples(s, step, n, node);
+        let a = Locality(i as u8);
+        let got = read_tuples(s, step, a, n, node);
         let filled = got.node;
         net.nodes[i] = filled;
         step = got.next;

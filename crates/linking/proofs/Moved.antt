@@ -10,7 +10,7 @@ use lib.ListN.{length, getD, set, replicate, length-set, length-replicate}
 use lib.Seq.{getD-set-same, getD-set-other}
 use lib.Dec.{ltb}
 use Rattle.net.specs.Choice.{choose, fold}
-use Rattle.net.specs.Records.{startingAt, placeOf, processAt, nodeAt, addressOf, processCount, movedTo, withNode, withProcess, withTuple}
+use Rattle.net.specs.Records.{startingAt, placeOf, processAt, nodeAt, addressOf, processCount, movedTo, marked, withNode, withProcess, withTuple}
 use Rattle.net.specs.Shape.{Shaped}
 use Rattle.net.proofs.Laws.{choose-false}
 use Rattle.net.proofs.Every.{Every, chosen, every-set}
@@ -166,7 +166,7 @@ sized-after (process a x) s h ok = record {
   starts-are = length-set (s .starts) _ _ ∙ ok .starts-are;
 }
 sized-after (tuple a t) s h ok = record {
-  nodes-ok = every-set (a .0) _ (ok .nodes-ok) (λ j y d e. e) (tuple-slots _ t (ok .nodes-ok .holds (a .0) h));
+  nodes-ok = every-set (a .0) _ (ok .nodes-ok) (λ j y d e. e) (tuple-slots _ (marked a t) (ok .nodes-ok .holds (a .0) h));
   starts-are = ok .starts-are;
 }
 
@@ -212,7 +212,7 @@ module _ (resolve : ℕ → Place) (place : Start → Place) (r : Resolves resol
   unfolding after placed FitsLine
   moved-line (definition k x) s ok h b = refl
   moved-line (process a x) s ok h b = moved-process a x s ok (h .0) (h .1 .0) (h .1 .1) b
-  moved-line (tuple a t) s ok h b = moved-tuple a t s ok h
+  moved-line (tuple a t) s ok h b = moved-tuple a (marked a t) s ok h
 
   -- ---- all lines
   moved-lines :

@@ -10,7 +10,7 @@ use lib.Dec.{eqb}
 use borrow.Author.Tests.{lt-ltb, le-ltb, eq-eqb, ne-eqb}
 use Rattle.net.specs.Choice.{choose}
 use Rattle.net.specs.Records.{startingAt, freeProcess, zeroNode, emptyNet, processAt, nodeAt, addressOf, processCount}
-use Rattle.net.specs.Records.{withNode, withRow, withProcess, withTuple, withCounts}
+use Rattle.net.specs.Records.{marked, withNode, withRow, withProcess, withTuple, withCounts}
 use Rattle.net.proofs.Laws.{choose-true, choose-false}
 use Rattle.net.proofs.Every.{Every, chosen-lt, every-replicate, every-set, filled-add}
 use Rattle.net.proofs.Past.{pastProcess, pastNode}
@@ -140,7 +140,7 @@ module _ (ls : List Line) (s : Net) (ok : Counts ls s) where
     unfolding placed processesIn tuplesIn
     counts-tuple t r =
         node-set (tuple b t) b _ (λ a d. refl) (λ a d. none-elsewhere a b d)
-        (holds-as (omega arith) (omega (arith, one-there b)) (holds-tuple _ _ _ (ok .at b h) t r))
+        (holds-as (omega arith) (omega (arith, one-there b)) (holds-tuple _ _ _ (ok .at b h) (marked b t) r))
 
 pub counts-more :
     (ls : List Line) (s : Net) → Counts ls s → (place : Start → Place) (n : ℕ) (l : Line) → HasRoom ls l

@@ -7,7 +7,7 @@ use lib.ListN.{length}
 use lib.Dec.{eqb}
 use Rattle.net.specs.Choice.{choose}
 use Rattle.net.specs.Records.{emptyNet, nodeAt, startingAt, processCount, addressOf, placeOf}
-use Rattle.net.specs.Records.{withNode, withRow, withProcess, withTuple, withCounts}
+use Rattle.net.specs.Records.{marked, withNode, withRow, withProcess, withTuple, withCounts}
 use Rattle.text.specs.Buffer.{over}
 use Rattle.terms.specs.Numbering.{size, Start, here, called, startOf, codeOf}
 use Rattle.linking.specs.Types.{Place, Row, Instruction, Net}
@@ -69,12 +69,13 @@ unfoldable pub ruled : ℕ → List Row → Net → Net
 ruled i [] s = s
 ruled i (r ∷ rs) s = ruled (suc i) rs (withNode s (addressOf i) (withRow (nodeAt s (addressOf i)) r))
 
--- what a line puts at its node; its first instruction has the number n
+-- what a line puts at its node; its first instruction has the number n, and a tuple bears its own node's address (document 02,
+-- slip 8)
 unfoldable pub placed : (Start → Place) → ℕ → Line → Net → Net
 placed place n (definition k p) s = s
 placed place n (process a p) s =
     withNode s a (withProcess (nodeAt s a) (processCount (nodeAt s a)) (startingAt (place (startOf n p))))
-placed place n (tuple a t) s = withNode s a (withTuple (nodeAt s a) t)
+placed place n (tuple a t) s = withNode s a (withTuple (nodeAt s a) (marked a t))
 
 unfoldable pub peopled : (Start → Place) → ℕ → List Line → Net → Net
 peopled place n [] s = s

@@ -11,6 +11,7 @@ use lib.ListN.{set, replicate, length, length-map, List·getD-eq-default}
 use mir.Syntax.{w32}
 use mir.Val.{SFits, toZ, ofZ}
 use mir.ValLaws.{toZ-ofZ}
+use Rattle.net.proofs.Past.{pastTuple}
 use Rattle.net.specs.Choice.{both, implies, all, fold}
 use Rattle.matching.specs.Types.{Locality, Value, Variable, Item, Tuple, Pattern, Process, Node, Instruction}
 use Rattle.net.specs.Records.{fieldAt, variableAt, tupleAt, patternAt, zeroField, zeroTuple}
@@ -92,13 +93,13 @@ unfolding both
 both-when x y a p q = rw p q
 
 -- ---- binding
-zero-fields : (p : Process) (x : Evaluated) → boundOf p zeroTuple x ≡ boundOf p (record { count = 0; fields = [] }) x
+zero-fields : (p : Process) (x : Evaluated) → boundOf p zeroTuple x ≡ boundOf p (pastTuple) x
 unfolding boundOf fold fieldAt zeroTuple zeroField
 zero-fields p x = refl
 
 -- past the last record of a node there is nothing to bind but noughts
 module _ {B : Type 0} (n : Node) (i : ℕ) (to : Tuple → B) (e : length (map to (n .tuples)) ≡ 16) (h : 16 ≤ i) where
-  none : tupleAt n i ≡ record { count = 0; fields = [] }
+  none : tupleAt n i ≡ pastTuple
   unfolding tupleAt
   none = List·getD-eq-default (n .tuples) _ {n = i} (omega (arith, length-map (n .tuples) to))
 

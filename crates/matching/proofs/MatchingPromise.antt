@@ -13,7 +13,7 @@ use lib.Seq.{getD-set-same, getD-set-other}
 use borrow.Author.Tests.{ltb-true, lt-ltb, eqb-true}
 use Rattle.net.specs.Choice.{both}
 use Rattle.matching.specs.Types.{Locality, Value, Variable, Item, Tuple, Process, Node, Pattern, Instruction}
-use Rattle.net.specs.Records.{fieldAt, variableAt, tupleAt, patternAt, withVariable}
+use Rattle.net.specs.Records.{marked, fieldAt, variableAt, tupleAt, patternAt, withVariable}
 use Rattle.matching.specs.Matching.{Want, Wanted, Evaluated, Found, heldItem, wantOf, zeroWanted, wantsOf, evaluatedOf}
 use Rattle.matching.specs.Matching.{wantAt, fitsField, fitsOf}
 use Rattle.matching.specs.Matching.{isReading, isAddress, oldestOf, valueOf, boundField, boundOf, boundAt, matchedOf}
@@ -244,6 +244,12 @@ found-is-stored x e i =
     (λ j h d. let same : j ≡ i = cc in rw (← same) (ltb-true _ _ (both-l _ _ (h .holds))))
     (λ d. let z : _≡_ {A = ℕ} 0 1 = cc in absurd (omega arith))
 
+mark-aside :
+    (t : Tuple) (a : Locality) (p : Process) (e : Evaluated)
+    → (fitsOf (marked a t) e ≡ fitsOf t e) × (boundOf p (marked a t) e ≡ boundOf p t e)
+unfolding fitsOf boundOf fieldAt marked
+mark-aside t a p e = (refl, refl)
+
 pub matchingPromise : MatchingPromise
 unfolding matchedOf boundAt evaluatedOf wantAt
 matchingPromise = record {
@@ -255,6 +261,7 @@ matchingPromise = record {
   binds = λ p x e i d. ap (λ (f : Found). boundAt f p x e) d;
   leaves = λ p x e d. ap (λ (f : Found). boundAt f p x e) d;
   sets = bound-sets;
+  marks = mark-aside;
   counts = λ a p c. refl;
   ranges = λ n a p c hosted values. wants-in-range n a p hosted values c;
   reads = λ e i. refl;

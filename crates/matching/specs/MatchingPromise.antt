@@ -8,7 +8,7 @@ use mathlib.Core.Bool.{true, false}
 use lib.ListN.{length, getD}
 use lib.IntN.{ℤ}
 use Rattle.matching.specs.Types.{Locality, Value, Item, Tuple, Process, Node, Instruction}
-use Rattle.net.specs.Records.{fieldAt, variableAt, tupleAt, patternAt}
+use Rattle.net.specs.Records.{fieldAt, variableAt, tupleAt, patternAt, marked}
 use Rattle.matching.specs.Matching.{Want, Evaluated, Found}
 use Rattle.matching.specs.Matching.{evaluatedOf, wantAt, fitsOf, boundOf, matchedOf}
 use Rattle.net.specs.Readings.{sameReading}
@@ -87,6 +87,11 @@ pub record MatchingPromise : Type 0 where
       → t .count ≤ 4
       → fitsOf t e ≡ true
       → Binding p t e (t .count) (boundOf p t e)
+  -- "It takes no part in fitting" (document 02, slip 8): two tuples that differ in the mark alone fit the same templates, and
+  -- bind the same
+  pub marks :
+      (t : Tuple) (a : Locality) (p : Process) (e : Evaluated)
+      → (fitsOf (marked a t) e ≡ fitsOf t e) × (boundOf p (marked a t) e ≡ boundOf p t e)
   -- an evaluated template has the fields of its instruction
   pub counts : (a : Locality) (p : Process) (c : Instruction) → evaluatedOf a p c .count ≡ c .count
   -- and in a net of n addresses, what it wants exactly is within the net

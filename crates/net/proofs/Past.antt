@@ -10,7 +10,7 @@ abbrev pub pastField : Field
 pastField = record { item = Item.Reading (ℤ.pos 0) }
 
 abbrev pub pastTuple : Tuple
-pastTuple = record { count = 0; fields = [] }
+pastTuple = record { count = 0; fields = []; mark = record { 0 = 0 } }
 
 abbrev pub pastVariable : Variable
 pastVariable = record { value = Value.Unset }

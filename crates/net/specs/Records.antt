@@ -31,7 +31,7 @@ unfoldable pub zeroField : Field
 zeroField = record { item = Item.Reading (ℤ.pos 0) }
 
 unfoldable pub zeroTuple : Tuple
-zeroTuple = record { count = 0; fields = replicate 4 zeroField }
+zeroTuple = record { count = 0; fields = replicate 4 zeroField; mark = record { 0 = 0 } }
 
 unfoldable pub unsetVariable : Variable
 unsetVariable = record { value = Value.Unset }
@@ -87,7 +87,7 @@ unfoldable pub processAt : Node → ℕ → Process
 processAt n k = getD (n .processes) k (record { busy = false; at = record { 0 = 0 }; variables = [] })
 
 unfoldable pub tupleAt : Node → ℕ → Tuple
-tupleAt n i = getD (n .tuples) i (record { count = 0; fields = [] })
+tupleAt n i = getD (n .tuples) i (record { count = 0; fields = []; mark = record { 0 = 0 } })
 
 unfoldable pub patternAt : Instruction → ℕ → Pattern
 patternAt c i = getD (c .template) i (record { pattern = Pattern.Reading (ℤ.pos 0) }) .pattern
@@ -106,7 +106,12 @@ rowFor n p = n .row
 
 -- ---- replacing a part
 unfoldable pub withField : Tuple → Field → Tuple
-withField t f = choose (ltb (t .count) 4) (record { count = t .count + 1; fields = set (t .fields) (t .count) f }) t
+withField t f =
+    choose (ltb (t .count) 4) (record { count = t .count + 1; fields = set (t .fields) (t .count) f; mark = t .mark }) t
+
+-- the tuple with the mark of address a: who put it there (document 02, slip 8)
+unfoldable pub marked : Locality → Tuple → Tuple
+marked a t = record { count = t .count; fields = t .fields; mark = a }
 
 unfoldable pub withVariable : Process → ℕ → Value → Process
 withVariable p v x =

@@ -1,7 +1,7 @@
 // Values and tuples (document 01, "The net").
 use crate::locality::Locality;
 ghost use mathlib.Core.Path.{_≡_};
-ghost use Rattle.net.specs.Records.{zeroField, zeroTuple, unsetVariable, withField};
+ghost use Rattle.net.specs.Records.{zeroField, zeroTuple, unsetVariable, marked, withField};
 
 // What a variable of a process holds.
 pub enum Value {
@@ -24,10 +24,12 @@ pub struct Field {
     pub item: Item,
 }
 
-// A tuple of `count` fields; the fields past them are zero.
+// A tuple of `count` fields; the fields past them are zero. `mark` is the address of the node where its out was performed; an
+// image's tuples have that of their own node (document 02, slip 8).
 pub struct Tuple {
     pub count: usize,
     pub fields: [Field; 4],
+    pub mark: Locality,
 }
 
 impl Variable {
@@ -55,10 +57,20 @@ impl Tuple {
         ensures { λ r. ⌜ r ≡ zeroTuple ⌝ }
     {
         let field = Field::zero();
+        let mark = Locality(0);
         Tuple {
             count: 0,
             fields: [field; 4],
+            mark,
         }
+    }
+
+    // The tuple with the mark of address a.
+    pub fn marked(mut self, a: Locality) -> Tuple
+        ensures { λ r. ⌜ r ≡ marked a self ⌝ }
+    {
+        self.mark = a;
+        self
     }
 
     // The tuple with one field more, or as it was where it has four.

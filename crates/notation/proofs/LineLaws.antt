@@ -10,7 +10,7 @@ use lib.Seq.{set-getD}
 use lib.Dec.{eqb, ltb}
 use borrow.Author.Tests.{ltb-true, eq-eqb, ne-eqb}
 use Rattle.net.specs.Choice.{choose}
-use Rattle.net.specs.Records.{addressOf, placeOf, nodeAt, processCount, startingAt, putIn, withProcess, withTuple, withNode}
+use Rattle.net.specs.Records.{addressOf, placeOf, nodeAt, processCount, startingAt, marked, putIn, withProcess, withTuple, withNode}
 use Rattle.net.proofs.Laws.{choose-true, choose-false}
 use Rattle.text.specs.Bytes.{bytes}
 use Rattle.readers.specs.Reader.{Reader, require}
@@ -106,13 +106,13 @@ module _ (s : List ℕ) (rows n : ℕ) where
         }
 
   -- ---- a tuple at an address
-  module _ (from next′ : Step) (t : Tuple) (node people : Node) (twice : Bool) where
+  module _ (from next′ : Step) (a : Locality) (t : Tuple) (node people : Node) (twice : Bool) where
     pub tuple-lined :
-        n ≤ room → Roomed s from rows (node .stored) next′ t → people ≡ withTuple node t
-        → Tupled s from (tupleLine rows) n twice node next′ n twice people
+        n ≤ room → Roomed s from rows (node .stored) next′ t → people ≡ withTuple node (marked a t)
+        → Tupled s from (tupleLine rows) n twice a node next′ n twice people
     unfolding tupleLine state after sizeOf placed
     tuple-lined o y e = record {
-      lined = λ a ls table uses bodies defs starts net h. record {
+      lined = λ ls table uses bodies defs starts net h. record {
         read = tuple a t;
         went =
             next s from (y .free) next′ _ _ tt _
@@ -147,19 +147,19 @@ lined-as :
     → Lined s p m′ before q behind
 lined-as s p q m m′ before behind e l = record { read = l .read; went = record { went = l .went .went ∙ e }; small = l .small; kept = l .kept }
 
-pub stored-is : (x : Node) (t : Tuple) (c : Changed) → c ≡ putIn x t → c .node ≡ withTuple x t
+pub stored-is : (x : Node) (t u : Tuple) (c : Changed) → u ≡ t → c ≡ putIn x u → c .node ≡ withTuple x t
 unfolding putIn
-stored-is x t c e = ap (λ (y : Changed). y .node) e
+stored-is x t u c d e = ap (λ (y : Changed). y .node) e ∙ ap (withTuple x) d
 
 module _ (s : List ℕ) (p q : Step) (rows b n count : ℕ) (twice twice′ : Bool) (a : Locality) (node people : Node) (table table′ : List ℕ)
     (uses uses′ : List Bool) (starts starts′ : List ℕ) (e : b ≡ byteHere s p) where
   pub tuple-placed :
-      b ≡ 60 → Tupled s p (tupleLine rows) n twice node q count twice′ people
+      b ≡ 60 → Tupled s p (tupleLine rows) n twice a node q count twice′ people
       → Placed s p (placedLine rows) n table uses twice starts a node q count table uses twice′ starts people
   unfolding placedLine
   tuple-placed h f = record {
     lined = λ ls bodies defs net z.
-        lined-as s p q _ _ _ _ (run-if s p (eqb b 60) _ _ (eq-eqb b 60 h) ∙ look-run s p _ b e) (f .lined a ls table uses bodies defs starts net z);
+        lined-as s p q _ _ _ _ (run-if s p (eqb b 60) _ _ (eq-eqb b 60 h) ∙ look-run s p _ b e) (f .lined ls table uses bodies defs starts net z);
   }
 
   pub process-placed :

@@ -86,11 +86,11 @@ pub record Defined (s : List ℕ) (p : Step) (m : Reader Line) (n : ℕ) (table 
       (starts : List ℕ) (net : Net)
       → Lined s p m (state n table uses bodies defs twice starts net) q (state count table′ uses′ bodies′ defs′ twice′ starts net)
 
--- a tuple after its address, which leaves all but the net alone
-pub record Tupled (s : List ℕ) (p : Step) (m : List Line → Locality → Reader Line) (n : ℕ) (twice : Bool) (x : Node) (q : Step) (count : ℕ)
-    (twice′ : Bool) (y : Node) : Type 0 where
+-- a tuple after address a, which leaves all but the net alone
+pub record Tupled (s : List ℕ) (p : Step) (m : List Line → Locality → Reader Line) (n : ℕ) (twice : Bool) (a : Locality) (x : Node) (q : Step)
+    (count : ℕ) (twice′ : Bool) (y : Node) : Type 0 where
   pub lined :
-      (a : Locality) (ls : List Line) (table : List ℕ) (uses : List Bool) (bodies : List ℕ) (defs : List Bool) (starts : List ℕ) (net : Net)
+      (ls : List Line) (table : List ℕ) (uses : List Bool) (bodies : List ℕ) (defs : List Bool) (starts : List ℕ) (net : Net)
       → Here p ls net a x
       → Lined s p (m ls a) (state n table uses bodies defs twice starts net) q
       (state count table uses bodies defs twice′ starts (withNode net a y))

@@ -27,7 +27,7 @@ ghost use mathlib.Core.Path.{_≡_};
 ghost use lib.ListN.{set};
 ghost use lib.Dec.{leb, ltb};
 ghost use Rattle.net.specs.Choice.{choose, both};
-ghost use Rattle.net.specs.Records.{placeOf, startingAt, processCount, withProcess, withTuple};
+ghost use Rattle.net.specs.Records.{placeOf, startingAt, processCount, marked, withProcess, withTuple};
 ghost use Rattle.readers.specs.Reader.{require};
 ghost use Rattle.readers.specs.Progress.{Went};
 ghost use Rattle.processes.specs.Progress.{room};
@@ -202,23 +202,32 @@ fn read_tuple_after(s: &[u8], from: Step, rows: usize, m: usize) -> TupleRead
     TupleRead { tuple, next }
 }
 
-// The node with a tuple as its newest.
-fn stored_in(node: Node, t: Tuple) -> Node
-    ensures { λ r. ⌜ r ≡ withTuple node t ⌝ }
+// The node of address a with a tuple as its newest, which bears that mark.
+fn stored_in(node: Node, a: Locality, t: Tuple) -> Node
+    ensures { λ r. ⌜ r ≡ withTuple node (marked a t) ⌝ }
 {
-    let changed = node.put(t);
+    let tuple = t.marked(a);
+    let changed = node.put(tuple);
     changed.node
 }
 
 // A tuple, which is the newest.
-fn read_tuple_line(s: &[u8], from: Step, rows: usize, n: usize, twice: bool, node: Node) -> LineRead
+fn read_tuple_line(
+    s: &[u8],
+    from: Step,
+    rows: usize,
+    n: usize,
+    twice: bool,
+    a: Locality,
+    node: Node,
+) -> LineRead
     requires { ⌜ n ≤ room ⌝ }
-    ensures { λ r. ⌜ Tupled (now (s .entry)) from (tupleLine rows) n twice node (r .next) (r .count) (r .twice) (r .node) ⌝ }
+    ensures { λ r. ⌜ Tupled (now (s .entry)) from (tupleLine rows) n twice a node (r .next) (r .count) (r .twice) (r .node) ⌝ }
 {
     let got = read_tuple_after(s, from, rows, node.stored);
     let t = got.tuple;
     let next = got.next;
-    let people = stored_in(node, t);
+    let people = stored_in(node, a, t);
     LineRead {
         node: people,
         next,
@@ -244,7 +253,7 @@ fn read_placed(
     ensures { λ r. ⌜ Placed (now (s .entry)) from (placedLine rows) n (now (table .entry)) (now (uses .entry)) twice (now (starts .entry)) a node (r .next) (r .count) (now (table .exit)) (now (uses .exit)) (r .twice) (now (starts .exit)) (r .node) ⌝ }
 {
     if byte_here(s, from) == 60 {
-        read_tuple_line(s, from, rows, n, twice, node)
+        read_tuple_line(s, from, rows, n, twice, a, node)
     } else {
         let k = node.process_count();
         read_process_line(s, from, rows, n, twice, a, node, k, table, uses, starts)

@@ -5,7 +5,7 @@ use mathlib.Core.Bool.{Bool, true, false}
 use lib.ListN.{getD}
 use lib.IntN.{ℤ}
 use Rattle.net.specs.Choice.{choose}
-use Rattle.net.specs.Records.{withField, withRights, withRow, withVariable, movedTo, copiedTo, putIn, startedOn, zeroNode}
+use Rattle.net.specs.Records.{marked, withField, withRights, withRow, withVariable, movedTo, copiedTo, putIn, startedOn, zeroNode}
 use Rattle.matching.specs.Matching.{wantAt}
 use Rattle.net.proofs.Laws.{choose-true, choose-false}
 use Rattle.matching.proofs.MatchingPromise.{matchingPromise as matching}
@@ -50,9 +50,9 @@ module _ {A B C D R : Type 0} (f : B → C → A → D → R) where
   pub by-third : (b : B) (c : C) (x y : A) (d : D) (r : R) → x ≡ y → r ≡ f b c y d → r ≡ f b c x d
   by-third b c x y d r p q = rw p q
 
-module _ {A B C D E F G R : Type 0} (f : B → C → D → E → F → G → A → R) where
-  pub by7 : (b : B) (c : C) (d : D) (e : E) (g : F) (h : G) (x y : A) (r : R) → x ≡ y → r ≡ f b c d e g h y → r ≡ f b c d e g h x
-  by7 b c d e g h x y r p q = rw p q
+module _ {A B C D E F G H R : Type 0} (f : B → C → D → E → F → G → H → A → R) where
+  pub by8 : (b : B) (c : C) (d : D) (e : E) (g : F) (h : G) (i : H) (x y : A) (r : R) → x ≡ y → r ≡ f b c d e g h i y → r ≡ f b c d e g h i x
+  by8 b c d e g h i x y r p q = rw p q
 
 -- ---- requests
 pub at-as : (x y : Aim) (f : Locality → Request) (r : Request) → x ≡ y → r ≡ at x f → r ≡ at y f
@@ -85,9 +85,15 @@ module _ {A B C R : Type 0} (f : A → B → C → R) where
   by-first3 x y b c r p q = rw p q
 
 -- ---- straight lines: each value is what its call promises
-pub put-as : (p p′ : Process) (q : Place) (y : Node) (t u : Tuple) (c : Changed) (x : Plan)
+put-as : (p p′ : Process) (q : Place) (y : Node) (t u : Tuple) (c : Changed) (x : Plan)
     → t ≡ u → c ≡ putIn y t → p′ ≡ movedTo p q → x ≡ changing p′ Answer.NoRoom c → x ≡ changing (movedTo p q) Answer.NoRoom (putIn y u)
 put-as p p′ q y t u c x a b d e = e ∙ ap (λ (z : Process). changing z Answer.NoRoom c) d ∙ ap (changing (movedTo p q) Answer.NoRoom) (b ∙ ap (putIn y) a)
+
+-- the tuple of an out, marked
+pub put-marked : (p p′ : Process) (q : Place) (y : Node) (a : Locality) (t m u : Tuple) (c : Changed) (x : Plan)
+    → t ≡ u → m ≡ marked a t → c ≡ putIn y m → p′ ≡ movedTo p q → x ≡ changing p′ Answer.NoRoom c
+    → x ≡ changing (movedTo p q) Answer.NoRoom (putIn y (marked a u))
+put-marked p p′ q y a t m u c x d e = put-as p p′ q y m (marked a u) c x (e ∙ ap (marked a) d)
 
 pub start-as : (p p′ r : Process) (sent q : Place) (y : Node) (c : Changed) (x : Plan)
     → r ≡ copiedTo p sent → c ≡ startedOn y r → p′ ≡ movedTo p q → x ≡ changing p′ Answer.NoRoom c

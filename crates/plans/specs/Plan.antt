@@ -6,7 +6,7 @@ use mathlib.Core.Bool.{Bool, true, false}
 use lib.Dec.{ltb}
 use Rattle.net.specs.Choice.{choose}
 use Rattle.net.specs.Records.{withRow, withVariable, movedTo, copiedTo}
-use Rattle.net.specs.Records.{putIn, takenFrom, startedOn, freeProcess, zeroNode, addressOf}
+use Rattle.net.specs.Records.{marked, putIn, takenFrom, startedOn, freeProcess, zeroNode, addressOf}
 use Rattle.matching.specs.Matching.{matchedOf}
 use Rattle.plans.specs.Types.{Locality, Place, Value, Tuple, Row, Process, Node, Changed, Evaluated, Found}
 use Rattle.plans.specs.Answer.{Answer}
@@ -59,17 +59,17 @@ opening row p v q l = record {
 unfoldable pub newPlan : Row → Process → Node → ℕ → Place → ℕ → Plan
 newPlan row p y v q n = choose (ltb n 16) (opening row p v q (addressOf n)) (refusing Answer.NoRoom y)
 
--- the plan of a request: n is the address count, `within` whether sent code keeps within y's row
-unfoldable pub grantedPlan : Row → Process → Node → Evaluated → ℕ → Bool → Request → Plan
-grantedPlan row p y e n within Request.Lack = refusing Answer.NotSet y
-grantedPlan row p y e n within Request.Stop = stopPlan y
-grantedPlan row p y e n within (Request.Out l q) = outPlan p y q (tupleOf e)
-grantedPlan row p y e n within (Request.In l q) = inPlan (matchedOf p y e .process) y q (matchedOf p y e .found)
-grantedPlan row p y e n within (Request.Read l q) = readPlan (matchedOf p y e .process) y q (matchedOf p y e .found)
-grantedPlan row p y e n within (Request.Eval l sent q) = evalPlan p y sent q within
-grantedPlan row p y e n within (Request.New v q) = newPlan row p y v q n
-grantedPlan row p y e n within (Request.Fork q q′) = startPlan p y q′ q
+-- the plan of a request: a is the host's address, n the address count, `within` whether sent code keeps within y's row
+unfoldable pub grantedPlan : Locality → Row → Process → Node → Evaluated → ℕ → Bool → Request → Plan
+grantedPlan a row p y e n within Request.Lack = refusing Answer.NotSet y
+grantedPlan a row p y e n within Request.Stop = stopPlan y
+grantedPlan a row p y e n within (Request.Out l q) = outPlan p y q (marked a (tupleOf e))
+grantedPlan a row p y e n within (Request.In l q) = inPlan (matchedOf p y e .process) y q (matchedOf p y e .found)
+grantedPlan a row p y e n within (Request.Read l q) = readPlan (matchedOf p y e .process) y q (matchedOf p y e .found)
+grantedPlan a row p y e n within (Request.Eval l sent q) = evalPlan p y sent q within
+grantedPlan a row p y e n within (Request.New v q) = newPlan row p y v q n
+grantedPlan a row p y e n within (Request.Fork q q′) = startPlan p y q′ q
 
-unfoldable pub planOf : Row → Process → Node → Evaluated → ℕ → Bool → Request → Plan
-planOf row p y e n within req =
-    choose (granted row req) (grantedPlan row p y e n within req) (refusing Answer.NoRight y)
+unfoldable pub planOf : Locality → Row → Process → Node → Evaluated → ℕ → Bool → Request → Plan
+planOf a row p y e n within req =
+    choose (granted row req) (grantedPlan a row p y e n within req) (refusing Answer.NoRight y)

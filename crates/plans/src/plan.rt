@@ -23,7 +23,7 @@ ghost use mathlib.Core.Path.{_≡_};
 ghost use lib.Dec.{ltb};
 ghost use Rattle.net.specs.Choice.{choose};
 ghost use Rattle.matching.specs.Matching.{wantAt, matchedOf};
-ghost use Rattle.net.specs.Records.{withField, withVariable, withRow, movedTo, takenFrom, zeroNode};
+ghost use Rattle.net.specs.Records.{marked, withField, withVariable, withRow, movedTo, takenFrom, zeroNode};
 ghost use Rattle.plans.specs.Additions.{itemOf, tupleOf, gaining};
 ghost use Rattle.plans.specs.Types.{Value};
 ghost use Rattle.plans.specs.Plan.{going, refusing, changing, stopPlan, outPlan, inPlan, readPlan, startPlan, evalPlan};
@@ -129,10 +129,11 @@ fn stop_plan(y: Node) -> Plan
     }
 }
 
-fn out_plan(p: Process, y: Node, q: Place, e: Evaluated) -> Plan
-    ensures { λ r. ⌜ r ≡ outPlan p y q (tupleOf e) ⌝ }
+// The tuple is marked with the host's address.
+fn out_plan(a: Locality, p: Process, y: Node, q: Place, e: Evaluated) -> Plan
+    ensures { λ r. ⌜ r ≡ outPlan p y q (marked a (tupleOf e)) ⌝ }
 {
-    let tuple = tuple_of(e);
+    let tuple = tuple_of(e).marked(a);
     let put = y.put(tuple);
     changed(p.moved_to(q), Answer::NoRoom, put)
 }
@@ -251,6 +252,7 @@ fn new_plan(row: Row, p: Process, y: Node, v: u8, q: Place, n: usize) -> Plan
 
 // The plan of a request whose right is held.
 fn granted_plan(
+    a: Locality,
     row: Row,
     p: Process,
     y: Node,
@@ -259,12 +261,12 @@ fn granted_plan(
     within: bool,
     r: Request,
 ) -> Plan
-    ensures { λ x. ⌜ x ≡ grantedPlan row p y e n within r ⌝ }
+    ensures { λ x. ⌜ x ≡ grantedPlan a row p y e n within r ⌝ }
 {
     match r {
         Request::Lack => refused(Answer::NotSet, y),
         Request::Stop => stop_plan(y),
-        Request::Out(_, q) => out_plan(p, y, q, e),
+        Request::Out(_, q) => out_plan(a, p, y, q, e),
         Request::In(_, q) => in_request(p, y, q, e),
         Request::Read(_, q) => read_request(p, y, q, e),
         Request::Eval(_, sent, q) => eval_plan(p, y, sent, q, within),
@@ -273,8 +275,9 @@ fn granted_plan(
     }
 }
 
-// The plan of a request: n is the address count, `within` whether sent code keeps within y's row.
+// The plan of a request: a is the host's address, n the address count, `within` whether sent code keeps within y's row.
 pub fn plan_for(
+    a: Locality,
     row: Row,
     p: Process,
     y: Node,
@@ -283,10 +286,10 @@ pub fn plan_for(
     within: bool,
     r: Request,
 ) -> Plan
-    ensures { λ x. ⌜ x ≡ planOf row p y e n within r ⌝ }
+    ensures { λ x. ⌜ x ≡ planOf a row p y e n within r ⌝ }
 {
     if has_right(row, r) {
-        granted_plan(row, p, y, e, n, within, r)
+        granted_plan(a, row, p, y, e, n, within, r)
     } else {
         refused(Answer::NoRight, y)
     }

@@ -21,7 +21,7 @@ use Rattle.registers.specs.Types.{Locality, Item, Tuple, Node, Net, Answ
 use Rattle.registers.specs.Words.{Word, name, number, wordText, spaced, lineText, printed}
 use Rattle.registers.specs.Shown.{current}
 use Rattle.registers.specs.Lines.{fewer, refusalLine, refusedLine, netLine, pickLine, madeLine, nodeLine}
-use Rattle.registers.specs.Lines.{itemWord, fieldWords, tupleLine, tupleLines, nodeLines, netLines, pickLines, registerLines}
+use Rattle.registers.specs.Lines.{itemWord, fieldWords, markWords, tupleLine, tupleLines, nodeLines, netLines, pickLines, registerLines}
 use Rattle.registers.specs.Lines.{tupleCount, totalLine, closingLines, afterLines}
 use Rattle.registers.specs.Register.{registerIn, registerOf, registerTextOf}
 use Rattle.registers.specs.Longest.{longest, LongestRegister, LongestTextRegister}
@@ -158,23 +158,29 @@ unfolding fieldWords
 fields-short t =
     some-short spaced spaced-none spaced-both (t .count) 4 22 _ (λ i _. word-more _ _ 21 0 (item-short (fieldAt t i)) no-words)
 
-tuple-short : (a : Locality) (t : Tuple) → length (printed (tupleLine current a t ∷ [])) ≤ 115
-unfolding tupleLine bytes
-tuple-short a t = line-short _ _ 109 (number-more _ _ 88 (fields-short t))
+mark-short : (t : Tuple) → length (spaced (markWords current t)) ≤ 26
+unfolding markWords current choose bytes wordText
+mark-short t = word-more (name _) _ 4 21 (omega arith) (number-more _ _ 0 no-words)
 
-tuples-short : (a : Locality) (x : Node) → length (printed (tupleLines current a x)) ≤ 1840
+tuple-short : (a : Locality) (t : Tuple) → length (printed (tupleLine current a t ∷ [])) ≤ 141
+unfolding tupleLine bytes
+tuple-short a t =
+    line-short _ _ 135
+    (number-more _ _ 114 (two-short spaced spaced-none spaced-both _ _ _ _ (fields-short t) (mark-short t)))
+
+tuples-short : (a : Locality) (x : Node) → length (printed (tupleLines current a x)) ≤ 2256
 unfolding tupleLines
 tuples-short a x =
-    some-short printed printed-none printed-both (x .stored) 16 115 _ (λ i _. tuple-short a (tupleAt x i))
+    some-short printed printed-none printed-both (x .stored) 16 141 _ (λ i _. tuple-short a (tupleAt x i))
 
-node-lines-short : (a : Locality) (x : Node) → length (printed (nodeLines current a x)) ≤ 1908
+node-lines-short : (a : Locality) (x : Node) → length (printed (nodeLines current a x)) ≤ 2324
 unfolding nodeLines
-node-lines-short a x = lines-short _ _ 68 1840 (node-short a _ _) (tuples-short a x)
+node-lines-short a x = lines-short _ _ 68 2256 (node-short a _ _) (tuples-short a x)
 
-net-lines-short : (s : Net) → length (printed (netLines current s)) ≤ 30528
+net-lines-short : (s : Net) → length (printed (netLines current s)) ≤ 37184
 unfolding netLines
 net-lines-short s =
-    some-short printed printed-none printed-both (s .addresses) 16 1908 _
+    some-short printed printed-none printed-both (s .addresses) 16 2324 _
     (λ a _. node-lines-short (addressOf a) (nodeAt s (addressOf a)))
 
 total-short : (n : ℕ) → length (printed (totalLine n ∷ [])) ≤ 27
@@ -185,9 +191,9 @@ closing-short : (s : Net) → length (printed (closingLines current s)) ≤ 27
 unfolding closingLines current choose
 closing-short s = total-short (tupleCount s)
 
-after-short : (s : Net) → length (printed (afterLines current s)) ≤ 30555
+after-short : (s : Net) → length (printed (afterLines current s)) ≤ 37211
 unfolding afterLines
-after-short s = two-short printed printed-none printed-both _ _ 30528 27 (net-lines-short s) (closing-short s)
+after-short s = two-short printed printed-none printed-both _ _ 37184 27 (net-lines-short s) (closing-short s)
 
 -- ---- the picks
 number-small : (x : Answer) → numberOf x < 100

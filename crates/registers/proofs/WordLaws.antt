@@ -85,6 +85,20 @@ pub lines-then :
 lines-then xs at line lines ys zs r q h k =
     parts-then printed printed-none printed-both xs at (line ∷ []) lines ys zs r q h k
 
+-- words, and more after them
+pub spaced-then :
+    (xs : List ℕ) (at : ℕ) (a b : List Word) (ys zs : List ℕ) (r q : ℕ) → Wrote xs at (spaced a) ys r → Wrote ys r (spaced b) zs q
+    → Wrote xs at (spaced (a ++ b)) zs q
+spaced-then xs at a b ys zs r q h k = parts-then spaced spaced-none spaced-both xs at a b ys zs r q h k
+
+-- a label and the word after it
+pub labelled :
+    (xs : List ℕ) (at : ℕ) (text : List ℕ) (v : Word) (ys zs us : List ℕ) (r q k : ℕ) → Wrote xs at (32 ∷ []) ys r
+    → Wrote ys r text zs q → Wrote zs q (spaced (v ∷ [])) us k → Wrote xs at (spaced (name text ∷ v ∷ [])) us k
+unfolding spaced wordText
+labelled xs at text v ys zs us r q k h i j =
+    wrote-then xs at (32 ∷ []) _ ys us r k h (wrote-then ys r text _ zs us q k i j)
+
 -- two words
 pub spaced-two :
     (xs : List ℕ) (at : ℕ) (w v : Word) (ys zs : List ℕ) (r q : ℕ) → Wrote xs at (spaced (w ∷ [])) ys r

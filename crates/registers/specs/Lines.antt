@@ -45,9 +45,13 @@ itemWord (Item.Address l) = address l
 unfoldable pub fieldWords : Tuple → List Word
 fieldWords t = joined (fewer (t .count) 4) (λ i. itemWord (fieldAt t i) ∷ [])
 
--- tuple, address and fields
+-- from, and the address of the node that put the tuple (document 02, slip 8)
+unfoldable pub markWords : Shown → Tuple → List Word
+markWords shown t = choose (shown .mark) (name (bytes "from") ∷ number (t .mark .0) ∷ []) []
+
+-- tuple, address, fields and mark
 unfoldable pub tupleLine : Shown → Locality → Tuple → List Word
-tupleLine shown a t = name (bytes "tuple") ∷ number (a .0) ∷ fieldWords t
+tupleLine shown a t = name (bytes "tuple") ∷ number (a .0) ∷ (fieldWords t ++ markWords shown t)
 
 -- a node's line, followed by its tuples, oldest first
 unfoldable pub tupleLines : Shown → Locality → Node → List (List Word)

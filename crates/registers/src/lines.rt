@@ -1,7 +1,7 @@
 // The lines of a register (document 01, "The register"): each is written word by word.
 use crate::words::put_item;
+use crate::words::put_labelled;
 use crate::words::put_number;
-use crate::words::put_place;
 use crate::words::put_two;
 use net::locality::Locality;
 use net::network::Net;
@@ -13,14 +13,14 @@ use step::turn::slot_of;
 use text::writing::put;
 use text::writing::put_bytes;
 ghost use Prim.Native.Nat.{_≤_};
-ghost use mathlib.Core.List.{[], _∷_};
+ghost use mathlib.Core.List.{[], _∷_, _++_};
 ghost use mathlib.Core.Path.{_≡_};
 ghost use lib.ListN.{length};
 ghost use Rattle.text.specs.Writing.{Wrote};
 ghost use Rattle.registers.specs.Words.{spaced, printed};
 ghost use Rattle.registers.specs.Shown.{current};
 ghost use Rattle.registers.specs.Lines.{fewer, refusalLine, refusedLine, netLine, pickLine, madeLine, nodeLine};
-ghost use Rattle.registers.specs.Lines.{fieldWords, tupleLine, tupleLines, nodeLines, netLines, pickLines};
+ghost use Rattle.registers.specs.Lines.{fieldWords, markWords, tupleLine, tupleLines, nodeLines, netLines, pickLines};
 ghost use Rattle.registers.specs.Lines.{tupleCount, totalLine, closingLines, afterLines};
 
 // A count, or the size of its array where the count is larger.
@@ -45,7 +45,7 @@ pub fn put_refused(out: &mut [u8], at: usize, fault: Fault) -> usize
 {
     let first = put_bytes(out, at, b"refused");
     let second = put_number(out, first, fault.number as usize);
-    let third = put_place(out, second, fault.place);
+    let third = put_labelled(out, second, b"at", fault.place);
     put(out, third, 10)
 }
 
@@ -115,12 +115,21 @@ fn put_fields(out: &mut [u8], at: usize, t: Tuple) -> usize
     next
 }
 
+// The fields of a tuple, and who put it there.
+fn put_marked(out: &mut [u8], at: usize, t: Tuple) -> usize
+    ensures { λ r. ⌜ Wrote (now (out .entry)) at (spaced (fieldWords t ++ markWords current t)) (now (out .exit)) r ⌝ }
+{
+    let mark = t.mark;
+    let next = put_fields(out, at, t);
+    put_labelled(out, next, b"from", mark.0 as usize)
+}
+
 fn put_tuple(out: &mut [u8], at: usize, a: Locality, t: Tuple) -> usize
     ensures { λ r. ⌜ Wrote (now (out .entry)) at (printed (tupleLine current a t ∷ [])) (now (out .exit)) r ⌝ }
 {
     let first = put_bytes(out, at, b"tuple");
     let second = put_number(out, first, a.0 as usize);
-    let third = put_fields(out, second, t);
+    let third = put_marked(out, second, t);
     put(out, third, 10)
 }
 

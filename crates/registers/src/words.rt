@@ -6,7 +6,6 @@ use text::decimal::put_signed;
 use text::writing::put;
 use text::writing::put_bytes;
 ghost use mathlib.Core.List.{[], _∷_};
-ghost use Rattle.text.specs.Bytes.{bytes};
 ghost use Rattle.text.specs.Writing.{Wrote};
 ghost use Rattle.registers.specs.Words.{name, number, reading, address, spaced};
 ghost use Rattle.registers.specs.Lines.{itemWord};
@@ -26,12 +25,13 @@ pub fn put_two(out: &mut [u8], at: usize, m: usize, n: usize) -> usize
     put_number(out, next, n)
 }
 
-// `at` and a place.
-pub fn put_place(out: &mut [u8], at: usize, p: usize) -> usize
-    ensures { λ r. ⌜ Wrote (now (out .entry)) at (spaced (name (bytes "at") ∷ number p ∷ [])) (now (out .exit)) r ⌝ }
+// A number with its label before it.
+pub fn put_labelled(out: &mut [u8], at: usize, label: &[u8], n: usize) -> usize
+    ensures { λ r. ⌜ Wrote (now (out .entry)) at (spaced (name (now (label .entry)) ∷ number n ∷ [])) (now (out .exit)) r ⌝ }
 {
-    let next = put_bytes(out, at, b" at");
-    put_number(out, next, p)
+    let first = put(out, at, 32);
+    let second = put_bytes(out, first, label);
+    put_number(out, second, n)
 }
 
 // A reading.

@@ -82,7 +82,9 @@ fn tuple_at(s: &[u8], at: usize) -> Tuple {
         tuple.fields[i] = field;
         i += 1;
     }
+    let mark = Locality(byte_at(s, past(at, 21)));
     tuple.count = count_at(s, at);
+    tuple.mark = mark;
     tuple
 }
 
@@ -101,7 +103,7 @@ fn with_tuples(s: &[u8], at: usize, node: Node) -> Node {
     let mut filled = node;
     let mut i = 0;
     while i < 16 {
-        let tuple = tuple_at(s, past(at, 1 + i * 21));
+        let tuple = tuple_at(s, past(at, 1 + i * 22));
         filled.tuples[i] = tuple;
         i += 1;
     }

@@ -33,7 +33,7 @@ module _ (s : Net) (a : Locality) (k : ℕ) where
   held _ (NEW h g room) = held-at _ h (new-held g)
   held _ (FORK h f) = held-at _ h fork-held
 
-is-performed : (w : Answer) → numberOf w ≡ 0 → w ≡ Answer.Performed
+pub is-performed : (w : Answer) → numberOf w ≡ 0 → w ≡ Answer.Performed
 unfolding numberOf
 is-performed Answer.Performed h = refl
 is-performed Answer.Ended h = absurd (omega arith)
@@ -55,7 +55,7 @@ onlyWithRight s b h =
     (record { is = λ i. record { answer = is-performed (pickOf s b .answer) h i; net = pickOf s b .net } }))
 
 -- ---- refused changes nothing: a pick performs a step, or ends its process, or leaves the net as it was
-data Left (s : Net) (r : Picked) : Type 0 where
+pub data Left (s : Net) (r : Picked) : Type 0 where
   was-performed : r .answer ≡ Answer.Performed → Left s r
   was-ended : r .answer ≡ Answer.Ended → Left s r
   as-it-was : r .net ≡ s → Left s r
@@ -70,7 +70,7 @@ or-refused : (s : Net) (b : Bool) (r : Picked) (n : Answer) → Left s r → Lef
 unfolding unchanged
 or-refused s b r n h = chosen (Left s) b r _ (λ _. h) (λ _. as-it-was refl)
 
-picked-left : (s : Net) (b : ℕ) → Left s (pickOf s b)
+pub picked-left : (s : Net) (b : ℕ) → Left s (pickOf s b)
 unfolding pickOf stepOf slotStep processStep requestOf
 picked-left s b =
     or-refused s _ _ _ (or-refused s _ _ _ (or-refused s _ _ _ (or-refused s _ _ _

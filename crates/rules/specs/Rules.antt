@@ -8,7 +8,7 @@ use mathlib.Core.Path.{_≡_}
 use mathlib.Core.Logic.{_↔_}
 use mathlib.Core.Bool.{true, false}
 use mathlib.Core.List.{List}
-use Rattle.net.specs.Records.{processAt, tupleAt, nodeAt, instructionAt, rowFor, movedTo, copiedTo, freeProcess}
+use Rattle.net.specs.Records.{processAt, tupleAt, marked, nodeAt, instructionAt, rowFor, movedTo, copiedTo, freeProcess}
 use Rattle.matching.specs.Matching.{evaluatedOf, boundOf}
 use Rattle.keeping.specs.Reaching.{Reaches}
 use Rattle.keeping.specs.Keeping.{mayTake, mayRead, mayPut, maySend, mayCreate, permits}
@@ -62,7 +62,7 @@ pub record KeepsWithin (code : List Instruction) (sent : Place) (l : Locality) (
 -- stay as they are are left out of it
 pub data Reduces (s : Net) (a : Locality) (k : ℕ) : Net → Type 0 where
   -- l :: out(t)@l′.P ∥ l′ :: P′ ↣ l :: P ∥ l′ :: P′ ∥ l′ :: ⟨et⟩, where t evaluates to et.
-  -- The tuple is the newest at its target, which has room for it
+  -- The tuple is the newest at its target, which has room for it, and bears the address l (document 02, slip 8)
   OUT :
       {t : Target} {q : Place} {l : Locality}
       → Stands s a k (Action.Out t q)
@@ -70,7 +70,7 @@ pub data Reduces (s : Net) (a : Locality) (k : ℕ) : Net → Type 0 where
       → templateIn s a k .defined ≡ true
       → mayPut (rowIn s a k) l ≡ true
       → nodeAt s l .stored < 16
-      → Reduces s a k (added (withHost s a k (movedTo (processIn s a k) q)) l (tupleOf (templateIn s a k)))
+      → Reduces s a k (added (withHost s a k (movedTo (processIn s a k) q)) l (marked a (tupleOf (templateIn s a k))))
   -- l :: in(T)@l′.P ∥ l′ :: ⟨et⟩ ↣ l :: Pσ ∥ l′ :: nil, where T evaluated matches et with the substitution σ.
   -- The tuple is the oldest that fits, and σ sets the formals
   IN :

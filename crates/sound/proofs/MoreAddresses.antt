@@ -24,6 +24,7 @@ module _ (m n : ℕ) (l : m ≤ n) where
 
   tuple-more : (t : Tuple) → TupleOk m t → TupleOk n t
   tuple-more t ok = record {
+    mark-ok = omega (arith, ok .mark-ok);
     least = ok .least;
     most = ok .most;
     fields-ok = filled-map (λ f. item-more (f .item)) (λ f e. e) (ok .fields-ok);

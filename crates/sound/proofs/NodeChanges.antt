@@ -6,9 +6,10 @@ use mathlib.Core.Path.{_≡_, refl, sym, _∙_}
 use mathlib.Core.Bool.{true}
 use native.Mathlib.Omega.{arith}
 use Rattle.net.specs.Records.{startingAt, zeroField, zeroTuple, unsetVariable, freeProcess, noRights, zeroRow, zeroNode}
-use Rattle.net.specs.Records.{withField, withRow, withProcess, withTuple}
+use Rattle.net.specs.Records.{marked, withField, withRow, withProcess, withTuple}
 use Rattle.net.specs.Shape.{ShapedNode}
 use Rattle.sound.specs.Types.{Field, Tuple, Row, Process, Node}
+use Rattle.net.specs.declared.locality.Locality.{Locality}
 use Rattle.net.specs.declared.locality.Place.{Place}
 use Rattle.sound.specs.Soundness.{itemSound, valueSound}
 use Rattle.net.proofs.Every.{chosen-lt, every-replicate, every-set, filled-add}
@@ -39,8 +40,10 @@ module _ (n : ℕ) where
       (λ l. record { count-is = omega (arith, ok .count-is); fields-ok = filled-add f s (ok .fields-ok) })
       (λ l. absurd (omega (arith, ok .count-is)))
 
-  pub all-fields : (i : ℕ) (t : Tuple) → 1 ≤ i → i ≤ 4 → Filling n i t → TupleOk n t
-  all-fields i t h g ok = record {
+  pub all-fields : (i : ℕ) (t : Tuple) (a : Locality) → 1 ≤ i → i ≤ 4 → a .0 < n → Filling n i t → TupleOk n (marked a t)
+  unfolding marked
+  all-fields i t a h g l ok = record {
+    mark-ok = l;
     least = omega (arith, ok .count-is);
     most = omega (arith, ok .count-is);
     fields-ok = ok .fields-ok;

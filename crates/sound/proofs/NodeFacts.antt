@@ -12,7 +12,7 @@ use Rattle.net.specs.Records.{fieldAt, variableAt, rightsAt, processAt, tupleAt
 use Rattle.net.specs.Records.{zeroField, zeroTuple, freeProcess, noRights}
 use Rattle.net.specs.Shape.{ShapedTuple, ShapedProcess, ShapedNode}
 use Rattle.sound.specs.Types.{Tuple, Row, Process, Node}
-use Rattle.sound.specs.Soundness.{itemSound, isZeroItem, tupleSound, isZeroTuple, tuplesSound, rowSound}
+use Rattle.sound.specs.Soundness.{itemSound, isZeroItem, fieldsSound, tupleSound, isZeroTuple, tuplesSound, rowSound}
 use Rattle.sound.specs.Soundness.{valueSound, isFree, processSound, nodeSound}
 use Rattle.net.proofs.Laws.{both-i, both-l, both-r, implies-i, implies-e, choose-e, choose-else, all-i, all-e}
 use Rattle.net.proofs.Laws.{in-range, in-range-low, in-range-high}
@@ -29,26 +29,29 @@ abbrev pub FieldsOk : ℕ → Tuple → Type 0
 FieldsOk n t = Every (Filled (λ f. itemSound n (f .item) ≡ true) (λ f. f ≡ zeroField) (t .count)) pastField 4 (t .fields)
 
 pub record TupleOk (n : ℕ) (t : Tuple) : Type 0 where
+  pub mark-ok : t .mark .0 < n
   pub least : 1 ≤ t .count
   pub most : t .count ≤ 4
   pub fields-ok : FieldsOk n t
 
 pub tuple-apart : (n : ℕ) (t : Tuple) → ShapedTuple t → tupleSound n t ≡ true → TupleOk n t
-unfolding tupleSound fieldAt
-tuple-apart n t shape h = record {
-  least = in-range-low 1 (t .count) 4 (both-l _ _ h);
-  most = in-range-high 1 (t .count) 4 (both-l _ _ h);
+unfolding tupleSound fieldsSound fieldAt
+tuple-apart n t shape h = let g = both-r (ltb (t .mark .0) n) _ h in record {
+  mark-ok = ltb-true _ _ (both-l _ _ h);
+  least = in-range-low 1 (t .count) 4 (both-l _ _ g);
+  most = in-range-high 1 (t .count) 4 (both-l _ _ g);
   fields-ok =
       all-filled (λ f. itemSound n (f .item)) (λ f. isZeroItem (f .item)) (shape .fields-are)
-      (both-r (inRange 1 (t .count) 4) _ h) (λ j l e. e) (λ j l. zeroIsZero .field _ .0);
+      (both-r (inRange 1 (t .count) 4) _ g) (λ j l e. e) (λ j l. zeroIsZero .field _ .0);
 }
 
 pub tuple-sound : (n : ℕ) (t : Tuple) → TupleOk n t → tupleSound n t ≡ true
-unfolding tupleSound fieldAt
+unfolding tupleSound fieldsSound fieldAt
 tuple-sound n t ok =
-    both-i _ _ (in-range 1 (t .count) 4 (ok .least) (ok .most))
+    both-i _ _ (lt-ltb _ _ (ok .mark-ok))
+    (both-i _ _ (in-range 1 (t .count) 4 (ok .least) (ok .most))
     (filled-all (λ f. itemSound n (f .item)) (λ f. isZeroItem (f .item)) (ok .fields-ok) (λ f e. e)
-    (λ f. zeroIsZero .field f .1))
+    (λ f. zeroIsZero .field f .1)))
 
 pub tuple-shaped : (n : ℕ) (t : Tuple) → TupleOk n t → ShapedTuple t
 tuple-shaped n t ok = record { fields-are = ok .fields-ok .size-is }

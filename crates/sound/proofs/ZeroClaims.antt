@@ -18,7 +18,7 @@ use Rattle.net.specs.Records.{zeroField, zeroTuple, unsetVariable, freeProcess,
 use Rattle.net.specs.Records.{zeroTemplateField, zeroInstruction, withAction}
 use Rattle.net.specs.Records.{fieldAt, variableAt, rightsAt, processAt, tupleAt, patternAt}
 use Rattle.net.specs.Readings.{sameReading}
-use Rattle.sound.specs.Soundness.{isZeroItem, isZeroTuple, isUnset, allUnset, isFree, isNone, isZeroRow, isZeroNode}
+use Rattle.sound.specs.Soundness.{isZeroItem, noFields, isZeroTuple, isUnset, allUnset, isFree, isNone, isZeroRow, isZeroNode}
 use Rattle.sound.specs.Soundness.{isZeroPattern, noTemplate, isStop, isZeroInstruction}
 use Rattle.net.specs.Shape.{ShapedTuple, ShapedProcess, ShapedNode, ShapedInstruction}
 use Rattle.sound.specs.ZeroClaims.{ZeroIsZero}
@@ -57,15 +57,16 @@ unfolding zeroField
 zero-field f h = ap (λ (x : Item). record { item = x }) (zero-item (f .item) h)
 
 pub tuple-passes : isZeroTuple zeroTuple ≡ true
-unfolding isZeroTuple zeroTuple both all fieldAt isZeroItem zeroField sameReading
+unfolding isZeroTuple noFields zeroTuple both all fieldAt isZeroItem zeroField sameReading
 tuple-passes = refl
 
 zero-tuple : (t : Tuple) → ShapedTuple t → isZeroTuple t ≡ true → t ≡ zeroTuple
-unfolding isZeroTuple zeroTuple fieldAt
-zero-tuple t shape h = λ d. record {
-  count = eqb-true (t .count) 0 (both-l _ _ h) d;
+unfolding isZeroTuple noFields zeroTuple fieldAt
+zero-tuple t shape h = let g = both-r (eqb (t .mark .0) 0) _ h in λ d. record {
+  count = eqb-true (t .count) 0 (both-l _ _ g) d;
   fields = zeros zeroField _ 4 (t .fields) (shape .fields-are)
-      (λ j l. zero-field _ (all-e 4 _ (both-r (eqb (t .count) 0) _ h) j l)) d;
+      (λ j l. zero-field _ (all-e 4 _ (both-r (eqb (t .count) 0) _ g) j l)) d;
+  mark = record { 0 = eqb-true (t .mark .0) 0 (both-l _ _ h) d };
 }
 
 -- ---- processes

@@ -20,13 +20,19 @@ unfoldable pub isZeroItem : Item → Bool
 isZeroItem (Item.Reading x) = sameReading x (ℤ.pos 0)
 isZeroItem (Item.Address l) = false
 
-unfoldable pub tupleSound : ℕ → Tuple → Bool
-tupleSound n t =
+unfoldable pub fieldsSound : ℕ → Tuple → Bool
+fieldsSound n t =
     both (inRange 1 (t .count) 4)
     (all 4 (λ i. choose (ltb i (t .count)) (itemSound n (fieldAt t i)) (isZeroItem (fieldAt t i))))
 
+unfoldable pub tupleSound : ℕ → Tuple → Bool
+tupleSound n t = both (ltb (t .mark .0) n) (fieldsSound n t)
+
+unfoldable pub noFields : Tuple → Bool
+noFields t = both (eqb (t .count) 0) (all 4 (λ i. isZeroItem (fieldAt t i)))
+
 unfoldable pub isZeroTuple : Tuple → Bool
-isZeroTuple t = both (eqb (t .count) 0) (all 4 (λ i. isZeroItem (fieldAt t i)))
+isZeroTuple t = both (eqb (t .mark .0) 0) (noFields t)
 
 unfoldable pub tuplesSound : ℕ → Node → Bool
 tuplesSound n x =

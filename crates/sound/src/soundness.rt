@@ -20,7 +20,8 @@ ghost use lib.Dec.{leb, ltb, eqb};
 ghost use Rattle.net.specs.Choice.{choose, both, implies, all};
 ghost use Rattle.net.specs.Records.{tupleAt, variableAt};
 ghost use Rattle.net.specs.Choice.{inRange};
-ghost use Rattle.sound.specs.Soundness.{itemSound, isZeroItem, tupleSound, isZeroTuple, tuplesSound};
+ghost use Rattle.sound.specs.Soundness.{itemSound, isZeroItem, fieldsSound, tupleSound, noFields, isZeroTuple};
+ghost use Rattle.sound.specs.Soundness.{tuplesSound};
 ghost use Rattle.sound.specs.Soundness.{isNone, rowSound, isZeroRow, valueSound, isUnset, allUnset, isFree};
 ghost use Rattle.sound.specs.Soundness.{processSound};
 ghost use Rattle.sound.specs.Soundness.{nodeSound, isZeroNode, targetSound, patternSound, isZeroPattern};
@@ -76,8 +77,8 @@ fn field_at_sound(n: usize, i: usize, count: usize, item: Item) -> bool
     }
 }
 
-fn tuple_sound(n: usize, t: Tuple) -> bool
-    ensures { λ r. ⌜ r ≡ tupleSound n t ⌝ }
+fn fields_sound(n: usize, t: Tuple) -> bool
+    ensures { λ r. ⌜ r ≡ fieldsSound n t ⌝ }
 {
     let counted = in_range(1, t.count, 4);
     let mut ok = true;
@@ -92,8 +93,17 @@ fn tuple_sound(n: usize, t: Tuple) -> bool
     counted & ok
 }
 
-fn is_zero_tuple(t: Tuple) -> bool
-    ensures { λ r. ⌜ r ≡ isZeroTuple t ⌝ }
+// Its mark is an address in use.
+fn tuple_sound(n: usize, t: Tuple) -> bool
+    ensures { λ r. ⌜ r ≡ tupleSound n t ⌝ }
+{
+    let mark = t.mark;
+    let good = fields_sound(n, t);
+    ((mark.0 as usize) < n) & good
+}
+
+fn no_fields(t: Tuple) -> bool
+    ensures { λ r. ⌜ r ≡ noFields t ⌝ }
 {
     let mut ok = true;
     let mut i = 0;
@@ -105,6 +115,14 @@ fn is_zero_tuple(t: Tuple) -> bool
         i += 1;
     }
     (t.count == 0) & ok
+}
+
+fn is_zero_tuple(t: Tuple) -> bool
+    ensures { λ r. ⌜ r ≡ isZeroTuple t ⌝ }
+{
+    let mark = t.mark;
+    let good = no_fields(t);
+    (mark.0 == 0) & good
 }
 
 // Tuple i of a node that stores `stored` tuples.

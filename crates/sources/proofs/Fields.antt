@@ -190,8 +190,9 @@ unfolding withField tupleOf
 tuple-next xs x h =
     let l : length xs + 1 ≡ length (xs ++ (x ∷ [])) = sym (length-append xs (x ∷ [])) in
     choose-true _ _ _ (lt-ltb (length xs) 4 h)
-    ∙ ap (λ (k : ℕ). record { count = k; fields = set (tupleOf xs .fields) (length xs) (record { item = x }) }) l
-    ∙ ap (λ ys. record { count = length (xs ++ (x ∷ [])); fields = ys }) (filled-next (λ (y : Item). record { item = y }) zeroField xs x h)
+    ∙ ap (λ (k : ℕ). record { count = k; fields = set (tupleOf xs .fields) (length xs) (record { item = x }); mark = zeroTuple .mark }) l
+    ∙ ap (λ ys. record { count = length (xs ++ (x ∷ [])); fields = ys; mark = zeroTuple .mark })
+    (filled-next (λ (y : Item). record { item = y }) zeroField xs x h)
 
 pub tuple-text : (xs : List Item) → tupleText (tupleOf xs) ≡ 60 ∷ (separated (map itemText xs) ++ (62 ∷ []))
 unfolding tupleText tupleOf bytes

@@ -5,7 +5,7 @@ use mathlib.Core.Path.{_≡_}
 use mathlib.Core.Bool.{Bool, true, false}
 use mathlib.Core.List.{List, [], _∷_, _++_, map}
 use lib.ListN.{length, replicate}
-use Rattle.net.specs.Records.{zeroField, zeroTemplateField, zeroInstruction}
+use Rattle.net.specs.Records.{zeroField, zeroTuple, zeroTemplateField, zeroInstruction}
 use Rattle.sound.specs.Soundness.{itemSound, rowSound, targetSound, patternSound, isActual, bindsAnew}
 use Rattle.fresh.specs.Fresh.{itemFits, patternFits}
 use Rattle.keeping.specs.Admission.{admits}
@@ -31,11 +31,12 @@ pub record ItemFormed (n : ℕ) (before : List Item) (x : Item) : Type 0 where
   pub in-range : itemSound n x ≡ true
   pub fits : itemFits x ≡ true
 
--- the tuple of these fields, with zero records behind them
+-- the tuple of these fields, with zero records behind them and no mark yet
 unfoldable pub tupleOf : List Item → Tuple
 tupleOf xs = record {
   count = length xs;
   fields = map (λ x. record { item = x }) xs ++ replicate (4 - length xs) zeroField;
+  mark = zeroTuple .mark;
 }
 
 pub record TupleFormed (n : ℕ) (t : Tuple) : Type 0 where

@@ -14,7 +14,7 @@ use borrow.Author.Tests.{lt-ltb, le-ltb, ltb-true}
 use Rattle.net.specs.Choice.{choose, both}
 use Rattle.net.specs.Records.{processAt, nodeAt, rightsAt, rowFor, withNode, withRow, withProcess, withTuple, withCounts, withoutTuple}
 use Rattle.net.specs.Records.{tupleAt, afterTaking, freeSlot, noRights, putIn, takenFrom, startedAtSlot, startedOn}
-use Rattle.net.specs.Records.{movedTo, copiedTo, freeProcess, zeroNode, withVariable}
+use Rattle.net.specs.Records.{marked, movedTo, copiedTo, freeProcess, zeroNode, withVariable}
 use Rattle.keeping.specs.Keeping.{keepsOf}
 use Rattle.net.proofs.Laws.{choose-true}
 use Rattle.net.proofs.Lowest.{first-cases}
@@ -255,7 +255,7 @@ module _ (s : Net) (a : Locality) (k : ℕ) (seat : Standing s a k) (p : Process
   -- the plan of a request in the net
   unfoldable pub planIn : Request → Plan
   planIn req =
-      planOf (rowFor (nodeAt s a) p) p (nodeAt s (target req)) e (s .addresses)
+      planOf a (rowFor (nodeAt s a) p) p (nodeAt s (target req)) e (s .addresses)
       (sentWithin (s .code) p (nodeAt s (target req)) req) req
 
   here : (l : Locality) (f : Rights → Bool) → f noRights ≡ false → f (rightsAt (nodeAt s a .row) l) ≡ true → near l a ≡ l
@@ -263,14 +263,14 @@ module _ (s : Net) (a : Locality) (k : ℕ) (seat : Standing s a k) (p : Process
 
   granted-back : (req : Request) → granted (rowFor (nodeAt s a) p) req ≡ true
       → back s a k (target req)
-      (grantedPlan (rowFor (nodeAt s a) p) p (nodeAt s (target req)) e (s .addresses)
+      (grantedPlan a (rowFor (nodeAt s a) p) p (nodeAt s (target req)) e (s .addresses)
       (sentWithin (s .code) p (nodeAt s (target req)) req) req)
       ≡ carriedOut s a k p e req
   unfolding granted target targetIn firstNear targets isNew choose grantedPlan sentWithin carriedOut input read fork noRights changes unused rowFor
   granted-back Request.Lack g = refusing-back s a k (seat .size) (seat .low) a Answer.NotSet _ refl
   granted-back Request.Stop g = stop-back s a k (seat .size) (seat .low) a
   granted-back (Request.Out l q) g =
-      rw (here l (λ r. r .put) refl (sym (keeping .puts _ l) ∙ g)) (out-back s a k (seat .size) (seat .low) l p q (tupleOf e))
+      rw (here l (λ r. r .put) refl (sym (keeping .puts _ l) ∙ g)) (out-back s a k (seat .size) (seat .low) l p q (marked a (tupleOf e)))
   granted-back (Request.In l q) g =
       rw (here l (λ r. r .take) refl (sym (keeping .takes _ l) ∙ g))
       (in-back s a k (seat .size) (seat .low) l _ q _ (matching .stored p (nodeAt s l) e))

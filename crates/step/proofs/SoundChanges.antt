@@ -26,7 +26,7 @@ use Rattle.step.specs.Pick.{withHost, added, taken, opened, unused, crea
 use Rattle.plans.specs.Additions.{gaining}
 
 -- an array set anew at each place
-set-each :
+pub set-each :
     {A : Type 0} (d : A) (size : ℕ) (f : ℕ → A) (xs : List A) → length xs ≡ size
     → Every (λ j x. x ≡ f j) d size (fold size (λ j ys. set ys j (f j)) xs)
 set-each d size f xs l =

@@ -121,7 +121,7 @@ module _
         chosen-lt Kept (s .addresses) 16 _ _
         (λ room. performed-kept _ (created-kept s ok a i p v q hosted room running h)) (λ _. same-kept s _ ok)
 
-    done-kept : (e : Evaluated) (r : Request) → RequestOk (s .addresses) (s .length) e r → Kept (carriedOut s a i p e r)
+    done-kept : (e : Evaluated) (r : Request) → RequestOk a (s .addresses) (s .length) e r → Kept (carriedOut s a i p e r)
     unfolding carriedOut RequestOk input read eval fork
     done-kept e Request.Lack h = same-kept s _ ok
     done-kept e Request.Stop h = stopped-kept

@@ -7,7 +7,7 @@ use mathlib.Core.Path.{_≡_, refl, ap, subst, _∙_}
 use mathlib.Core.Bool.{true}
 use native.Mathlib.Omega.{arith}
 use borrow.Author.Tests.{ltb-true}
-use Rattle.net.specs.Records.{zeroField, zeroTuple, fieldAt, variableAt}
+use Rattle.net.specs.Records.{marked, zeroField, zeroTuple, fieldAt, variableAt}
 use Rattle.matching.specs.Matching.{evaluatedOf, wantAt, fitsOf, boundOf}
 use Rattle.sound.specs.Soundness.{itemSound, valueSound, targetSound}
 use Rattle.matching.specs.MatchingPromise.{Holds, reading-met, address-met, as-before}
@@ -69,12 +69,12 @@ filling-as : (n i j : ℕ) (t : Tuple) → i ≡ j → Filling n i t → Filling
 filling-as n i j t e = subst (λ (m : ℕ). Filling n m t) e
 
 tuple-ok :
-    (n : ℕ) (e : Evaluated) → 1 ≤ e .count → e .count ≤ 4
-    → ((i : ℕ) → i < 4 → itemSound n (itemOf (wantAt e i)) ≡ true) → TupleOk n (tupleOf e)
+    (n : ℕ) (a : Locality) (e : Evaluated) → a .0 < n → 1 ≤ e .count → e .count ≤ 4
+    → ((i : ℕ) → i < 4 → itemSound n (itemOf (wantAt e i)) ≡ true) → TupleOk n (marked a (tupleOf e))
 unfolding tupleOf
-tuple-ok n e h g w =
+tuple-ok n a e l h g w =
     let c : ℕ = e .count in
-    all-fields n (min 4 c) _ (omega arith) (omega arith)
+    all-fields n (min 4 c) _ a (omega arith) (omega arith) l
     (fold-keeps (λ i. Filling n (min i c)) _ zeroTuple 4 (filling-as n 0 (min 0 c) _ (omega arith) (no-field n))
     (λ i t l b. chosen-lt (Filling n (min (suc i) c)) i c _ _
     (λ u. filling-as n (suc (min i c)) (min (suc i) c) _ (omega arith) (next-field n (min i c) t _ (omega arith) b (w i l)))
@@ -82,26 +82,26 @@ tuple-ok n e h g w =
 
 said-ok :
     (n k : ℕ) (host : Locality) (p : Process) (c : Instruction) → host .0 < n → Running n k p → TemplateOk n c
-    → TupleOk n (tupleOf (evaluatedOf host p c))
+    → TupleOk n (marked host (tupleOf (evaluatedOf host p c)))
 said-ok n k host p c h r ok =
     let same = promise .counts host p c in
-    tuple-ok n (evaluatedOf host p c) (omega (arith, same, ok .least)) (omega (arith, same, ok .most))
+    tuple-ok n host (evaluatedOf host p c) h (omega (arith, same, ok .least)) (omega (arith, same, ok .most))
     (λ i l. want-item n _ (λ x. promise .ranges n host p c h (λ v. value-at n k p v r) (template-sound n c ok) i x l))
 
--- ---- requests that are within a net of n addresses and k places
+-- ---- requests of the host a that are within a net of n addresses and k places
 AimOk : ℕ → Aim → Type 0
 AimOk n (Aim.At l) = l .0 < n
 AimOk n Aim.Nowhere = Unit {0}
 
-unfoldable pub RequestOk : ℕ → ℕ → Evaluated → Request → Type 0
-RequestOk n k e Request.Lack = Unit {0}
-RequestOk n k e Request.Stop = Unit {0}
-RequestOk n k e (Request.Out l q) = (l .0 < n) × (q .0 < k) × TupleOk n (tupleOf e)
-RequestOk n k e (Request.In l q) = (l .0 < n) × (q .0 < k)
-RequestOk n k e (Request.Read l q) = (l .0 < n) × (q .0 < k)
-RequestOk n k e (Request.Eval l sent q) = (l .0 < n) × (sent .0 < k) × (q .0 < k)
-RequestOk n k e (Request.New v q) = q .0 < k
-RequestOk n k e (Request.Fork q r) = (q .0 < k) × (r .0 < k)
+unfoldable pub RequestOk : Locality → ℕ → ℕ → Evaluated → Request → Type 0
+RequestOk a n k e Request.Lack = Unit {0}
+RequestOk a n k e Request.Stop = Unit {0}
+RequestOk a n k e (Request.Out l q) = (l .0 < n) × (q .0 < k) × TupleOk n (marked a (tupleOf e))
+RequestOk a n k e (Request.In l q) = (l .0 < n) × (q .0 < k)
+RequestOk a n k e (Request.Read l q) = (l .0 < n) × (q .0 < k)
+RequestOk a n k e (Request.Eval l sent q) = (l .0 < n) × (sent .0 < k) × (q .0 < k)
+RequestOk a n k e (Request.New v q) = q .0 < k
+RequestOk a n k e (Request.Fork q r) = (q .0 < k) × (r .0 < k)
 
 aim-ok : (n : ℕ) (x : Value) → valueSound n x ≡ true → AimOk n (aimOf x)
 unfolding AimOk aimOf valueSound
@@ -118,31 +118,31 @@ target-ok n k a p Target.Own h r e = h
 target-ok n k a p (Target.Held v) h r e = aim-ok n _ (value-at n k p v r (ltb-true v 8 e))
 
 module _
-    (n k : ℕ) (e : Evaluated) (f : Locality → Request) (each : (l : Locality) → l .0 < n → RequestOk n k e (f l))
+    (a : Locality) (n k : ℕ) (e : Evaluated) (f : Locality → Request) (each : (l : Locality) → l .0 < n → RequestOk a n k e (f l))
   where
-    at-ok : (aim : Aim) → AimOk n aim → RequestOk n k e (at aim f)
+    at-ok : (aim : Aim) → AimOk n aim → RequestOk a n k e (at aim f)
     unfolding at AimOk RequestOk
     at-ok (Aim.At l) h = each l h
     at-ok Aim.Nowhere h = tt
 
-    spoken-ok : (aim : Aim) → AimOk n aim → RequestOk n k e (spoken e aim f)
+    spoken-ok : (aim : Aim) → AimOk n aim → RequestOk a n k e (spoken e aim f)
     unfolding spoken RequestOk
-    spoken-ok aim h = chosen (RequestOk n k e) (e .defined) _ _ (λ _. at-ok aim h) (λ _. tt)
+    spoken-ok aim h = chosen (RequestOk a n k e) (e .defined) _ _ (λ _. at-ok aim h) (λ _. tt)
 
 module _ (n k : ℕ) (a : Locality) (p : Process) (c : Instruction) (hosted : a .0 < n) (running : Running n k p) where
-  asked-ok : (x : Action) → Acts n k x c → RequestOk n k (evaluatedOf a p c) (asked a p (evaluatedOf a p c) x)
+  asked-ok : (x : Action) → Acts n k x c → RequestOk a n k (evaluatedOf a p c) (asked a p (evaluatedOf a p c) x)
   unfolding asked Acts RequestOk
   asked-ok Action.Stop h = tt
   asked-ok (Action.Out t q) (e, h, ok) =
-      spoken-ok n k _ _ (λ l u. (u, h, said-ok n k a p c hosted running (ok .template-ok)))
+      spoken-ok a n k _ _ (λ l u. (u, h, said-ok n k a p c hosted running (ok .template-ok)))
       _ (target-ok n k a p t hosted running e)
-  asked-ok (Action.In t q) (e, h, ok) = spoken-ok n k _ _ (λ l u. (u, h)) _ (target-ok n k a p t hosted running e)
-  asked-ok (Action.Read t q) (e, h, ok) = spoken-ok n k _ _ (λ l u. (u, h)) _ (target-ok n k a p t hosted running e)
+  asked-ok (Action.In t q) (e, h, ok) = spoken-ok a n k _ _ (λ l u. (u, h)) _ (target-ok n k a p t hosted running e)
+  asked-ok (Action.Read t q) (e, h, ok) = spoken-ok a n k _ _ (λ l u. (u, h)) _ (target-ok n k a p t hosted running e)
   asked-ok (Action.Eval t sent q) (e, g, h, _) =
-      at-ok n k _ _ (λ l u. (u, g, h)) _ (target-ok n k a p t hosted running e)
+      at-ok a n k _ _ (λ l u. (u, g, h)) _ (target-ok n k a p t hosted running e)
   asked-ok (Action.New v q) (g, h, _) = h
   asked-ok (Action.Fork q r) (g, h, _) = (g, h)
 
-  pub request-ok : InstructionOk n k c → RequestOk n k (evaluatedOf a p c) (requestOf a p c)
+  pub request-ok : InstructionOk n k c → RequestOk a n k (evaluatedOf a p c) (requestOf a p c)
   unfolding requestOf
   request-ok ok = asked-ok (c .action) ok

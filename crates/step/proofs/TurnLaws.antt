@@ -14,7 +14,7 @@ use Rattle.net.specs.Records.{nodeAt, processAt, instructionAt, rowFor, withPro
 use Rattle.matching.specs.Matching.{evaluatedOf}
 use Rattle.keeping.specs.Keeping.{keepsOf}
 use Rattle.plans.specs.Request.{requestOf, asked, granted}
-use Rattle.plans.specs.Plan.{refusing}
+use Rattle.plans.specs.Plan.{planOf, refusing}
 use Rattle.net.proofs.Laws.{choose-true, choose-false, both-l, both-r}
 use Rattle.net.proofs.ReadingLaws.{never}
 use Rattle.step.specs.Types.{Locality, Place, Action, Row, Process, Node, Instruction, Net, Evaluated, Answer, Request, Plan, Picked}
@@ -28,6 +28,11 @@ use Rattle.step.proofs.PutBack.{back, Standing, planIn, target, put-bac
 
 pub refusing-as : (x y : Answer) (z : Node) (plan : Plan) → x ≡ y → plan ≡ refusing x z → plan ≡ refusing y z
 refusing-as x y z plan e h = h ∙ ap (λ (w : Answer). refusing w z) e
+
+pub planned-by :
+    (h a : Locality) (row : Row) (p : Process) (y : Node) (e : Evaluated) (n : ℕ) (w : Bool) (r : Request) (x : Plan) → h ≡ a
+    → x ≡ planOf h row p y e n w r → x ≡ planOf a row p y e n w r
+planned-by h a row p y e n w r x d k = k ∙ ap (λ (l : Locality). planOf l row p y e n w r) d
 
 -- no code is sent, so none can go beyond a row
 pub nothing-sent :

@@ -5,7 +5,7 @@ use lib.Dec.{eqb, ltb}
 use Rattle.net.specs.Choice.{choose}
 use Rattle.net.specs.Records.{processAt, nodeAt, instructionAt, rowFor, withProcess, withTuple, withNode, withRow}
 use Rattle.net.specs.Records.{withVariable, movedTo, copiedTo, withoutTuple, freeSlot, freeProcess, zeroNode}
-use Rattle.net.specs.Records.{addressOf}
+use Rattle.net.specs.Records.{marked, addressOf}
 use Rattle.matching.specs.Matching.{evaluatedOf, matchedOf}
 use Rattle.keeping.specs.Keeping.{keepsOf}
 use Rattle.sound.specs.Soundness.{soundOf}
@@ -111,7 +111,7 @@ create s a k p v q = choose (ltb (s .addresses) 16) (performed (created s a k p 
 unfoldable pub carriedOut : Net → Locality → ℕ → Process → Evaluated → Request → Picked
 carriedOut s a k p e Request.Lack = unchanged Answer.NotSet s
 carriedOut s a k p e Request.Stop = stopped s a k
-carriedOut s a k p e (Request.Out l q) = out s a k p l q (tupleOf e)
+carriedOut s a k p e (Request.Out l q) = out s a k p l q (marked a (tupleOf e))
 carriedOut s a k p e (Request.In l q) = input s a k l q (matchedOf p (nodeAt s l) e)
 carriedOut s a k p e (Request.Read l q) = read s a k q (matchedOf p (nodeAt s l) e)
 carriedOut s a k p e (Request.Eval l sent q) = eval s a k p l sent q

@@ -97,7 +97,7 @@ sentWithin code p y (Request.Fork q q′) = true
 unfoldable pub seatPlan : Seat → Evaluated → Request → Node → Bool → Plan
 seatPlan z e req y within =
     choose (ready (z .pick) (z .addresses) (z .process))
-    (planOf (z .row) (z .process) y e (z .addresses) within req)
+    (planOf (hostOf (z .pick)) (z .row) (z .process) y e (z .addresses) within req)
     (refusing (refusal (z .pick) (z .addresses)) y)
 
 unfoldable pub turnPlan : Turn → Node → Bool → Plan

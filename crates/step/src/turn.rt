@@ -213,8 +213,10 @@ fn seat_plan(seat: Seat, template: Evaluated, request: Request, y: Node, within:
     ensures { λ x. ⌜ x ≡ seatPlan seat template request y within ⌝ }
 {
     let process = seat.process;
+    let host = host_of(seat.pick);
     if is_ready(seat.pick, seat.addresses, process) {
         plan_for(
+            host,
             seat.row,
             process,
             y,

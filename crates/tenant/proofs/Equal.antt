@@ -1,5 +1,6 @@
 -- Two nets that an image can write and that agree below their counts (`specs/TenantRule.antt`) have one code, and one node
--- at each outside address: what stands past a count is zero in both, and every variable is unset.
+-- at each outside address: what stands past a count is zero in both, every variable is unset, and every mark is the node's
+-- own.
 -- Assumes nothing.
 use Prim.Native.Nat.{ℕ, zero, suc, _<_, _≤_}
 use mathlib.Core.Path.{_≡_, refl, sym, ap, subst, _∙_}
@@ -64,18 +65,20 @@ row-same n m r r′ e ok ok′ same =
     λ i. record { create = same .creation i; rights = rights i }
 
 -- ---- tuples
-tuple-same : (n m : ℕ) (u u′ : Tuple) → TupleOk n u → TupleOk m u′ → SameTuple u u′ → u ≡ u′
+tuple-same : (a : Locality) (n m : ℕ) (u u′ : Tuple) → TupleOk a n u → TupleOk a m u′ → SameTuple u u′ → u ≡ u′
 unfolding fieldAt
-tuple-same n m u u′ ok ok′ same =
+tuple-same a n m u u′ ok ok′ same =
     let fields = filled-same pastField 4 (u .count) (u′ .count) (u .fields) (u′ .fields) (same .count) (ok .fields-ok)
     (ok′ .fields-ok) (λ j h _ _ i. record { item = same .fields j h i }) in
-    λ i. record { count = same .count i; fields = fields i }
+    let mark : u .mark ≡ u′ .mark = sym (ok .mark-is) ∙ ok′ .mark-is in
+    λ i. record { count = same .count i; fields = fields i; mark = mark i }
 
-tuples-same : (n m : ℕ) (x x′ : Node) → TuplesOk n x → TuplesOk m x′ → SameTuples x x′ → x .tuples ≡ x′ .tuples
+tuples-same :
+    (a : Locality) (n m : ℕ) (x x′ : Node) → TuplesOk a n x → TuplesOk a m x′ → SameTuples x x′ → x .tuples ≡ x′ .tuples
 unfolding tupleAt
-tuples-same n m x x′ ok ok′ same =
+tuples-same a n m x x′ ok ok′ same =
     filled-same pastTuple 16 (x .stored) (x′ .stored) (x .tuples) (x′ .tuples) (same .count) (ok .tuples-ok)
-    (ok′ .tuples-ok) (λ j h a b. tuple-same n m _ _ a b (same .tuples j h))
+    (ok′ .tuples-ok) (λ j h t u. tuple-same a n m _ _ t u (same .tuples j h))
 
 -- ---- starting processes: a slot is free, or its process stands at its first place with every variable unset
 unfoldable begun : Process → Process
@@ -104,13 +107,13 @@ slots-same k c k′ c′ x x′ ok ok′ same =
 
 -- ---- nodes
 node-same :
-    (n k m l : ℕ) (x x′ : Node) → n ≡ m → WithTuples n k x → WithTuples m l x′ → SameNode n x x′ → x ≡ x′
-node-same n k m l x x′ e ok ok′ same =
+    (a n k m l : ℕ) (x x′ : Node) → n ≡ m → WithTuples a n k x → WithTuples a m l x′ → SameNode n x x′ → x ≡ x′
+node-same a n k m l x x′ e ok ok′ same =
     node-is x′ _ _ _ _
     (row-same n m (x .row) (x′ .row) e (ok .row-ok) (ok′ .row-ok) (same .policy))
     (slots-same k _ l _ x x′ (ok .slots-ok .slots) (ok′ .slots-ok .slots) (same .processes))
     (same .tuples .count)
-    (tuples-same n m x x′ (ok .store-ok) (ok′ .store-ok) (same .tuples))
+    (tuples-same (addressOf a) n m x x′ (ok .store-ok) (ok′ .store-ok) (same .tuples))
 
 -- ---- instructions: the template is zero past its count, whatever the action
 record Templated (c : Instruction) : Type 0 where
@@ -175,7 +178,7 @@ module _ (s t : Net) (ok : NetOk s) (ok′ : NetOk t) where
       under (a .0) 16
       (λ u. let x = ok .nodes-ok .holds (a .0) u in let y = ok′ .nodes-ok .holds (a .0) u in
       under (a .0) (s .addresses)
-      (λ h. node-same _ _ _ _ _ _ e (x .used h) (y .used (omega arith)) (f a h o))
+      (λ h. node-same (a .0) _ _ _ _ _ _ e (x .used h) (y .used (omega arith)) (f a h o))
       (λ h. sym (x .unused h) ∙ y .unused (omega arith)))
       (λ u. List·getD-eq-default (s .nodes) pastNode (omega (arith, ok .nodes-ok .size-is))
       ∙ sym (List·getD-eq-default (t .nodes) pastNode (omega (arith, ok′ .nodes-ok .size-is))))

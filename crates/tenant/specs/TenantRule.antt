@@ -43,7 +43,8 @@ pub record SamePolicy (addresses : ℕ) (r r′ : Row) : Type 0 where
   pub creation : r .create ≡ r′ .create
   pub rights : (l : Locality) → l .0 < addresses → rightsAt r l ≡ rightsAt r′ l
 
--- a tuple "whole": each of its fields
+-- a tuple "whole": each of its fields. Its mark needs no word: "tuples of an image carry their own node's address"
+-- (document 02, slip 8), in both images
 pub record SameTuple (u u′ : Tuple) : Type 0 where
   pub count : u .count ≡ u′ .count
   pub fields : (i : ℕ) → i < u .count → fieldAt u i ≡ fieldAt u′ i
@@ -99,7 +100,8 @@ pub record Alike (tenant : Locality → Bool) (s t : Net) : Type 0 where
   pub fenced′ : Fenced tenant t
 
 -- ---- what follows: "policies in every right", "tuples in order and whole", "processes at the end slot by slot, free or
--- busy, each record whole", so each of a node's parts as a whole
+-- busy, each record whole", so each of a node's parts as a whole. "Equality of tuples between two runs now covers this mark
+-- as well" (document 02, slip 8): a tuple's record holds it
 pub record Equal (x y : Node) : Type 0 where
   pub policy : x .row ≡ y .row
   pub count : x .stored ≡ y .stored

@@ -25,7 +25,7 @@ use Rattle.texts.proofs.Terms.{Fit, FitIn}
 use Rattle.texts.proofs.Rows.{Each, none, more}
 use Rattle.texts.proofs.Lines.{LineOk, SourceOk}
 use Rattle.texts.proofs.FreshParts.{InstructionFresh, CodeFresh, NetFresh, empty-fresh, fresh-at, fresh-with}
-use Rattle.texts.proofs.FreshParts.{fresh-row, fresh-process, fresh-tuple}
+use Rattle.texts.proofs.FreshParts.{fresh-row, fresh-process, fresh-tuple, owned-at, owned-row, owned-process, owned-tuple}
 use Rattle.texts.proofs.Compiled.{each-both, in-first, in-second, code-length, code-good, start-below}
 
 -- ---- rows
@@ -37,7 +37,8 @@ ruled-fresh n k i [] s few h none ok = ok
 ruled-fresh n k i (r ∷ rs) s few h (more g e) ok =
     let l : i < n = omega arith in
     ruled-fresh n k (suc i) rs _ few (omega arith) e
-    (fresh-with few s ok (addressOf i) l _ (fresh-row n k _ (fresh-at few s ok (addressOf i) l) r g))
+    (fresh-with few s ok (addressOf i) l _ (fresh-row n k _ (fresh-at few s ok (addressOf i) l) r g)
+    (owned-row (addressOf i) _ (owned-at few s ok (addressOf i) l) r))
 
 -- ---- all lines: their names are right, and they have k instructions
 module _ (n k : ℕ) (few : n ≤ 16) (all : List Line) (whole : total all ≤ k) (right : namesRight all ≡ true) where
@@ -62,8 +63,10 @@ module _ (n k : ℕ) (few : n ≤ 16) (all : List Line) (whole : total all ≤ k
   placed-fresh m (definition j p) s h f u ok = ok
   placed-fresh m (process a p) s h f u ok =
       fresh-with few s ok a (f .0) _ (fresh-process n k _ (fresh-at few s ok a (f .0)) _ _ (body-below m p h u))
+      (owned-process a _ (owned-at few s ok a (f .0)) _ _)
   placed-fresh m (tuple a t) s h f u ok =
-      fresh-with few s ok a (f .0) _ (fresh-tuple n k _ (fresh-at few s ok a (f .0)) t (f .1))
+      fresh-with few s ok a (f .0) _ (fresh-tuple n k _ (fresh-at few s ok a (f .0)) a t (f .0) (f .1))
+      (owned-tuple a _ (owned-at few s ok a (f .0)) t)
 
   line-good : (m : ℕ) (l : Line) → m + sizeOf l ≤ k → LineOk n l → UsedLine l → Each (InstructionFresh n k) (lineCode (placeIn all) m l)
   unfolding lineCode sizeOf LineOk usesLine
@@ -161,6 +164,7 @@ compiled-parts x ok right =
       addresses-are = net .addresses-are;
       length-is = net .length-is;
       nodes = net .nodes;
+      marks = net .marks;
       code =
           stored n k 0 (codeFrom (placeIn (x .lines)) 0 (x .lines)) _
           (omega (arith, from-length n k few (x .lines) (omega arith) right 0 (x .lines)))

@@ -6,7 +6,7 @@ use mathlib.Core.Bool.{Bool, true}
 use native.Mathlib.Omega.{arith}
 use borrow.Author.Tests.{ltb-true, lt-ltb, leb-true}
 use Rattle.readers.specs.Reader.{Reader}
-use Rattle.net.specs.Records.{zeroTuple, zeroInstruction, withAction}
+use Rattle.net.specs.Records.{zeroTuple, marked, zeroInstruction, withAction}
 use Rattle.sound.specs.Soundness.{itemSound, targetSound, patternSound, isActual, bindsAnew}
 use Rattle.fields.specs.Fields.{address, variable, negative, positive, reading, atAddress, own, held, addressItem, readingItem}
 use Rattle.fields.specs.Fields.{item, fields, tupleField, tuple, addressPattern, ownPattern, heldPattern, readingPattern, fresh}
@@ -17,13 +17,13 @@ use Rattle.sound.proofs.NodeFacts.{TupleOk}
 use Rattle.sound.proofs.NodeChanges.{Filling, no-field, next-field, all-fields}
 use Rattle.sound.proofs.Drafts.{SuitsNext, suited, Fresh, suits-reading, suits-address, Drafted, no-pattern, next-pattern, Whole, whole}
 use Rattle.fresh.specs.Fresh.{readingFits, itemFits, patternFits, tupleFits, instructionFits}
-use Rattle.texts.specs.Types.{Tuple, Pattern, Action, Instruction}
+use Rattle.texts.specs.Types.{Locality, Tuple, Pattern, Action, Instruction}
 use Rattle.texts.specs.TextClaims.{count, formal-in-out, formal-twice, astray}
 use Rattle.texts.specs.TextClaims as Number
 use Rattle.texts.proofs.Gives.{Any, Gives, gives-pure, gives-weaken, gives-then, gives-and, gives-choice, gives-require, gives-tested}
 use Rattle.texts.proofs.Gives.{gives-look, gives-fail, gives-byte, gives-word, gives-optional, gives-number}
 use Rattle.texts.proofs.Fits as Fits
-use Rattle.texts.proofs.Fits.{ItemsFit, PatternsFit, tuple-fits, template-fits}
+use Rattle.texts.proofs.Fits.{ItemsFit, PatternsFit, marked-fits, template-fits}
 
 -- ---- fields
 pub gives-address : (n : ℕ) → Gives (address n) (λ l. l .0 < n)
@@ -76,8 +76,10 @@ gives-item n =
     (gives-then (gives-atAddress n) (λ l h. gives-pure _ _ (lt-ltb (l .0) n h, refl)))
     (gives-then gives-reading (λ x h. gives-pure _ _ (refl, h))))
 
-abbrev pub TupleRead : ℕ → Tuple → Type 0
-TupleRead n t = TupleOk n t × (tupleFits t ≡ true)
+-- a tuple as it will stand at a node, whatever the address
+pub record TupleRead (n : ℕ) (t : Tuple) : Type 0 where
+  pub sound : (a : Locality) → a .0 < n → TupleOk n (marked a t)
+  pub fits : (a : Locality) → tupleFits (marked a t) ≡ true
 
 pub gives-tuple : (n : ℕ) → Gives (tuple n) (TupleRead n)
 unfolding tuple tupleField
@@ -86,7 +88,8 @@ gives-tuple n =
     (gives-fields (λ i t. Filling n i t × ItemsFit t) (TupleRead n) (tupleField n)
     (λ i t h ok. gives-then (gives-item n) (λ x e.
     gives-pure _ _ (next-field n i t _ h (ok .0) (e .0), Fits.next-item t _ (ok .1) (e .1))))
-    (λ i t h g ok. (all-fields n i t h g (ok .0), tuple-fits t (ok .1))) 4 0 zeroTuple refl (no-field n, Fits.no-item))
+    (λ i t h g ok. record { sound = λ a l. all-fields n i t a h g l (ok .0); fits = λ a. marked-fits a t (ok .1) })
+    4 0 zeroTuple refl (no-field n, Fits.no-item))
     (λ t ok. gives-and (gives-byte 62) (λ _ _. gives-pure _ t ok)))
 
 -- ---- templates

@@ -2,12 +2,12 @@
 -- field that is added fits. Assumes nothing.
 use mathlib.Core.Path.{_≡_, refl}
 use mathlib.Core.Bool.{true}
-use Rattle.net.specs.Records.{zeroField, zeroTuple, zeroTemplateField, zeroInstruction, fieldAt, patternAt, withField, withPattern}
+use Rattle.net.specs.Records.{zeroField, zeroTuple, zeroTemplateField, zeroInstruction, fieldAt, patternAt, marked, withField, withPattern}
 use Rattle.net.proofs.Every.{Every, chosen-lt, every-replicate, every-set}
 use Rattle.net.proofs.Past.{pastField, pastTemplate}
 use Rattle.fresh.specs.Fresh.{readingFits, itemFits, patternFits, tupleFits, instructionFits}
 use Rattle.fresh.proofs.FitLaws.{array-fits}
-use Rattle.texts.specs.Types.{Field, Tuple, TemplateField, Instruction}
+use Rattle.texts.specs.Types.{Locality, Field, Tuple, TemplateField, Instruction}
 
 -- ---- tuples
 abbrev pub ItemsFit : Tuple → Type 0
@@ -25,6 +25,10 @@ next-item t f ok e =
 pub tuple-fits : (t : Tuple) → ItemsFit t → tupleFits t ≡ true
 unfolding tupleFits fieldAt
 tuple-fits t ok = array-fits (λ f. itemFits (f .item)) ok
+
+pub marked-fits : (a : Locality) (t : Tuple) → ItemsFit t → tupleFits (marked a t) ≡ true
+unfolding marked
+marked-fits a t ok = tuple-fits (marked a t) ok
 
 -- ---- templates
 abbrev pub PatternsFit : Instruction → Type 0

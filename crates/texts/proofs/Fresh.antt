@@ -13,7 +13,7 @@ use Rattle.sound.specs.Soundness.{allUnset, soundOf}
 use Rattle.sound.proofs.NodeFacts.{of-zero}
 use Rattle.sound.proofs.NetFacts.{NetWith, net-sound}
 use Rattle.keeping.specs.Admission.{admits}
-use Rattle.fresh.specs.Fresh.{nodeFits, instructionFits, netFits, nodeStarts, freshOf}
+use Rattle.fresh.specs.Fresh.{nodeFits, instructionFits, netFits, ownMarks, startsAt, freshOf}
 use Rattle.fresh.proofs.FitLaws.{net-fits, zero-node-fits, zero-instruction-fits}
 use Rattle.fresh.proofs.StartLaws.{node-starts}
 use Rattle.linking.specs.Source.{Source}
@@ -22,7 +22,7 @@ use Rattle.linking.specs.Compiled.{total, placeIn, withCode, compiled}
 use Rattle.linking.specs.NodeCounts.{Counts}
 use Rattle.linking.proofs.NodeCounts.{counts-rows, counts-all}
 use Rattle.texts.specs.Types.{Locality}
-use Rattle.texts.proofs.FreshParts.{zero-fresh, node-fits, NetFresh}
+use Rattle.texts.proofs.FreshParts.{zero-fresh, node-fits, own-marks, NetFresh}
 use Rattle.texts.proofs.Lines.{SourceOk}
 use Rattle.texts.proofs.CompiledNet.{compiled-parts}
 
@@ -67,10 +67,15 @@ module _ (x : Source) (ok : SourceOk x) (right : namesRight (x .lines) ≡ true)
       filled-each {Q = λ y. (i : ℕ) → i < 4 → allUnset (processAt y i) ≡ true} (parts .nodes)
       (λ y g. g .unset .holds) (of-zero _ (zero-fresh 1 1 .unset .holds)) (a .0) h
 
-  starts : all 16 (λ a. nodeStarts (nodeAt (compiled x) (addressOf a))) ≡ true
+  own : (a : Locality) → a .0 < 16 → ownMarks a (nodeAt (compiled x) a) ≡ true
+  unfolding nodeAt
+  own a h = own-marks a _ (parts .marks .holds (a .0) h)
+
+  starts : all 16 (λ a. startsAt (compiled x) (addressOf a)) ≡ true
+  unfolding startsAt
   starts = all-i 16 _ (λ a h.
       let c = counts .at (addressOf a) h in
-      node-starts _ (λ i l. c .slots i l ∙ ap (ltb i) (sym (c .processes))) (unset (addressOf a) h))
+      both-i _ _ (node-starts _ (λ i l. c .slots i l ∙ ap (ltb i) (sym (c .processes))) (unset (addressOf a) h)) (own (addressOf a) h))
 
   pub compiled-fresh :
       1 ≤ total (x .lines) → total (x .lines) ≤ 512 → admits (compiled x) ≡ true → freshOf (compiled x) ≡ true

@@ -1,14 +1,14 @@
 -- The nodes and instructions of a net that a text gives: sound (`NodeFacts.antt` and `CodeFacts.antt` of `sound`), each variable
--- unset and each reading of 32 bits; and what keeps them so. Assumes nothing.
+-- unset, each reading of 32 bits and each tuple with its own node's mark; and what keeps them so. Assumes nothing.
 use Prim.Native.Nat.{ℕ, _<_, _≤_}
 use mathlib.Core.Path.{_≡_, refl}
 use mathlib.Core.Bool.{true}
 use mathlib.Core.List.{List}
 use native.Mathlib.Omega.{arith}
-use borrow.Author.Tests.{eq-eqb}
+use borrow.Author.Tests.{ltb-true, eq-eqb}
 use Rattle.net.specs.Records.{freeProcess, startingAt, zeroTuple, zeroNode, zeroInstruction, processAt, tupleAt, nodeAt}
-use Rattle.net.specs.Records.{emptyNet, withRow, withProcess, withTuple, withNode, withCounts, withAction}
-use Rattle.net.proofs.Laws.{both-i}
+use Rattle.net.specs.Records.{emptyNet, marked, withRow, withProcess, withTuple, withNode, withCounts, withAction}
+use Rattle.net.proofs.Laws.{both-i, implies-i, all-i}
 use Rattle.net.proofs.Every.{chosen-lt, Every, Filled, every-replicate, every-set, filled-set}
 use Rattle.net.proofs.Past.{pastProcess, pastTuple, pastNode, pastInstruction}
 use Rattle.sound.specs.Soundness.{allUnset}
@@ -16,7 +16,7 @@ use Rattle.sound.proofs.NodeFacts.{RowOk, NodeOk, node-shaped}
 use Rattle.sound.proofs.NodeChanges.{runs, starting, zero-node, with-row, with-process, with-tuple}
 use Rattle.sound.proofs.CodeFacts.{InstructionOk}
 use Rattle.sound.proofs.NetChanges.{zero-instruction}
-use Rattle.fresh.specs.Fresh.{tupleFits, processFits, nodeFits, instructionFits}
+use Rattle.fresh.specs.Fresh.{tupleFits, processFits, nodeFits, instructionFits, ownMark, ownMarks}
 use Rattle.fresh.proofs.FitLaws.{array-fits, action-fits, zero-instruction-fits}
 use Rattle.fresh.proofs.StartLaws.{free-unset, starting-unset}
 use Rattle.texts.specs.Types.{Locality, Place, Row, Tuple, Node, Action, Instruction, Net}
@@ -64,13 +64,13 @@ module _ (n k : ℕ) where
       fit = ok .fit;
     }
 
-    pub fresh-tuple : (t : Tuple) → TupleRead n t → NodeFresh n k (withTuple x t)
+    pub fresh-tuple : (a : Locality) (t : Tuple) → a .0 < n → TupleRead n t → NodeFresh n k (withTuple x (marked a t))
     unfolding withTuple
-    fresh-tuple t h = record {
-      sound = with-tuple n k x (ok .sound) t (h .0);
+    fresh-tuple a t l h = record {
+      sound = with-tuple n k x (ok .sound) (marked a t) (h .sound a l);
       unset = chosen-lt AllUnset (x .stored) 16 _ _ (λ _. ok .unset) (λ _. ok .unset);
       fit =
-          chosen-lt TuplesFit (x .stored) 16 _ _ (λ _. every-set (x .stored) t (ok .fit) (λ j u d e. e) (h .1))
+          chosen-lt TuplesFit (x .stored) 16 _ _ (λ _. every-set (x .stored) (marked a t) (ok .fit) (λ j u d e. e) (h .fits a))
           (λ _. ok .fit);
     }
 
@@ -82,6 +82,33 @@ module _ (n k : ℕ) where
         record { size-is = shape .processes-are; holds = λ i h. eq-eqb _ _ (shape .each-process i h .variables-are) } in
         both-i _ _ (eq-eqb _ _ (shape .rights-are)) (both-i _ _ (array-fits processFits each) (array-fits tupleFits (ok .fit)))
 
+-- ---- marks: each tuple of the node at address m has m's
+abbrev pub Owned : ℕ → Node → Type 0
+Owned m x = Every (λ i t. i < x .stored → t .mark .0 ≡ m) pastTuple 16 (x .tuples)
+
+zero-owned : (m : ℕ) → Owned m zeroNode
+unfolding zeroNode
+zero-owned m = every-replicate _ pastTuple 16 zeroTuple (λ i h l. absurd (omega arith))
+
+module _ (a : Locality) (x : Node) (ok : Owned (a .0) x) where
+  pub owned-row : (r : Row) → Owned (a .0) (withRow x r)
+  unfolding withRow
+  owned-row r = ok
+
+  pub owned-process : (i : ℕ) (p : Place) → Owned (a .0) (withProcess x i (startingAt p))
+  unfolding withProcess
+  owned-process i p = ok
+
+  pub owned-tuple : (t : Tuple) → Owned (a .0) (withTuple x (marked a t))
+  unfolding withTuple marked
+  owned-tuple t =
+      chosen-lt (Owned (a .0)) (x .stored) 16 _ _
+      (λ _. every-set (x .stored) (marked a t) ok (λ j u d e l. e (omega arith)) (λ _. refl)) (λ _. ok)
+
+  pub own-marks : ownMarks a x ≡ true
+  unfolding ownMarks ownMark tupleAt
+  own-marks = all-i 16 _ (λ i h. implies-i _ _ (λ e. eq-eqb _ _ (ok .holds i h (ltb-true _ _ e))))
+
 -- ---- a net with n addresses and k instructions
 abbrev pub CodeFresh : ℕ → ℕ → List Instruction → Type 0
 CodeFresh n k code = Every (Filled (InstructionFresh n k) (λ c. c ≡ zeroInstruction) k) pastInstruction 512 code
@@ -90,6 +117,7 @@ pub record NetFresh (n k : ℕ) (s : Net) : Type 0 where
   pub addresses-are : s .addresses ≡ n
   pub length-is : s .length ≡ k
   pub nodes : Every (Filled (NodeFresh n k) (λ x. x ≡ zeroNode) n) pastNode 16 (s .nodes)
+  pub marks : Every Owned pastNode 16 (s .nodes)
   pub code : CodeFresh n k (s .code)
 
 pub empty-fresh : (n k : ℕ) → NetFresh n k (withCounts emptyNet n k)
@@ -98,6 +126,7 @@ empty-fresh n k = record {
   addresses-are = refl;
   length-is = refl;
   nodes = every-replicate _ pastNode 16 zeroNode (λ a _. record { used = λ _. zero-fresh n k; unused = λ _. refl });
+  marks = every-replicate _ pastNode 16 zeroNode (λ a _. zero-owned a);
   code =
       every-replicate _ pastInstruction 512 zeroInstruction
       (λ p _. record { used = λ _. (zero-instruction n k, zero-instruction-fits); unused = λ _. refl });
@@ -108,11 +137,16 @@ module _ {n k : ℕ} (few : n ≤ 16) (s : Net) (ok : NetFresh n k s) (a : Local
   unfolding nodeAt
   fresh-at = ok .nodes .holds (a .0) (omega arith) .used h
 
-  pub fresh-with : (x : Node) → NodeFresh n k x → NetFresh n k (withNode s a x)
+  pub owned-at : Owned (a .0) (nodeAt s a)
+  unfolding nodeAt
+  owned-at = ok .marks .holds (a .0) (omega arith)
+
+  pub fresh-with : (x : Node) → NodeFresh n k x → Owned (a .0) x → NetFresh n k (withNode s a x)
   unfolding withNode
-  fresh-with x g = record {
+  fresh-with x g o = record {
     addresses-are = ok .addresses-are;
     length-is = ok .length-is;
     nodes = filled-set (a .0) x h g (ok .nodes);
+    marks = every-set (a .0) x (ok .marks) (λ j y d e. e) o;
     code = ok .code;
   }

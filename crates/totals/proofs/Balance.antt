@@ -249,7 +249,7 @@ module _ (s : Net) (ok : NetOk s) (a : Locality) (k : ℕ) (hosted : a .0 < s .a
   -- ---- by the action, whose request is within the net
   module _ (e : Evaluated) (x : Action) where
     abbrev Acts : Request → Type 0
-    Acts r = RequestOk (s .addresses) (s .length) e r → Moves s x (acting s a k p e r)
+    Acts r = RequestOk a (s .addresses) (s .length) e r → Moves s x (acting s a k p e r)
 
     acts : (r : Request) → Moves s x (carriedOut s a k p e r) → Moves s x (acting s a k p e r)
     unfolding acting numberOf
@@ -269,7 +269,7 @@ module _ (s : Net) (ok : NetOk s) (a : Locality) (k : ℕ) (hosted : a .0 < s .a
     spoken-acts aim f h = chosen Acts (e .defined) _ _ (λ _. at-acts aim f h) (λ _. lacks)
 
   asked-moves :
-      (e : Evaluated) (x : Action) → RequestOk (s .addresses) (s .length) e (asked a p e x)
+      (e : Evaluated) (x : Action) → RequestOk a (s .addresses) (s .length) e (asked a p e x)
       → Moves s x (acting s a k p e (asked a p e x))
   unfolding asked RequestOk carriedOut input read eval fork puts takes numberOf
   asked-moves e Action.Stop h = acts e _ Request.Stop stop-moves

@@ -15,7 +15,7 @@ use Rattle.registers.specs.Lines.{netLines, pickLines, tuplesBelow, tupleCount,
 use Rattle.registers.specs.Register.{registerIn}
 use Rattle.totals.specs.TextLines.{linesOf, lastOr, opensWith}
 use Rattle.totals.specs.TotalClaims.{TotalIs, tupleLinesIn}
-use Rattle.totals.proofs.Whole.{clean, no-words, number-more, items-plain, Whole, whole-both, whole-line}
+use Rattle.totals.proofs.Whole.{clean, no-words, number-more, plain-both, mark-plain, items-plain, Whole, whole-both, whole-line}
 use Rattle.totals.proofs.Whole.{whole-parts, whole-each, last-line, lines-count}
 
 -- ---- which lines are a tuple's
@@ -33,7 +33,7 @@ node-whole a n k = whole-line _ _ refl (number-more (number-more (number-more no
 
 tuple-whole : (a : Locality) (t : Tuple) → Whole (printed (tupleLine current a t ∷ [])) 1
 unfolding tupleLine fieldWords bytes clean both opensWith choose spaced
-tuple-whole a t = whole-line _ _ refl (number-more (items-plain (fewer (t .count) 4) (fieldAt t))) 1 refl
+tuple-whole a t = whole-line _ _ refl (number-more (plain-both _ _ (items-plain (fewer (t .count) 4) (fieldAt t)) (mark-plain t))) 1 refl
 
 -- ---- parts of a register
 picks-whole : (picks answers : List ℕ) → Whole (printed (pickLines picks answers)) 0

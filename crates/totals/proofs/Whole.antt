@@ -15,9 +15,10 @@ use Rattle.net.proofs.Every.{chosen}
 use Rattle.text.specs.Bytes.{bytes}
 use Rattle.text.specs.Decimal.{digit, digits, decimal, signedDecimal}
 use Rattle.text.specs.Joined.{joined}
-use Rattle.registers.specs.Types.{Item}
+use Rattle.registers.specs.Types.{Item, Tuple}
 use Rattle.registers.specs.Words.{Word, name, number, wordText, spaced, lineText, printed}
-use Rattle.registers.specs.Lines.{itemWord}
+use Rattle.registers.specs.Shown.{current}
+use Rattle.registers.specs.Lines.{itemWord, markWords}
 use Rattle.registers.proofs.WordLaws.{spaced-both, printed-both}
 use Rattle.totals.specs.TextLines.{before, linesOf, lastOr, opensWith, opening}
 
@@ -78,14 +79,21 @@ word-more {w} {ws} h g = record { is-clean = clean-both (wordText w) (spaced ws)
 pub number-more : {n : ℕ} {ws : List Word} → Plain ws → Plain (number n ∷ ws)
 number-more {n} g = word-more (number-clean n) g
 
+pub plain-both : (a b : List Word) → Plain a → Plain b → Plain (a ++ b)
+plain-both a b h g = record { is-clean = ap clean (spaced-both a b) ∙ clean-both _ _ (h .is-clean) (g .is-clean) }
+
+from-clean : clean (wordText (name (bytes "from"))) ≡ true
+unfolding clean wordText bytes both
+from-clean = refl
+
+pub mark-plain : (t : Tuple) → Plain (markWords current t)
+unfolding markWords current choose
+mark-plain t = word-more from-clean (number-more no-words)
+
 pub items-plain : (n : ℕ) (f : ℕ → Item) → Plain (joined n (λ i. itemWord (f i) ∷ []))
 unfolding joined
 items-plain zero f = no-words
-items-plain (suc n) f = record {
-  is-clean =
-      ap clean (spaced-both (joined n (λ i. itemWord (f i) ∷ [])) _)
-      ∙ clean-both _ _ (items-plain n f .is-clean) (word-more (item-clean (f n)) no-words .is-clean);
-}
+items-plain (suc n) f = plain-both _ _ (items-plain n f) (word-more (item-clean (f n)) no-words)
 
 -- ---- whole lines, of which n open with `tuple `
 abbrev pub tupleWord : List ℕ

@@ -8,7 +8,7 @@ use mathlib.Core.Logic.{_⊎_, inl, inr}
 use native.Mathlib.Omega.{arith}
 use lib.ListN.{length}
 use Rattle.net.specs.Choice.{choose, all}
-use Rattle.net.specs.Records.{emptyNet, nodeAt, addressOf}
+use Rattle.net.specs.Records.{emptyNet, addressOf}
 use Rattle.sound.specs.Soundness.{soundOf}
 use Rattle.written.specs.Types.{Net}
 use Rattle.readers.specs.Reader.{Parsed, got, fault, Reader, pure, andThen, requireIn, require, faultAt, _>>=_, _>>_}
@@ -20,7 +20,7 @@ use Rattle.keeping.specs.Admission.{admits}
 use Rattle.image.specs.Image.{beyondRow, refused, accepted, judgedNet, openedOf}
 use Rattle.accepted.specs.ImageClaims.{AcceptedIsSound}
 use Rattle.written.specs.ImageOf.{netBits, imageOf}
-use Rattle.fresh.specs.Fresh.{netFits, nodeStarts, freshOf}
+use Rattle.fresh.specs.Fresh.{netFits, startsAt, freshOf}
 use Rattle.written.specs.WrittenClaims.{Bytes, AcceptedIsWritten, WrittenIsBytes, OneImage, OneNet}
 use Rattle.net.proofs.Laws.{both-i, both-l, both-r, choose-true}
 use Rattle.accepted.proofs.AcceptedSound.{accepted-is-sound}
@@ -138,7 +138,7 @@ unfolding freshOf
 fresh-only net h =
     let g = both-r (netFits net) _ h in
     let i = both-r (soundOf net) _ g in
-    (fresh-ok net (both-l _ _ h) (both-l _ _ g) (both-l _ _ i), both-r (all 16 (λ a. nodeStarts (nodeAt net (addressOf a)))) _ i)
+    (fresh-ok net (both-l _ _ h) (both-l _ _ g) (both-l _ _ i), both-r (all 16 (λ a. startsAt net (addressOf a))) _ i)
 
 only : (s : List ℕ) (net : Net) → Bytes s → openedOf s ≡ accepted net → (freshOf net ≡ true) × (s ≡ imageOf net)
 unfolding openedOf imageOf accepted AcceptedIsSound

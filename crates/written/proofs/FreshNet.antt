@@ -1,22 +1,24 @@
--- The nets that the layout of an image gives (`WrittenWhole.antt`) pass the tests of `specs/Fresh.antt` on arrays, readings
--- and starting processes; and a net that passes these and is sound is one of them. Assumes nothing.
-use Prim.Native.Nat.{ℕ, zero, suc}
+-- The nets that the layout of an image gives (`WrittenWhole.antt`) pass the tests of `specs/Fresh.antt` on arrays, readings,
+-- starting processes and marks; and a net that passes these and is sound is one of them. Assumes nothing.
+use Prim.Native.Nat.{ℕ, zero, suc, _<_, _≤_}
 use mathlib.Core.Path.{_≡_, refl, sym, ap, _∙_}
 use mathlib.Core.Bool.{Bool, true, false}
 use mathlib.Core.List.{List}
 use native.Mathlib.Omega.{arith}
+use native.Mathlib.Decide.{decLe}
+use lib.ListN.{getD}
 use lib.Dec.{ltb}
-use borrow.Author.Tests.{eq-eqb}
-use Rattle.net.specs.Choice.{both, all}
-use Rattle.net.specs.Records.{startingAt, zeroField, zeroTuple, freeProcess, addressOf}
+use borrow.Author.Tests.{eq-eqb, ltb-true}
+use Rattle.net.specs.Choice.{both, implies, all}
+use Rattle.net.specs.Records.{startingAt, zeroField, zeroTuple, freeProcess, zeroNode, addressOf}
 use Rattle.net.specs.Records.{zeroTemplateField, zeroInstruction, fieldAt, processAt, tupleAt, patternAt, nodeAt}
 use Rattle.net.specs.Records.{instructionAt, withAction}
-use Rattle.written.specs.Types.{Place, Tuple, Process, Node, Target, Action, Instruction, Net}
+use Rattle.written.specs.Types.{Locality, Place, Tuple, Process, Node, Target, Action, Instruction, Net}
 use Rattle.sound.specs.Soundness.{allUnset, soundOf}
 use Rattle.fresh.specs.Fresh.{readingFits, itemFits, patternFits, tupleFits, processFits, nodeFits, instructionFits}
-use Rattle.fresh.specs.Fresh.{netFits, nodeStarts}
-use Rattle.net.proofs.Laws.{both-i, all-i, all-e}
-use Rattle.net.proofs.Every.{Every, Filled, filled-each, filled-at}
+use Rattle.fresh.specs.Fresh.{netFits, nodeStarts, ownMark, ownMarks, startsAt}
+use Rattle.net.proofs.Laws.{both-i, both-l, both-r, implies-i, all-i, all-e}
+use Rattle.net.proofs.Every.{Every, Filled, filled-at}
 use Rattle.net.proofs.SlotLaws.{slot-busy}
 use Rattle.sound.proofs.NetFacts.{sound-apart}
 use Rattle.fresh.proofs.FitLaws as FitLaws
@@ -26,6 +28,7 @@ use Rattle.fresh.proofs.StartLaws.{free-unset, starting-unset, zero-node-starts
 use Rattle.written.proofs.WrittenTuples.{TupleOk}
 use Rattle.written.proofs.WrittenTemplate.{TemplateOk}
 use Rattle.written.proofs.WrittenCode.{Communicated, Evaluated, Created, Forked, Acting, InstructionOk}
+use Rattle.written.proofs.WrittenStore.{TuplesOk}
 use Rattle.written.proofs.WrittenStages.{WithTuples}
 use Rattle.written.proofs.WrittenWhole.{NetOk}
 use Rattle.written.proofs.FreshFits.{net-fit}
@@ -34,29 +37,35 @@ use Rattle.written.proofs.FreshCode.{instruction-ok}
 use Rattle.written.proofs.WrittenProcesses.{Starts, ProcessesOk, first-busy, count-is}
 
 -- ---- a test that good records and the zero record pass
+module _ {A : Type 0} {U : ℕ → A → Type 0} {z d : A} {size count : ℕ} {xs : List A} where
+  passes-at : (test : ℕ → A → Bool) → Every (λ j. Filled (U j) (λ x. z ≡ x) count j) d size xs
+      → ((j : ℕ) (x : A) → U j x → test j x ≡ true) → ((j : ℕ) → test j z ≡ true) → Every (λ j x. test j x ≡ true) d size xs
+  passes-at test e f g = record { size-is = e .size-is; holds = λ j h. go j h (decLe count j) }
+    where
+      go : (j : ℕ) → j < size → Dec (count ≤ j) → test j (getD xs j d) ≡ true
+      go j h (yes l) = ap (test j) (sym (e .holds j h .unused l)) ∙ g j
+      go j h (no l) = f j _ (e .holds j h .used (omega arith))
+
 passes : {A : Type 0} {U : A → Type 0} {z d : A} {size count : ℕ} {xs : List A} (test : A → Bool)
     → Every (Filled U (λ x. z ≡ x) count) d size xs → ((x : A) → U x → test x ≡ true) → test z ≡ true
     → Every (λ j x. test x ≡ true) d size xs
-passes test e f g = record {
-  size-is = e .size-is;
-  holds = filled-each {Q = λ x. test x ≡ true} e f (λ x d. ap test (sym d) ∙ g);
-}
+passes test e f g = passes-at (λ _. test) e (λ _. f) (λ _. g)
 
-tuple-fits : (n : ℕ) (t : Tuple) → TupleOk n t → tupleFits t ≡ true
+tuple-fits : (a : Locality) (n : ℕ) (t : Tuple) → TupleOk a n t → tupleFits t ≡ true
 unfolding tupleFits fieldAt zeroField itemFits readingFits
-tuple-fits n t ok =
+tuple-fits a n t ok =
     array-fits (λ f. itemFits (f .item)) (passes (λ f. itemFits (f .item)) (ok .fields-ok) (λ f i. i .fits) refl)
 
 starts-fit : (k : ℕ) (p : Process) → Starts k p → processFits p ≡ true
 unfolding processFits startingAt
 starts-fit k p s = ap (λ (q : Process). processFits q) (sym (s .is))
 
-node-fits : (n k : ℕ) (x : Node) → WithTuples n k x → nodeFits x ≡ true
+node-fits : (a n k : ℕ) (x : Node) → WithTuples a n k x → nodeFits x ≡ true
 unfolding nodeFits processAt tupleAt processFits freeProcess tupleFits zeroTuple fieldAt zeroField itemFits readingFits all both
-node-fits n k x ok =
+node-fits a n k x ok =
     both-i _ _ (eq-eqb _ _ (ok .row-ok .rights-ok .size-is))
     (both-i _ _ (array-fits processFits (passes processFits (ok .slots-ok .slots .slots-ok) (starts-fit k) refl))
-    (array-fits tupleFits (passes tupleFits (ok .store-ok .tuples-ok) (tuple-fits n) refl)))
+    (array-fits tupleFits (passes tupleFits (ok .store-ok .tuples-ok) (tuple-fits _ n) refl)))
 
 template-fits : (formals : Bool) (n : ℕ) (c : Instruction) → TemplateOk formals n c → instructionFits c ≡ true
 unfolding instructionFits patternAt zeroTemplateField patternFits readingFits
@@ -88,7 +97,7 @@ module _ (n k : ℕ) (c : Instruction) where
 
 pub net-fits : (s : Net) → NetOk s → netFits s ≡ true
 net-fits s ok =
-    FitLaws.net-fits s (passes nodeFits (ok .nodes-ok) (node-fits _ _) zero-node-fits)
+    FitLaws.net-fits s (passes-at (λ _. nodeFits) (ok .nodes-ok) (λ a. node-fits a _ _) (λ _. zero-node-fits))
     (passes instructionFits (ok .code-ok) (instruction-fits _ _) zero-instruction-fits)
 
 -- ---- starting processes
@@ -99,23 +108,43 @@ node-starts k c x ok =
     (λ i h. slot-busy x c (first-busy k c x ok) i h ∙ ap (ltb i) (sym (count-is k c x ok)))
     (passes allUnset (ok .slots-ok) (λ p s. ap allUnset (sym (s .is)) ∙ starting-unset _) free-unset .holds)
 
-pub net-starts : (s : Net) → NetOk s → all 16 (λ a. nodeStarts (nodeAt s (addressOf a))) ≡ true
-unfolding nodeAt
+-- ---- tuples with their own node's mark
+own-marks : (a : Locality) (n : ℕ) (x : Node) → TuplesOk a n x → ownMarks a x ≡ true
+unfolding ownMarks ownMark tupleAt
+own-marks a n x ok =
+    all-i 16 _ (λ i h. implies-i (ltb i (x .stored)) _ (λ e.
+    eq-eqb _ _ (ap (λ (l : Locality). l .0) (sym (ok .tuples-ok .holds i h .used (ltb-true i (x .stored) e) .mark-is)))))
+
+zero-node-owns : (a : Locality) → ownMarks a zeroNode ≡ true
+unfolding ownMarks ownMark zeroNode implies all both
+zero-node-owns a = refl
+
+pub net-starts : (s : Net) → NetOk s → all 16 (λ a. startsAt s (addressOf a)) ≡ true
+unfolding startsAt nodeAt
 net-starts s ok =
     all-i 16 _
-    (passes nodeStarts (ok .nodes-ok)
-    (λ x g. node-starts (s .length) (g .slots-ok .count) x (g .slots-ok .slots)) zero-node-starts .holds)
+    (passes-at (λ a x. both (nodeStarts x) (ownMarks (addressOf a) x)) (ok .nodes-ok)
+    (λ a x g.
+    both-i _ _ (node-starts (s .length) (g .slots-ok .count) x (g .slots-ok .slots)) (own-marks _ _ x (g .store-ok)))
+    (λ a. both-i _ _ zero-node-starts (zero-node-owns (addressOf a))) .holds)
 
 -- ---- and back
-pub fresh-ok : (s : Net) → netFits s ≡ true → soundOf s ≡ true → all 16 (λ a. nodeStarts (nodeAt s (addressOf a))) ≡ true → NetOk s
-unfolding nodeAt instructionAt
+pub fresh-ok : (s : Net) → netFits s ≡ true → soundOf s ≡ true → all 16 (λ a. startsAt s (addressOf a)) ≡ true → NetOk s
+unfolding startsAt nodeAt instructionAt
 fresh-ok s f h g =
     let fit = net-fit s f in
     let ok = sound-apart s (fit .shaped) h in
     record {
       addresses-ok = record { above = ok .addresses-least; below = omega (arith, ok .addresses-most) };
       length-ok = record { above = ok .length-least; below = omega (arith, ok .length-most) };
-      nodes-ok =
-          filled-at (ok .nodes-ok) (λ a l e. node-ok _ _ _ (fit .each-node a l) e (all-e 16 _ g a l)) (λ x. sym);
+      nodes-ok = record {
+        size-is = ok .nodes-ok .size-is;
+        holds = λ a l. let b = all-e 16 _ g a l in record {
+          used = λ u.
+              node-ok _ _ _ (fit .each-node a l) (ok .nodes-ok .holds a l .used u) (both-l _ _ b) a
+              (both-r (nodeStarts (nodeAt s (addressOf a))) _ b);
+          unused = λ u. sym (ok .nodes-ok .holds a l .unused u);
+        };
+      };
       code-ok = filled-at (ok .code-ok) (λ p l. instruction-ok _ _ _ (fit .each-instruction p l)) (λ c. sym);
     }

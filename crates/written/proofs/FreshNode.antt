@@ -2,19 +2,19 @@
 -- (`WrittenStages.antt`).
 -- Assumes nothing.
 use Prim.Native.Nat.{ℕ, zero, suc, _+_, _<_, _≤_}
-use mathlib.Core.Path.{_≡_, sym}
+use mathlib.Core.Path.{_≡_, sym, ap}
 use mathlib.Core.Bool.{true, false, not}
 use native.Mathlib.Omega.{arith}
-use lib.Dec.{ltb}
-use borrow.Author.Tests.{lt-ltb, le-ltb}
+use lib.Dec.{ltb, eqb}
+use borrow.Author.Tests.{lt-ltb, le-ltb, eqb-true}
 use Rattle.net.specs.Choice.{choose, fold}
-use Rattle.net.specs.Records.{startingAt, fieldAt, processAt, tupleAt}
+use Rattle.net.specs.Records.{startingAt, fieldAt, processAt, tupleAt, addressOf}
 use Rattle.net.specs.Shape.{ShapedProcess}
-use Rattle.written.specs.Types.{Tuple, Process, Node}
+use Rattle.written.specs.Types.{Locality, Tuple, Process, Node}
 use Rattle.sound.specs.Soundness.{allUnset}
 use Rattle.net.specs.Records.{processCount}
-use Rattle.fresh.specs.Fresh.{tupleFits, nodeFits, slotStarts, nodeStarts}
-use Rattle.net.proofs.Laws.{both-l, both-r, choose-e, choose-else, all-e}
+use Rattle.fresh.specs.Fresh.{tupleFits, nodeFits, slotStarts, nodeStarts, ownMark, ownMarks}
+use Rattle.net.proofs.Laws.{both-l, both-r, implies-e, choose-e, choose-else, all-e}
 use Rattle.net.proofs.Every.{chosen, filled-at, filled-map}
 use Rattle.sound.proofs.ZeroClaims.{not-true, all-unset}
 use Rattle.sound.proofs.NodeFacts as sound
@@ -25,9 +25,11 @@ use Rattle.written.proofs.WrittenStages.{WithTuples}
 use Rattle.written.proofs.FreshFits.{tuple-fit, node-fit}
 
 -- ---- tuples
-tuple-ok : (n : ℕ) (t : Tuple) → tupleFits t ≡ true → sound.TupleOk n t → TupleOk n t
+tuple-ok : (a : Locality) (n : ℕ) (t : Tuple) → tupleFits t ≡ true → eqb (t .mark .0) (a .0) ≡ true → sound.TupleOk n t
+    → TupleOk a n t
 unfolding fieldAt
-tuple-ok n t f ok = record {
+tuple-ok a n t f m ok = record {
+  mark-is = ap (λ (l : ℕ). addressOf l) (sym (eqb-true _ _ m));
   least = ok .least;
   most = ok .most;
   fields-ok = filled-at (ok .fields-ok) (λ j l e. record { sound = e; fits = tuple-fit t f .each-item j l }) (λ x. sym);
@@ -87,13 +89,22 @@ module _ (n k : ℕ) (x : Node) (f : nodeFits x ≡ true) (ok : sound.NodeOk n k
     };
   }
 
-  pub node-ok : WithTuples n k x
-  unfolding tupleAt
-  node-ok = record {
+  pub node-ok : (a : ℕ) → ownMarks (addressOf a) x ≡ true → WithTuples a n k x
+  unfolding ownMarks ownMark tupleAt
+  node-ok a own = record {
     row-ok = record { rights-ok = filled-map (λ r u. u) (λ r. sym) (ok .row-ok) };
     slots-ok = slots-ok;
     store-ok = record {
       few = ok .room;
-      tuples-ok = filled-at (ok .tuples-ok) (λ j l. tuple-ok n _ (node-fit x f .each-tuple j l)) (λ t. sym);
+      tuples-ok = record {
+        size-is = ok .tuples-ok .size-is;
+        holds = λ j l. record {
+          used = λ u.
+              tuple-ok (addressOf a) n _ (node-fit x f .each-tuple j l)
+              (implies-e (ltb j (x .stored)) _ (all-e 16 _ own j l) (lt-ltb j (x .stored) u))
+              (ok .tuples-ok .holds j l .used u);
+          unused = λ u. sym (ok .tuples-ok .holds j l .unused u);
+        };
+      };
     };
   }

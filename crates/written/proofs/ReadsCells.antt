@@ -15,20 +15,20 @@ use Rattle.written.proofs.ReadsWrites.{Reads, reads-map, reads-each}
 
 -- place j of an array once i turns are done: below i a good record, which undone gives what stood there before; from i
 -- on what stood there before
-pub record Rewritten {R : Type 0} (U : R → Type 0) (undo : R → R) (d : R) (before : List R) (i j : ℕ) (x : R) : Type 0 where
-  pub good : j < i → U x
+pub record Rewritten {R : Type 0} (U : ℕ → R → Type 0) (undo : R → R) (d : R) (before : List R) (i j : ℕ) (x : R) : Type 0 where
+  pub good : j < i → U j x
   pub undone : j < i → undo x ≡ getD before j d
   pub kept : i ≤ j → getD before j d ≡ x
 
 -- an array of a value, and the turns that fill it: the array; the value with record r put at place i by turn i, and as it
--- was before with record r there; what stands past the end; what a record satisfies, and what stood there before; what
--- else holds of the value once i turns are done; and what else turn i asks of a record
+-- was before with record r there; what stands past the end; what the record at place i satisfies, and what stood there
+-- before; what else holds of the value once i turns are done; and what else turn i asks of a record
 pub record Arrayed (A R : Type 0) : Type 1 where
   pub cells : A → List R
   pub put : ℕ → A → R → A
   pub cut : ℕ → A → R → A
   pub past : R
-  pub Good : R → Type 0
+  pub Good : ℕ → R → Type 0
   pub undo : R → R
   pub Frame : ℕ → A → Type 0
   pub Extra : ℕ → A → R → Type 0
@@ -50,7 +50,7 @@ module _ {A R : Type 0} (v : Arrayed A R) (a₀ : A) where
   -- turn i takes the value a to b
   pub record Turned (i : ℕ) (a b : A) : Type 0 where
     pub cell : R
-    pub cell-good : v .Good cell
+    pub cell-good : v .Good i cell
     pub cell-undone : v .undo cell ≡ at a₀ i
     pub extra : v .Extra i a cell
     pub result : v .put i a cell ≡ b
@@ -61,9 +61,9 @@ module _ {A R : Type 0} (v : Arrayed A R) (a₀ : A) where
         (w : R → List Bool) (cell : C → R) → i < length (v .cells a)
         → ((r : R) → v .cells (v .put i a r) ≡ set (v .cells a) i r)
         → Reads m u P
-        → ((x : C) → P x → v .Good (cell x) × (v .undo (cell x) ≡ at a₀ i) × v .Extra i a (cell x))
+        → ((x : C) → P x → v .Good i (cell x) × (v .undo (cell x) ≡ at a₀ i) × v .Extra i a (cell x))
         → ((x : C) → P x → w (cell x) ≡ u x)
-        → ((r : R) → v .Good r → v .undo r ≡ at a₀ i → v .Extra i a r → (x : C) × P x × (cell x ≡ r))
+        → ((r : R) → v .Good i r → v .undo r ≡ at a₀ i → v .Extra i a r → (x : C) × P x × (cell x ≡ r))
         → Reads (m >>= (λ x. pure (v .put i a (cell x)))) (λ b. w (at b i)) (Turned i a)
     reads-turn w cell l e r keeps writes parts =
         reads-map (λ x. v .put i a (cell x)) r
@@ -168,7 +168,7 @@ module _ {A R : Type 0} (v : Arrayed A R) (a₀ : A) where
 -- ---- an array that held zero records: filled up to i
 module _ {R : Type 0} {U : R → Type 0} {z d : R} {size i : ℕ} {xs : List R} where
   pub rewritten-filled :
-      {c : ℕ} → c ≡ i → Every (Rewritten U (λ _. z) d (replicate size z) i) d size xs
+      {c : ℕ} → c ≡ i → Every (Rewritten (λ _. U) (λ _. z) d (replicate size z) i) d size xs
       → Every (Filled U (λ x. z ≡ x) c) d size xs
   rewritten-filled q e = record {
     size-is = e .size-is;
@@ -180,7 +180,7 @@ module _ {R : Type 0} {U : R → Type 0} {z d : R} {size i : ℕ} {xs : List R} 
 
   pub filled-rewritten :
       {c : ℕ} → i ≡ c → Every (Filled U (λ x. z ≡ x) i) d size xs
-      → Every (Rewritten U (λ _. z) d (replicate size z) c) d size xs
+      → Every (Rewritten (λ _. U) (λ _. z) d (replicate size z) c) d size xs
   filled-rewritten q e = record {
     size-is = e .size-is;
     holds = λ j h. record {

@@ -85,9 +85,9 @@ module _ (bits : List Bool) (p : ℕ) where
       ∙ ap (λ (x : ℕ). x / 2 ^ k % 2) f
       ∙ bit-of-number w j k (omega arith)
 
--- ---- one byte after another
-module _ (f : ℕ → ℕ) where
-  abbrev listed : ℕ → List ℕ
+-- ---- one record, one byte, after another
+module _ {A : Type 0} (f : ℕ → A) where
+  abbrev pub listed : ℕ → List A
   listed n = joined n (λ i. f i ∷ [])
 
   pub listed-length : (n : ℕ) → length (listed n) ≡ n
@@ -96,14 +96,14 @@ module _ (f : ℕ → ℕ) where
   listed-length (suc n) =
       let e = length-append (listed n) (f n ∷ []) in let g = listed-length n in omega arith
 
-  listed-at : (n i : ℕ) → i < n → getD (listed n) i 0 ≡ f i
+  pub listed-at : (d : A) (n i : ℕ) → i < n → getD (listed n) i d ≡ f i
   unfolding joined
-  listed-at zero i h = absurd (omega arith)
-  listed-at (suc n) i h = go (listed-at n i) (split i n h)
+  listed-at d zero i h = absurd (omega arith)
+  listed-at d (suc n) i h = go (listed-at d n i) (split i n h)
     where
-      go : (i < n → getD (listed n) i 0 ≡ f i) → (i < n) ⊎ (i ≡ n) → getD (listed n ++ (f n ∷ [])) i 0 ≡ f i
-      go g (inl l) = List·getD-append (listed n) (f n ∷ []) 0 i (omega (arith, listed-length n)) ∙ g l
-      go g (inr e) = getD-at (listed n) (f n) [] 0 i (listed-length n ∙ sym e) ∙ ap f (sym e)
+      go : (i < n → getD (listed n) i d ≡ f i) → (i < n) ⊎ (i ≡ n) → getD (listed n ++ (f n ∷ [])) i d ≡ f i
+      go g (inl l) = List·getD-append (listed n) (f n ∷ []) d i (omega (arith, listed-length n)) ∙ g l
+      go g (inr e) = getD-at (listed n) (f n) [] d i (listed-length n ∙ sym e) ∙ ap f (sym e)
 
 -- ---- the bytes of bits
 pub bytes-length : (bits : List Bool) → length (bytesOf bits) ≡ (length bits + 7) / 8
@@ -113,7 +113,7 @@ bytes-length bits = listed-length (λ i. numberIn bits (8 * i) 8) ((length bits 
 bytes-at : (bits : List Bool) (i : ℕ) → i < length (bytesOf bits) → getD (bytesOf bits) i 0 ≡ numberIn bits (8 * i) 8
 unfolding bytesOf
 bytes-at bits i h =
-    listed-at (λ j. numberIn bits (8 * j) 8) ((length bits + 7) / 8) i (omega (arith, bytes-length bits))
+    listed-at (λ j. numberIn bits (8 * j) 8) 0 ((length bits + 7) / 8) i (omega (arith, bytes-length bits))
 
 pub bytes-small : (bits : List Bool) → Bytes (bytesOf bits)
 bytes-small bits = record {

@@ -65,10 +65,10 @@ reads-header =
     (λ b z. refl)
 
 -- ---- 2 to 5. each pass, in the words of `specs/ImageOf.antt`
-few : (s : Net) {L : ℕ → ℕ → Node → Type 0} → Staged L s → s .addresses ≤ 16
+few : (s : Net) {L : ℕ → ℕ → ℕ → Node → Type 0} → Staged L s → s .addresses ≤ 16
 few s g = omega (arith, g .addresses-ok .below)
 
-short : (s : Net) {L : ℕ → ℕ → Node → Type 0} → Staged L s → s .length ≤ 512
+short : (s : Net) {L : ℕ → ℕ → ℕ → Node → Type 0} → Staged L s → s .length ≤ 512
 short s g = omega (arith, g .length-ok .below)
 
 pass-rows : (s : Net) → Staged Blank s → Reads (rows s) rowsBits (RowsPass s)

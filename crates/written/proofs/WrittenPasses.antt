@@ -39,7 +39,7 @@ pub record Beside (s₀ s : Net) : Type 0 where
   pub length-is : s₀ .length ≡ s .length
   pub code-is : s₀ .code ≡ s .code
 
-abbrev pub passOver : Net → (Node → Type 0) → (Node → Node) → Arrayed Net Node
+abbrev pub passOver : Net → (ℕ → Node → Type 0) → (Node → Node) → Arrayed Net Node
 passOver s₀ Good undo = record {
   cells = λ s. s .nodes;
   put = λ a s x. withNode s (addressOf a) x;
@@ -56,7 +56,7 @@ kept : (s₀ s : Net) (a : Locality) (x : Node) → Beside s₀ s → Beside s�
 unfolding withNode
 kept s₀ s a x e = record { addresses-are = e .addresses-are; length-is = e .length-is; code-is = e .code-is }
 
-module _ (s₀ : Net) (Good : Node → Type 0) (undo : Node → Node) (f : ℕ → Net → Reader Net) (w : Node → List Bool) where
+module _ (s₀ : Net) (Good : ℕ → Node → Type 0) (undo : Node → Node) (f : ℕ → Net → Reader Net) (w : Node → List Bool) where
   filling-pass :
       s₀ .addresses ≤ 16 → length (s₀ .nodes) ≡ 16
       → ((a : ℕ) → a < s₀ .addresses → (s : Net) → Beside s₀ s
@@ -85,7 +85,7 @@ abbrev pub rowless : Node → Node
 rowless x = withRow x zeroRow
 
 unfoldable pub RowsPass : Net → Net → Type 0
-RowsPass s₀ = Through (passOver s₀ (λ x. RowOk (s₀ .addresses) (x .row)) rowless) s₀ (s₀ .addresses)
+RowsPass s₀ = Through (passOver s₀ (λ a x. RowOk (s₀ .addresses) (x .row)) rowless) s₀ (s₀ .addresses)
 
 module _ (s₀ : Net) (h : s₀ .addresses ≤ 16) (l : length (s₀ .nodes) ≡ 16)
     (bare : (a : ℕ) → a < s₀ .addresses → getD (s₀ .nodes) a pastNode ≡ zeroNode) where
@@ -94,9 +94,9 @@ module _ (s₀ : Net) (h : s₀ .addresses ≤ 16) (l : length (s₀ .nodes) ≡
   unfolding rows eachAddress rowOf nodeAt RowsPass withNode withRow zeroNode
   reads-rows =
       let n : ℕ = s₀ .addresses in
-      reads-cells (passOver s₀ (λ x. RowOk n (x .row)) rowless) s₀ (λ a. rowOf (addressOf a)) n (λ x. rowBits n (x .row))
+      reads-cells (passOver s₀ (λ a x. RowOk n (x .row)) rowless) s₀ (λ a. rowOf (addressOf a)) n (λ x. rowBits n (x .row))
       (filling-pass s₀ _ _ _ _ h l (λ a m s e b g.
-      reads-turn (passOver s₀ (λ x. RowOk n (x .row)) rowless) s₀ a s (λ x. rowBits n (x .row)) (withRow (nodeAt s (addressOf a)))
+      reads-turn (passOver s₀ (λ _ x. RowOk n (x .row)) rowless) s₀ a s (λ x. rowBits n (x .row)) (withRow (nodeAt s (addressOf a)))
       (omega arith) (λ x. refl) (subst (λ (j : ℕ). Reads (row j) (rowBits n) (RowOk n)) (e .addresses-are) (reads-row n h))
       (λ r ok. (ok, ap (λ (x : Node). withRow x zeroRow) (sym b ∙ bare a m) ∙ sym (bare a m), tt)) (λ r ok. refl)
       (λ x ok u _. (x .row, ok, ap (λ (y : Node). withRow y (x .row)) (sym b ∙ sym u)))))
@@ -113,7 +113,7 @@ pub record Slots (k : ℕ) (x : Node) : Type 0 where
   pub slots : ProcessesOk k count x
 
 unfoldable pub ProcessesPass : Net → Net → Type 0
-ProcessesPass s₀ = Through (passOver s₀ (Slots (s₀ .length)) vacated) s₀ (s₀ .addresses)
+ProcessesPass s₀ = Through (passOver s₀ (λ a. Slots (s₀ .length)) vacated) s₀ (s₀ .addresses)
 
 -- a node that is bare once its processes are gone
 bare-again : (x y : Node) → vacated x ≡ y → y ≡ bareNode (y .row) free → bareNode (y .row) (x .processes) ≡ x
@@ -145,9 +145,9 @@ module _ (s₀ : Net) (h : s₀ .addresses ≤ 16) (k : s₀ .length ≤ 512) (l
       Reads (allProcesses s₀) (λ b. joined (s₀ .addresses) (λ a. processesBits (nodeAt b (addressOf a)))) (ProcessesPass s₀)
   unfolding allProcesses eachAddress processesOf nodeAt ProcessesPass withNode
   reads-allProcesses =
-      reads-cells (passOver s₀ (Slots (s₀ .length)) vacated) s₀ (λ a. processesOf (addressOf a)) (s₀ .addresses) processesBits
+      reads-cells (passOver s₀ (λ a. Slots (s₀ .length)) vacated) s₀ (λ a. processesOf (addressOf a)) (s₀ .addresses) processesBits
       (filling-pass s₀ _ _ _ _ h l (λ a m s e b g.
-      reads-turn (passOver s₀ (Slots (s₀ .length)) vacated) s₀ a s processesBits (λ x. x)
+      reads-turn (passOver s₀ (λ _. Slots (s₀ .length)) vacated) s₀ a s processesBits (λ x. x)
       (omega arith) (λ x. refl) (reads-slots a m s e b)
       (λ x ok. (record { count = ok .count; slots = ok .slots }, vacated-bare x _ (ok .bare) ∙ sym (bare a m), tt))
       (λ x ok. refl)
@@ -158,29 +158,31 @@ abbrev pub emptied : Node → Node
 emptied x = bareNode (x .row) (x .processes)
 
 unfoldable pub TuplesPass : Net → Net → Type 0
-TuplesPass s₀ = Through (passOver s₀ (TuplesOk (s₀ .addresses)) emptied) s₀ (s₀ .addresses)
+TuplesPass s₀ = Through (passOver s₀ (λ a. TuplesOk (addressOf a) (s₀ .addresses)) emptied) s₀ (s₀ .addresses)
 
 module _ (s₀ : Net) (h : s₀ .addresses ≤ 16) (l : length (s₀ .nodes) ≡ 16)
     (bare : (a : ℕ) → a < s₀ .addresses → getD (s₀ .nodes) a pastNode ≡ emptied (getD (s₀ .nodes) a pastNode)) where
   reads-store : (a : ℕ) → a < s₀ .addresses → (s : Net) → Beside s₀ s
       → getD (s₀ .nodes) a pastNode ≡ getD (s .nodes) a pastNode
-      → Reads (tuples (s .addresses) (getD (s .nodes) a pastNode)) tuplesBits
-      (Stocked (s₀ .addresses) (getD (s₀ .nodes) a pastNode .row) (getD (s₀ .nodes) a pastNode .processes))
+      → Reads (tuples (addressOf a) (s .addresses) (getD (s .nodes) a pastNode)) tuplesBits
+      (Stocked (addressOf a) (s₀ .addresses) (getD (s₀ .nodes) a pastNode .row) (getD (s₀ .nodes) a pastNode .processes))
   reads-store a m s e b =
       let y : Node = getD (s₀ .nodes) a pastNode in
       let n : ℕ = s₀ .addresses in
-      subst (λ (j : ℕ). Reads (tuples j (getD (s .nodes) a pastNode)) tuplesBits (Stocked n (y .row) (y .processes)))
+      let own : Locality = addressOf a in
+      subst (λ (j : ℕ). Reads (tuples own j (getD (s .nodes) a pastNode)) tuplesBits (Stocked own n (y .row) (y .processes)))
       (e .addresses-are)
-      (subst (λ (x : Node). Reads (tuples n x) tuplesBits (Stocked n (y .row) (y .processes)))
-      (sym (bare a m) ∙ b) (reads-tuples n (y .row) (y .processes) h))
+      (subst (λ (x : Node). Reads (tuples own n x) tuplesBits (Stocked own n (y .row) (y .processes)))
+      (sym (bare a m) ∙ b) (reads-tuples own n (y .row) (y .processes) h))
 
   pub reads-allTuples :
       Reads (allTuples s₀) (λ b. joined (s₀ .addresses) (λ a. tuplesBits (nodeAt b (addressOf a)))) (TuplesPass s₀)
   unfolding allTuples eachAddress tuplesOf nodeAt TuplesPass withNode bareNode
   reads-allTuples =
-      reads-cells (passOver s₀ (TuplesOk (s₀ .addresses)) emptied) s₀ (λ a. tuplesOf (addressOf a)) (s₀ .addresses) tuplesBits
+      let good : ℕ → Node → Type 0 = λ a. TuplesOk (addressOf a) (s₀ .addresses) in
+      reads-cells (passOver s₀ good emptied) s₀ (λ a. tuplesOf (addressOf a)) (s₀ .addresses) tuplesBits
       (filling-pass s₀ _ _ _ _ h l (λ a m s e b g.
-      reads-turn (passOver s₀ (TuplesOk (s₀ .addresses)) emptied) s₀ a s tuplesBits (λ x. x)
+      reads-turn (passOver s₀ good emptied) s₀ a s tuplesBits (λ x. x)
       (omega arith) (λ x. refl) (reads-store a m s e b)
       (λ x ok. (
         ok .store,
@@ -211,7 +213,7 @@ codeOf s₀ = record {
   put = λ p s c. withInstruction s (placeOf p) c;
   cut = λ p s c. withInstruction s (placeOf p) c;
   past = pastInstruction;
-  Good = InstructionOk (s₀ .addresses) (s₀ .length);
+  Good = λ p. InstructionOk (s₀ .addresses) (s₀ .length);
   undo = λ c. zeroInstruction;
   Frame = λ i s. Above s₀ s;
   Extra = λ i s c. Unit {0};

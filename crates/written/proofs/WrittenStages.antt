@@ -2,7 +2,7 @@
 -- it later passes leave alone. Assumes nothing.
 use Prim.Native.Nat.{ℕ, _+_, _<_, _≤_}
 use mathlib.Core.Path.{_≡_, refl, sym, ap, subst, _∙_}
-use mathlib.Core.List.{[], _++_}
+use mathlib.Core.List.{List, [], _++_}
 use native.Mathlib.Omega.{arith}
 use lib.ListN.{length, getD, replicate}
 use Rattle.written.specs.Types.{Locality, Node, Net}
@@ -20,50 +20,55 @@ use Rattle.written.proofs.WrittenProcesses.{bareNode, node-is}
 use Rattle.written.proofs.WrittenRow.{RowOk}
 use Rattle.written.proofs.WrittenStore.{TuplesOk}
 
--- ---- what stands at each address: L with the address count and the code length, and zero records past the count
-pub record Staged (L : ℕ → ℕ → Node → Type 0) (s : Net) : Type 0 where
+-- ---- what stands at each address: L with the address, the address count and the code length, and zero records past the
+-- count
+abbrev pub AtEach : (ℕ → Node → Type 0) → ℕ → List Node → Type 0
+AtEach U n = Every (λ a. Filled (U a) (λ x. zeroNode ≡ x) n a) pastNode 16
+
+pub record Staged (L : ℕ → ℕ → ℕ → Node → Type 0) (s : Net) : Type 0 where
   pub addresses-ok : Ranged 1 17 (s .addresses)
   pub length-ok : Ranged 1 513 (s .length)
-  pub nodes-ok : Every (Filled (L (s .addresses) (s .length)) (λ x. zeroNode ≡ x) (s .addresses)) pastNode 16 (s .nodes)
+  pub nodes-ok : AtEach (λ a. L a (s .addresses) (s .length)) (s .addresses) (s .nodes)
   pub code-is : emptyNet .code ≡ s .code
 
 -- after each pass
-abbrev pub Blank : ℕ → ℕ → Node → Type 0
-Blank n k x = zeroNode ≡ x
+abbrev pub Blank : ℕ → ℕ → ℕ → Node → Type 0
+Blank a n k x = zeroNode ≡ x
 
-pub record WithRow (n k : ℕ) (x : Node) : Type 0 where
+pub record WithRow (a n k : ℕ) (x : Node) : Type 0 where
   pub row-ok : RowOk n (x .row)
   pub bare : x ≡ bareNode (x .row) free
 
-pub record WithProcesses (n k : ℕ) (x : Node) : Type 0 where
+pub record WithProcesses (a n k : ℕ) (x : Node) : Type 0 where
   pub row-ok : RowOk n (x .row)
   pub slots-ok : Slots k x
   pub bare : x ≡ emptied x
 
-pub record WithTuples (n k : ℕ) (x : Node) : Type 0 where
+pub record WithTuples (a n k : ℕ) (x : Node) : Type 0 where
   pub row-ok : RowOk n (x .row)
   pub slots-ok : Slots k x
-  pub store-ok : TuplesOk n x
+  pub store-ok : TuplesOk (addressOf a) n x
 
 -- a pass takes one stage to the next
-module _ {L M : ℕ → ℕ → Node → Type 0} {Good : Node → Type 0} {undo : Node → Node} (s₀ s : Net) where
+module _ {L M : ℕ → ℕ → ℕ → Node → Type 0} {Good : ℕ → Node → Type 0} {undo : Node → Node} (s₀ s : Net) where
   pub staged-pass :
       Staged L s₀ → Through (passOver s₀ Good undo) s₀ (s₀ .addresses) s
-      → ((x y : Node) → L (s₀ .addresses) (s₀ .length) y → Good x → undo x ≡ y → M (s₀ .addresses) (s₀ .length) x)
+      → ((a : ℕ) (x y : Node) → L a (s₀ .addresses) (s₀ .length) y → Good a x → undo x ≡ y
+      → M a (s₀ .addresses) (s₀ .length) x)
       → Staged M s
   staged-pass g t next = record {
     addresses-ok = subst (Ranged 1 17) (t .frame .addresses-are) (g .addresses-ok);
     length-ok = subst (Ranged 1 513) (t .frame .length-is) (g .length-ok);
     nodes-ok =
-        subst (λ (n : ℕ). Every (Filled (M n (s .length)) (λ x. zeroNode ≡ x) n) pastNode 16 (s .nodes))
+        subst (λ (n : ℕ). AtEach (λ a. M a n (s .length)) n (s .nodes))
         (t .frame .addresses-are)
-        (subst (λ (k : ℕ). Every (Filled (M (s₀ .addresses) k) (λ x. zeroNode ≡ x) (s₀ .addresses)) pastNode 16 (s .nodes))
+        (subst (λ (k : ℕ). AtEach (λ a. M a (s₀ .addresses) k) (s₀ .addresses) (s .nodes))
         (t .frame .length-is)
         (record {
           size-is = t .cells-ok .size-is;
           holds = λ a h. record {
             used = λ l.
-                next _ _ (g .nodes-ok .holds a h .used l) (t .cells-ok .holds a h .good l) (t .cells-ok .holds a h .undone l);
+                next a _ _ (g .nodes-ok .holds a h .used l) (t .cells-ok .holds a h .good l) (t .cells-ok .holds a h .undone l);
             unused = λ l. g .nodes-ok .holds a h .unused l ∙ t .cells-ok .holds a h .kept l;
           };
         }));
@@ -74,7 +79,7 @@ pub rowed : (s₀ s : Net) → Staged Blank s₀ → RowsPass s₀ s → Staged 
 unfolding RowsPass withRow zeroNode bareNode
 rowed s₀ s g t =
     staged-pass s₀ s g t
-    (λ x y b ok u.
+    (λ a x y b ok u.
     let e : rowless x ≡ zeroNode = u ∙ sym b in
     record {
       row-ok = ok;
@@ -87,7 +92,7 @@ pub peopled : (s₀ s : Net) → Staged WithRow s₀ → ProcessesPass s₀ s �
 unfolding ProcessesPass bareNode
 peopled s₀ s g t =
     staged-pass s₀ s g t
-    (λ x y b ok u.
+    (λ a x y b ok u.
     let e : vacated x ≡ bareNode (y .row) free = u ∙ b .bare in
     record {
       row-ok = subst (RowOk (s₀ .addresses)) (ap (λ (z : Node). z .row) (sym u)) (b .row-ok);
@@ -108,7 +113,7 @@ pub stocked : (s₀ s : Net) → Staged WithProcesses s₀ → TuplesPass s₀ s
 unfolding TuplesPass bareNode
 stocked s₀ s g t =
     staged-pass s₀ s g t
-    (λ x y b ok u. record {
+    (λ a x y b ok u. record {
       row-ok = subst (RowOk (s₀ .addresses)) (ap (λ (z : Node). z .row) (sym u)) (b .row-ok);
       slots-ok = slots-as (s₀ .length) y x (ap (λ (z : Node). z .processes) (sym u)) (b .slots-ok);
       store-ok = ok;
@@ -128,7 +133,7 @@ module _ {X : Type 0} (part : Node → X) where
     parts-are = λ a h. g .parts-are a (omega (arith, f .addresses-are)) ∙ f .parts-are a h;
   }
 
-  pub pass-keeps : {Good : Node → Type 0} {undo : Node → Node} (s₀ s : Net) → s₀ .addresses ≤ 16
+  pub pass-keeps : {Good : ℕ → Node → Type 0} {undo : Node → Node} (s₀ s : Net) → s₀ .addresses ≤ 16
       → Through (passOver s₀ Good undo) s₀ (s₀ .addresses) s → ((x : Node) → part (undo x) ≡ part x) → Keeps part s₀ s
   unfolding nodeAt
   pass-keeps s₀ s l t e = record {

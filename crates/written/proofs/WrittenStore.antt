@@ -7,9 +7,9 @@ use native.Mathlib.Omega.{arith}
 use lib.ListN.{getD, set, replicate, length-replicate, getD-replicate}
 use lib.Seq.{set-getD, set-set}
 use borrow.Author.Tests.{lt-ltb}
-use Rattle.written.specs.Types.{Tuple, Row, Process, Node}
+use Rattle.written.specs.Types.{Locality, Tuple, Row, Process, Node}
 use Rattle.net.specs.Records.{zeroTuple, tupleAt}
-use Rattle.net.specs.Records.{withTuple}
+use Rattle.net.specs.Records.{withTuple, marked, addressOf}
 use Rattle.image.specs.Image.{row, processes, stored, tuples}
 use Rattle.written.specs.ImageOf.{bitsOf}
 use Rattle.text.specs.Joined.{joined}
@@ -20,12 +20,13 @@ use Rattle.net.proofs.Past.{pastTuple}
 use Rattle.written.proofs.ReadsWrites.{Reads, reads-then, reads-field}
 use Rattle.written.proofs.ReadsCells.{Arrayed, Through, Filling, reads-turn, reads-cells}
 use Rattle.written.proofs.ReadsCells.{rewritten-filled, filled-rewritten}
-use Rattle.written.proofs.WrittenTuples.{TupleOk, reads-tuple}
+use Rattle.written.proofs.WrittenTuples.{TupleOk, reads-tuple, marked-bits, marked-ok, marked-again}
 use Rattle.written.proofs.WrittenProcesses.{bareNode, node-is}
 
-pub record TuplesOk (n : ℕ) (x : Node) : Type 0 where
+-- the store of the node at address a
+pub record TuplesOk (a : Locality) (n : ℕ) (x : Node) : Type 0 where
   pub few : x .stored ≤ 16
-  pub tuples-ok : Every (Filled (TupleOk n) (λ t. zeroTuple ≡ t) (x .stored)) pastTuple 16 (x .tuples)
+  pub tuples-ok : Every (Filled (TupleOk a n) (λ t. zeroTuple ≡ t) (x .stored)) pastTuple 16 (x .tuples)
 
 put-tuple : (x : Node) (t : Tuple) → x .stored < 16
     → withTuple x t
@@ -42,13 +43,13 @@ record Storing (r : Row) (ps : List Process) (i : ℕ) (x : Node) : Type 0 where
   processes-are : ps ≡ x .processes
   stored-is : i ≡ x .stored
 
-abbrev storesIn : ℕ → Row → List Process → Arrayed Node Tuple
-storesIn n r ps = record {
+abbrev storesIn : Locality → ℕ → Row → List Process → Arrayed Node Tuple
+storesIn a n r ps = record {
   cells = λ x. x .tuples;
   put = λ i x t. withTuple x t;
   cut = cutTuple;
   past = pastTuple;
-  Good = TupleOk n;
+  Good = λ i. TupleOk a n;
   undo = λ t. zeroTuple;
   Frame = Storing r ps;
   Extra = λ i x t. Unit {0};
@@ -72,13 +73,13 @@ tuples-cut x i t l e =
     (set-set y i t (getD y i pastTuple) ∙ set-getD y i pastTuple)
 
 -- a node without tuples becomes one with tuples
-pub record Stocked (n : ℕ) (r : Row) (ps : List Process) (x : Node) : Type 0 where
-  pub store : TuplesOk n x
+pub record Stocked (a : Locality) (n : ℕ) (r : Row) (ps : List Process) (x : Node) : Type 0 where
+  pub store : TuplesOk a n x
   pub same-row : r ≡ x .row
   pub same-processes : ps ≡ x .processes
 
-module _ (n : ℕ) (r : Row) (ps : List Process) (h : n ≤ 16) where
-  filling-tuples : (c : ℕ) → c ≤ 16 → Filling (storesIn n r ps) (bareNode r ps) (stored n) c tupleBits
+module _ (a : Locality) (n : ℕ) (r : Row) (ps : List Process) (h : n ≤ 16) where
+  filling-tuples : (c : ℕ) → c ≤ 16 → Filling (storesIn a n r ps) (bareNode r ps) (stored a n) c tupleBits
   unfolding stored bareNode cutTuple
   filling-tuples c l = record {
     room = l;
@@ -86,10 +87,11 @@ module _ (n : ℕ) (r : Row) (ps : List Process) (h : n ≤ 16) where
     begins = record { row-is = refl; processes-are = refl; stored-is = refl };
     starts = λ x e d. node-is x r ps 0 (replicate 16 zeroTuple) (e .row-is) (e .processes-are) (e .stored-is) d;
     turn = λ i m x e b s.
-        reads-turn (storesIn n r ps) (bareNode r ps) i x tupleBits (λ t. t) (omega arith)
+        reads-turn (storesIn a n r ps) (bareNode r ps) i x tupleBits (marked a) (omega arith)
         (λ t. tuples-put x i t (omega arith) (e .stored-is)) (reads-tuple n h)
-        (λ t g. (g, sym (getD-replicate 16 i zeroTuple pastTuple (omega arith)), tt)) (λ t g. refl)
-        (λ t g _ _. (t, g, refl));
+        (λ t g. (marked-ok a t _ n g, sym (getD-replicate 16 i zeroTuple pastTuple (omega arith)), tt))
+        (λ t g. marked-bits a t)
+        (λ t g _ _. (marked (addressOf 0) t, marked-ok (addressOf 0) t a n g, marked-again a t (addressOf 0) (g .mark-is)));
     put-cells = λ i m x t e. tuples-put x i t (omega arith) (e .stored-is);
     put-frame = λ i m x t e s _.
         let d = e .stored-is in
@@ -101,7 +103,7 @@ module _ (n : ℕ) (r : Row) (ps : List Process) (h : n ≤ 16) where
     put-cut = λ i m x t e. tuples-cut x i t (omega arith) (e .stored-is);
   }
 
-  through-tuples : (c : ℕ) (x : Node) → c < 17 → Through (storesIn n r ps) (bareNode r ps) c x → Stocked n r ps x
+  through-tuples : (c : ℕ) (x : Node) → c < 17 → Through (storesIn a n r ps) (bareNode r ps) c x → Stocked a n r ps x
   unfolding bareNode
   through-tuples c x l g =
       let e = g .frame .stored-is in
@@ -111,18 +113,18 @@ module _ (n : ℕ) (r : Row) (ps : List Process) (h : n ≤ 16) where
         same-processes = g .frame .processes-are;
       }
 
-  tuples-through : (x : Node) → Stocked n r ps x → Through (storesIn n r ps) (bareNode r ps) (x .stored) x
+  tuples-through : (x : Node) → Stocked a n r ps x → Through (storesIn a n r ps) (bareNode r ps) (x .stored) x
   unfolding bareNode
   tuples-through x g = record {
     frame = record { row-is = g .same-row; processes-are = g .same-processes; stored-is = refl };
     cells-ok = filled-rewritten refl (g .store .tuples-ok);
   }
 
-  pub reads-tuples : Reads (tuples n (bareNode r ps)) tuplesBits (Stocked n r ps)
+  pub reads-tuples : Reads (tuples a n (bareNode r ps)) tuplesBits (Stocked a n r ps)
   unfolding tuples tuplesBits tupleAt
   reads-tuples =
       reads-then (reads-field 5 0 17 22 (omega arith))
-      (λ c l. reads-cells (storesIn n r ps) (bareNode r ps) (stored n) c tupleBits
+      (λ c l. reads-cells (storesIn a n r ps) (bareNode r ps) (stored a n) c tupleBits
       (filling-tuples c (omega (arith, l .below))))
       (record {
         keeps = λ c x l g. through-tuples c x (l .below) g;

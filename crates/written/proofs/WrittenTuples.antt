@@ -1,7 +1,7 @@
 -- Tuples (`Image.antt` of `image`, `specs/ImageOf.antt`, 4): what is read is what is written.
 -- Assumes nothing.
 use Prim.Native.Nat.{ℕ, zero, suc, _+_, _-_, _<_, _≤_}
-use mathlib.Core.Path.{_≡_, refl, sym, ap, _∙_}
+use mathlib.Core.Path.{_≡_, refl, sym, ap, subst, _∙_}
 use mathlib.Core.Bool.{Bool, true}
 use mathlib.Core.List.{List, _++_}
 use native.Mathlib.Omega.{arith}
@@ -12,7 +12,7 @@ use lib.IntN.{ℤ}
 use borrow.Author.Tests.{ltb-true, lt-ltb}
 use Rattle.net.specs.Choice.{choose}
 use Rattle.written.specs.Types.{Locality, Item, Field, Tuple}
-use Rattle.net.specs.Records.{zeroField, zeroTuple, fieldAt, withField}
+use Rattle.net.specs.Records.{zeroField, zeroTuple, fieldAt, withField, marked, addressOf}
 use Rattle.sound.specs.Soundness.{itemSound}
 use Rattle.image.specs.Image.{readingItem, addressItem, item, tupleField, tuple}
 use Rattle.written.specs.ImageOf.{bitsOf, addressBits, readingBits, itemBits, tupleBits}
@@ -81,27 +81,33 @@ module _ (n : ℕ) (h : n ≤ 16) where
   unfolding item
   reads-item = reads-kind sortOf rest (reads-bits 1) (λ x ok. sort-small x) item-starts reads-sort
 
--- ---- a tuple
-pub record TupleOk (n : ℕ) (t : Tuple) : Type 0 where
+-- ---- a tuple, with the mark of address a
+pub record TupleOk (a : Locality) (n : ℕ) (t : Tuple) : Type 0 where
+  pub mark-is : a ≡ t .mark
   pub least : 1 ≤ t .count
   pub most : t .count ≤ 4
   pub fields-ok : Every (Filled (λ f. ItemOk n (f .item)) (λ f. zeroField ≡ f) (t .count)) pastField 4 (t .fields)
 
 put-field : (t : Tuple) (f : Field) → t .count < 4
-    → withField t f ≡ record { count = t .count + 1; fields = set (t .fields) (t .count) f }
+    → withField t f ≡ record { count = t .count + 1; fields = set (t .fields) (t .count) f; mark = t .mark }
 unfolding withField
 put-field t f h = choose-true _ _ _ (lt-ltb (t .count) 4 h)
+
+-- a tuple with i fields and no mark yet
+record Counted (i : ℕ) (t : Tuple) : Type 0 where
+  count-is : t .count ≡ i
+  unmarked : addressOf 0 ≡ t .mark
 
 -- the fields of a tuple, read one by one
 abbrev fieldsOf : ℕ → Arrayed Tuple Field
 fieldsOf n = record {
   cells = λ t. t .fields;
   put = λ i t f. withField t f;
-  cut = λ i t f. record { count = i; fields = set (t .fields) i f };
+  cut = λ i t f. record { count = i; fields = set (t .fields) i f; mark = t .mark };
   past = pastField;
-  Good = λ f. ItemOk n (f .item);
+  Good = λ i f. ItemOk n (f .item);
   undo = λ f. zeroField;
-  Frame = λ i t. t .count ≡ i;
+  Frame = Counted;
   Extra = λ i t f. Unit {0};
   size = 4;
 }
@@ -111,13 +117,13 @@ fields-put t i f l e =
     ap (λ (x : Tuple). x .fields) (put-field t f (omega arith)) ∙ ap (λ (k : ℕ). set (t .fields) k f) e
 
 fields-cut : (t : Tuple) (i : ℕ) (f : Field) → i < 4 → t .count ≡ suc i
-    → withField (record { count = i; fields = set (t .fields) i f }) (getD (t .fields) i pastField) ≡ t
+    → withField (record { count = i; fields = set (t .fields) i f; mark = t .mark }) (getD (t .fields) i pastField) ≡ t
 fields-cut t i f l e =
     let c : i + 1 ≡ t .count = omega arith in
     let x : List Field = t .fields in
     put-field _ (getD x i pastField) l
-    ∙ ap (λ (k : ℕ). record { count = k; fields = set (set x i f) i (getD x i pastField) }) c
-    ∙ ap (λ y. record { count = t .count; fields = y }) (set-set x i f (getD x i pastField) ∙ set-getD x i pastField)
+    ∙ ap (λ (k : ℕ). record { count = k; fields = set (set x i f) i (getD x i pastField); mark = t .mark }) c
+    ∙ ap (λ y. record { count = t .count; fields = y; mark = t .mark }) (set-set x i f (getD x i pastField) ∙ set-getD x i pastField)
 
 module _ (n : ℕ) (h : n ≤ 16) where
   filling-fields : (k : ℕ) → k ≤ 4 → Filling (fieldsOf n) zeroTuple (tupleField n) k (λ f. itemBits (f .item))
@@ -125,34 +131,46 @@ module _ (n : ℕ) (h : n ≤ 16) where
   filling-fields k l = record {
     room = l;
     size-is = length-replicate 4 zeroField;
-    begins = refl;
+    begins = record { count-is = refl; unmarked = refl };
     starts = λ t e d.
-        ap (λ (c : ℕ). record { count = c; fields = replicate 4 zeroField }) (sym e)
-        ∙ ap (λ y. record { count = t .count; fields = y }) d;
+        ap (λ (c : ℕ). record { count = c; fields = replicate 4 zeroField; mark = addressOf 0 }) (sym (e .count-is))
+        ∙ ap (λ y. record { count = t .count; fields = y; mark = addressOf 0 }) d
+        ∙ ap (λ (m : Locality). record { count = t .count; fields = t .fields; mark = m }) (e .unmarked);
     turn = λ i m t e b s.
         reads-turn (fieldsOf n) zeroTuple i t (λ f. itemBits (f .item)) (λ x. record { item = x }) (omega arith)
-        (λ f. fields-put t i f (omega arith) e) (reads-item n h)
+        (λ f. fields-put t i f (omega arith) (e .count-is)) (reads-item n h)
         (λ x ok. (ok, sym (getD-replicate 4 i zeroField pastField (omega arith)), tt)) (λ x ok. refl)
         (λ f ok u _. (f .item, ok, refl));
-    put-cells = λ i m t f e. fields-put t i f (omega arith) e;
-    put-frame = λ i m t f e s _. ap (λ (x : Tuple). x .count) (put-field t f (omega arith)) ∙ omega arith;
+    put-cells = λ i m t f e. fields-put t i f (omega arith) (e .count-is);
+    put-frame = λ i m t f e s _.
+        let d = e .count-is in
+        subst (Counted (suc i)) (sym (put-field t f (omega arith)))
+        (record { count-is = omega arith; unmarked = e .unmarked });
     cut-cells = λ i m t f. refl;
-    cut-frame = λ i m t f e. refl;
+    cut-frame = λ i m t f e. record { count-is = refl; unmarked = e .unmarked };
     cut-extra = λ i m t f e. tt;
-    put-cut = λ i m t f e. fields-cut t i f (omega arith) e;
+    put-cut = λ i m t f e. fields-cut t i f (omega arith) (e .count-is);
   }
 
-  fields-through : (t : Tuple) (k : ℕ) → t .count ≡ k → TupleOk n t → Through (fieldsOf n) zeroTuple k t
+  fields-through : (t : Tuple) (k : ℕ) → t .count ≡ k → TupleOk (addressOf 0) n t → Through (fieldsOf n) zeroTuple k t
   unfolding zeroTuple
-  fields-through t k e ok = record { frame = e; cells-ok = filled-rewritten e (ok .fields-ok) }
+  fields-through t k e ok = record {
+    frame = record { count-is = e; unmarked = ok .mark-is };
+    cells-ok = filled-rewritten e (ok .fields-ok);
+  }
 
-  through-fields : (t : Tuple) (less : ℕ) → less < 4 → Through (fieldsOf n) zeroTuple (less + 1) t → TupleOk n t
+  through-fields : (t : Tuple) (less : ℕ) → less < 4 → Through (fieldsOf n) zeroTuple (less + 1) t → TupleOk (addressOf 0) n t
   unfolding zeroTuple
   through-fields t less l g =
-      let e = g .frame in
-      record { least = omega arith; most = omega arith; fields-ok = rewritten-filled e (g .cells-ok) }
+      let e = g .frame .count-is in
+      record {
+        mark-is = g .frame .unmarked;
+        least = omega arith;
+        most = omega arith;
+        fields-ok = rewritten-filled e (g .cells-ok);
+      }
 
-  pub reads-tuple : Reads (tuple n) tupleBits (TupleOk n)
+  pub reads-tuple : Reads (tuple n) tupleBits (TupleOk (addressOf 0) n)
   unfolding tuple tupleBits fieldAt
   reads-tuple =
       reads-then (reads-bits 2)
@@ -161,7 +179,7 @@ module _ (n : ℕ) (h : n ≤ 16) where
       (record {
         keeps = λ less t l g. through-fields t less l g;
         writes = λ less t l g.
-            let e = g .frame in
+            let e = g .frame .count-is in
             let c : t .count - 1 ≡ less = omega arith in
             ap (λ (x : ℕ). bitsOf 2 x ++ joined (t .count) (λ i. itemBits (getD (t .fields) i pastField .item))) c
             ∙ ap (λ (x : ℕ). bitsOf 2 less ++ joined x (λ i. itemBits (getD (t .fields) i pastField .item))) e;
@@ -170,3 +188,17 @@ module _ (n : ℕ) (h : n ≤ 16) where
             let b = ok .most in
             (t .count - 1, omega arith, fields-through t (t .count - 1 + 1) (omega arith) ok);
       })
+
+-- ---- the mark is no part of what is written
+module _ (a : Locality) (t : Tuple) where
+  pub marked-bits : tupleBits (marked a t) ≡ tupleBits t
+  unfolding tupleBits fieldAt marked
+  marked-bits = refl
+
+  pub marked-ok : (b : Locality) (n : ℕ) → TupleOk b n t → TupleOk a n (marked a t)
+  unfolding marked
+  marked-ok b n ok = record { mark-is = refl; least = ok .least; most = ok .most; fields-ok = ok .fields-ok }
+
+  pub marked-again : (b : Locality) → a ≡ t .mark → marked a (marked b t) ≡ t
+  unfolding marked
+  marked-again b e = ap (λ (m : Locality). record { count = t .count; fields = t .fields; mark = m }) e

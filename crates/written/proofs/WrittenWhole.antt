@@ -14,7 +14,7 @@ use Rattle.written.proofs.ReadsCells.{Through}
 use Rattle.written.proofs.WrittenCode.{InstructionOk}
 use Rattle.written.proofs.WrittenPasses.{net-is, passOver, rowless, free, vacated}
 use Rattle.written.proofs.WrittenPasses.{emptied, codeOf, RowsPass, ProcessesPass, TuplesPass, CodePass}
-use Rattle.written.proofs.WrittenStages.{Staged, Blank, WithTuples, rowed, peopled, stocked}
+use Rattle.written.proofs.WrittenStages.{AtEach, Staged, Blank, WithTuples, rowed, peopled, stocked}
 use Rattle.written.proofs.WrittenNet.{body, FromTuples, FromProcesses, FromRows, FromHeader, reads-fromHeader}
 use Rattle.written.proofs.WrittenNet.{empty-at}
 use Rattle.net.proofs.Past.{pastNode, pastInstruction}
@@ -23,8 +23,7 @@ use Rattle.written.proofs.WrittenProcesses.{bareNode}
 pub record NetOk (s : Net) : Type 0 where
   pub addresses-ok : Ranged 1 17 (s .addresses)
   pub length-ok : Ranged 1 513 (s .length)
-  pub nodes-ok :
-      Every (Filled (WithTuples (s .addresses) (s .length)) (λ x. zeroNode ≡ x) (s .addresses)) pastNode 16 (s .nodes)
+  pub nodes-ok : AtEach (λ a. WithTuples a (s .addresses) (s .length)) (s .addresses) (s .nodes)
   pub code-ok :
       Every (Filled (InstructionOk (s .addresses) (s .length)) (λ c. zeroInstruction ≡ c) (s .length)) pastInstruction 512
       (s .code)
@@ -82,8 +81,8 @@ module _ (b : Net) (ok : NetOk b) where
   node-at : (f : Node → Node) (a : ℕ) → a < 16 → getD (map f (b .nodes)) a pastNode ≡ f (getD (b .nodes) a pastNode)
   node-at f a h = map-at f (b .nodes) a pastNode pastNode (omega (arith, ok .nodes-ok .size-is))
 
-  pass : (f g undo : Node → Node) (Good : Node → Type 0) → ((x : Node) → undo (g x) ≡ f x) → f zeroNode ≡ g zeroNode
-      → ((x : Node) → WithTuples (b .addresses) (b .length) x → Good (g x))
+  pass : (f g undo : Node → Node) (Good : ℕ → Node → Type 0) → ((x : Node) → undo (g x) ≡ f x) → f zeroNode ≡ g zeroNode
+      → ((a : ℕ) (x : Node) → WithTuples a (b .addresses) (b .length) x → Good a (g x))
       → Through (passOver (stage f b) Good undo) (stage f b) (b .addresses) (stage g b)
   unfolding stage
   pass f g undo Good u z good = record {
@@ -91,7 +90,7 @@ module _ (b : Net) (ok : NetOk b) where
     cells-ok = record {
       size-is = length-map (b .nodes) g ∙ ok .nodes-ok .size-is;
       holds = λ a h. record {
-        good = λ l. subst Good (sym (node-at g a h)) (good _ (ok .nodes-ok .holds a h .used l));
+        good = λ l. subst (Good a) (sym (node-at g a h)) (good a _ (ok .nodes-ok .holds a h .used l));
         undone = λ l. ap undo (node-at g a h) ∙ u _ ∙ sym (node-at f a h);
         kept = λ l.
             let e = ok .nodes-ok .holds a h .unused l in
@@ -136,15 +135,15 @@ module _ (b : Net) (ok : NetOk b) where
     staged-blank,
     (
       stage (λ x. bareNode (x .row) free) b,
-      pass (λ x. zeroNode) _ rowless _ (λ x. refl) refl (λ x k. k .row-ok),
+      pass (λ x. zeroNode) _ rowless _ (λ x. refl) refl (λ a x k. k .row-ok),
       (
         stage emptied b,
         pass _ emptied vacated _ (λ x. refl) refl
-            (λ x k. record {
+            (λ a x k. record {
               count = k .slots-ok .count;
               slots = record { few = k .slots-ok .slots .few; slots-ok = k .slots-ok .slots .slots-ok };
             }),
-        (stage (λ x. x) b, pass emptied (λ x. x) emptied _ (λ x. refl) refl (λ x k. k .store-ok), code-pass),
+        (stage (λ x. x) b, pass emptied (λ x. x) emptied _ (λ x. refl) refl (λ a x k. k .store-ok), code-pass),
       ),
     ),
   )

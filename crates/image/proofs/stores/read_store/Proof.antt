@@ -10,10 +10,10 @@ use Rattle.image.proofs.stores.read_store.Statement.{statement}
 use Rattle.image.proofs.stores.read_store.Tie as tie
 
 abbrev Inv-loop : tie.InvT-loop
-Inv-loop s n count node₀ step₀ i₀ node step i = Loop (seen s) step₀ count (stored n) node₀ step i node
+Inv-loop s a n count node₀ step₀ i₀ node step i = Loop (seen s) step₀ count (stored a n) node₀ step i node
 
 abbrev μ-loop : tie.MeasureT-loop
-μ-loop s n count node₀ step₀ i₀ node step i = count - i
+μ-loop s a n count node₀ step₀ i₀ node step i = count - i
 
 pub read-store-spec : {M : Type 1} → statement M
 read-store-spec =
@@ -22,6 +22,7 @@ read-store-spec =
     Inv-loop
     μ-loop
     (λ c. search (needs, begin))
+    (λ c κs. search needs)
     (λ c κs. search needs)
     (λ c κs. search needs)
     (λ c. search needs)

@@ -1,6 +1,6 @@
 -- `plans::plan::granted_plan` meets its contract. Assumes nothing.
 use Rattle.plans.specs.Plan.{grantedPlan}
-use Rattle.plans.proofs.PlanLaws.{by7}
+use Rattle.plans.proofs.PlanLaws.{by8}
 use borrow.Author.Needs.{needs}
 use Rattle.plans.proofs.plan.granted_plan.Statement.{statement}
 use Rattle.plans.proofs.plan.granted_plan.Tie as tie
@@ -26,11 +26,11 @@ granted-plan-spec =
     (λ c κs. search needs)
     (λ c. search needs)
     (λ c κs. search needs)
-    (λ c. search (needs, by7 grantedPlan))
-    (λ c. search (needs, by7 grantedPlan))
-    (λ c. search (needs, by7 grantedPlan))
-    (λ c. search (needs, by7 grantedPlan))
-    (λ c. search (needs, by7 grantedPlan))
-    (λ c. search (needs, by7 grantedPlan))
-    (λ c. search (needs, by7 grantedPlan))
-    (λ c. search (needs, by7 grantedPlan)))
+    (λ c. search (needs, by8 grantedPlan))
+    (λ c. search (needs, by8 grantedPlan))
+    (λ c. search (needs, by8 grantedPlan))
+    (λ c. search (needs, by8 grantedPlan))
+    (λ c. search (needs, by8 grantedPlan))
+    (λ c. search (needs, by8 grantedPlan))
+    (λ c. search (needs, by8 grantedPlan))
+    (λ c. search (needs, by8 grantedPlan)))

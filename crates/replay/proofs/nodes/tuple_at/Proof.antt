@@ -28,4 +28,6 @@ tuple-at-spec =
     (λ c. search needs)
     (λ c. tt)
     (λ c κs. search needs)
+    (λ c κs. search needs)
+    (λ c κs. search needs)
     (λ c. search needs))

@@ -1,32 +1,14 @@
--- `sound::soundness::is_zero_tuple` meets its contract: `ok` joins the tests at the numbers below the counter. Assumes nothing.
-use Prim.Native.Nat.{_≤_, _-_}
-use mathlib.Core.Path.{_≡_}
-use Rattle.net.specs.Choice.{all}
-use Rattle.net.specs.Records.{fieldAt}
-use Rattle.sound.specs.Soundness.{isZeroItem, isZeroTuple}
-use Rattle.net.proofs.AllLaws.{all-none, all-more, all-end, and-both}
+-- `sound::soundness::is_zero_tuple` meets its contract. Assumes nothing.
+use Rattle.sound.specs.Soundness.{isZeroTuple}
+use Rattle.net.proofs.AllLaws.{and-both}
 use borrow.Author.Needs.{needs}
 use Rattle.sound.proofs.soundness.is_zero_tuple.Statement.{statement}
 use Rattle.sound.proofs.soundness.is_zero_tuple.Tie as tie
 
-abbrev Inv-loop : tie.InvT-loop
-Inv-loop t ok₀ i₀ ok i = (i ≤ 4) × (ok ≡ all i (λ m. isZeroItem (fieldAt t m)))
-
-abbrev μ-loop : tie.MeasureT-loop
-μ-loop t ok₀ i₀ ok i = 4 - i
-
 pub is-zero-tuple-spec : {M : Type 1} → statement M
-unfolding isZeroTuple fieldAt
+unfolding isZeroTuple
 is-zero-tuple-spec =
     tie.close
     (tie.spec
-    Inv-loop
-    μ-loop
-    (λ c. search (needs, all-none))
-    (λ c. search needs)
-    (λ c. search needs)
     (λ c κs. search needs)
-    (λ c. search needs)
-    (λ c. search needs)
-    (λ c. search (needs, all-more))
-    (λ c. search (needs, and-both, all-end)))
+    (λ c. search (needs, and-both)))

@@ -1,6 +1,6 @@
 -- `step::turn::seat_plan` meets its contract. Assumes nothing.
 use Rattle.net.proofs.Laws.{if-call, if-not-call}
-use Rattle.step.proofs.TurnLaws.{refusing-as}
+use Rattle.step.proofs.TurnLaws.{planned-by, refusing-as}
 use Rattle.step.specs.Turn.{seatPlan}
 use borrow.Author.Needs.{needs}
 use Rattle.step.proofs.turn.seat_plan.Statement.{statement}
@@ -15,5 +15,6 @@ seat-plan-spec =
     (λ c κs. search needs)
     (λ c κs. search needs)
     (λ c κs. search needs)
-    (λ c. search (needs, if-call, if-not-call, refusing-as))
-    (λ c. search (needs, if-call, if-not-call, refusing-as)))
+    (λ c κs. search needs)
+    (λ c. search (needs, if-call, planned-by))
+    (λ c. search (needs, if-not-call, refusing-as)))

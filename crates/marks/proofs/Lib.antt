@@ -1,0 +1,3 @@
+pub mod MarkClaims
+pub mod Nodes
+pub mod Starts

@@ -1,0 +1,2 @@
+pub mod MarkClaims
+pub mod Types

@@ -1,0 +1,15 @@
+-- `registers::words::put_labelled` meets its contract. Assumes nothing.
+use Rattle.registers.proofs.WordLaws.{labelled}
+use borrow.Author.Needs.{needs}
+use Rattle.registers.proofs.words.put_labelled.Statement.{statement}
+use Rattle.registers.proofs.words.put_labelled.Tie as tie
+
+pub put-labelled-spec : {M : Type 1} → statement M
+put-labelled-spec =
+    tie.close
+    (tie.spec
+    (λ c κs. search needs)
+    (λ c κs. search needs)
+    (λ c κs. search needs)
+    (λ c. search needs)
+    (λ c. search (needs, labelled)))
