@@ -70,6 +70,11 @@ pub fn readings(readings: &[i32]) -> Tuple {
     Tuple::of(&fields)
 }
 
+/// The tuple of the same fields, put by an out at this address.
+pub fn from(address: u8, tuple: Tuple) -> Tuple {
+    tuple.marked(Locality(address))
+}
+
 // Nets.
 
 /// Stops only, at addresses without rights.
@@ -94,8 +99,15 @@ pub fn grant(net: &mut Net, by: usize, over: usize, rights: Rights) {
     net.nodes[by].row.rights[over] = rights;
 }
 
-/// Gives a node these tuples, oldest first, and no others.
+/// Gives a node tuples of these fields, oldest first and each from the node
+/// itself, as an image does, and no others.
 pub fn fill(net: &mut Net, at: usize, tuples: &[Tuple]) {
+    let own: Vec<Tuple> = tuples.iter().map(|tuple| from(at as u8, *tuple)).collect();
+    fill_marked(net, at, &own);
+}
+
+/// Gives a node these tuples with their marks, oldest first, and no others.
+pub fn fill_marked(net: &mut Net, at: usize, tuples: &[Tuple]) {
     net.nodes[at].tuple_count = tuples.len() as u8;
     net.nodes[at].tuples = Node::ZERO.tuples;
     net.nodes[at].tuples[..tuples.len()].copy_from_slice(tuples);
@@ -115,14 +127,13 @@ pub fn longest() -> Net {
     let mut random = Random::new(14_749);
     let mut reading = move || random.number() as i32;
     let mut net = stops(16, 512);
-    for node in net.nodes.iter_mut() {
+    for at in 0..ADDRESSES {
+        let node = &mut net.nodes[at];
         node.row.create = true;
         node.row.rights = [Rights::ALL; ADDRESSES];
         node.processes = [0, 100, 300, 511].map(|at| Process::starting(Place(at)));
-        node.tuple_count = 16;
-        for tuple in node.tuples.iter_mut() {
-            *tuple = readings(&[0; 4].map(|_| reading()));
-        }
+        let tuples = [0; TUPLES].map(|_| readings(&[0; 4].map(|_| reading())));
+        fill(&mut net, at, &tuples);
     }
     for at in 0..512u16 {
         let fields = [0; 4].map(|_| TemplateField::Reading(reading()));

@@ -7,8 +7,16 @@ use crate::program::start;
 use std::io::{Read, Write};
 use std::process::ChildStdout;
 
+// Bytes of the records.
+const COUNTS: usize = 3;
+const ROW: usize = 1 + ADDRESSES;
+const PROCESS: usize = 3 + 5 * VARIABLES;
+const TUPLE: usize = 1 + 5 * FIELDS + 1;
+const NODE: usize = ROW + SLOTS * PROCESS + 1 + TUPLES * TUPLE;
+const INSTRUCTION: usize = 9 + 5 * FIELDS;
+
 /// The bytes of a dumped net.
-pub const DUMP_BYTES: usize = 23_267;
+pub const DUMP_BYTES: usize = COUNTS + ADDRESSES * NODE + INSTRUCTIONS * INSTRUCTION;
 
 /// What is made of a text: 0 or the number it is refused with, and the dump
 /// of the net it gives.
@@ -84,6 +92,7 @@ fn put_process(out: &mut Vec<u8>, process: &Process) {
     }
 }
 
+// The count, the fields and, at the end, the mark.
 fn put_tuple(out: &mut Vec<u8>, tuple: &Tuple) {
     out.push(tuple.count);
     for field in &tuple.fields {
@@ -92,6 +101,7 @@ fn put_tuple(out: &mut Vec<u8>, tuple: &Tuple) {
             Field::Address(address) => put_kind(out, 2, address.0.into()),
         }
     }
+    out.push(tuple.from.0);
 }
 
 fn put_instruction(out: &mut Vec<u8>, instruction: &Instruction) {
@@ -135,15 +145,37 @@ fn put_action(out: &mut Vec<u8>, action: &Action) {
 
 /// The record that a byte of a dump is of.
 pub fn record_at(byte: usize) -> String {
-    match byte {
-        0..=2 => format!("counts, byte {byte}"),
-        3..=8418 => format!("node {}, byte {}", (byte - 3) / 526, (byte - 3) % 526),
-        _ => format!(
-            "instruction {}, byte {}",
-            (byte - 8419) / 29,
-            (byte - 8419) % 29
-        ),
+    let (nodes, code) = (COUNTS, COUNTS + ADDRESSES * NODE);
+    if byte < nodes {
+        format!("counts, byte {byte}")
+    } else if byte < code {
+        let at = byte - nodes;
+        format!("node {}, {}", at / NODE, record_of_node(at % NODE))
+    } else {
+        one_of("instruction", byte - code, INSTRUCTION)
     }
+}
+
+// The record that a byte of a node is of.
+fn record_of_node(byte: usize) -> String {
+    let (processes, count) = (ROW, ROW + SLOTS * PROCESS);
+    let tuples = count + 1;
+    if byte < processes {
+        format!("row, byte {byte}")
+    } else if byte < count {
+        one_of("process", byte - processes, PROCESS)
+    } else if byte < tuples {
+        "tuple count".to_string()
+    } else if (byte - tuples) % TUPLE == TUPLE - 1 {
+        format!("mark of tuple {}", (byte - tuples) / TUPLE)
+    } else {
+        one_of("tuple", byte - tuples, TUPLE)
+    }
+}
+
+// Which of several records of one length a byte is of, and which byte of it.
+fn one_of(record: &str, byte: usize, length: usize) -> String {
+    format!("{record} {}, byte {}", byte / length, byte % length)
 }
 
 /// What the program `inspect` makes of each of these images.
@@ -213,10 +245,67 @@ fn read_bytes<const COUNT: usize>(output: &mut impl Read) -> [u8; COUNT] {
 #[cfg(test)]
 mod tests {
     use super::*;
+    use crate::by_hand::SEND;
 
     #[test]
     fn a_dump_has_its_length() {
+        assert_eq!(DUMP_BYTES, 23_523);
         assert_eq!(dump(&Net::empty()).len(), DUMP_BYTES);
+    }
+
+    /// The records in which the dump of a changed empty net is another.
+    fn changed(change: fn(&mut Net)) -> Vec<String> {
+        let mut net = Net::empty();
+        let before = dump(&net);
+        change(&mut net);
+        let after = dump(&net);
+        let differs = (0..DUMP_BYTES).filter(|at| before[*at] != after[*at]);
+        differs.map(record_at).collect()
+    }
+
+    const MARK: Locality = Locality(9);
+    /// The value whose only byte that is not 0 is the last.
+    const LAST: i32 = 1 << 24;
+
+    /// Changes of one byte each, and the record that it is of.
+    const CHANGES: [(fn(&mut Net), &str); 9] = [
+        (|net| net.code_length = 1, "counts, byte 1"),
+        (
+            |net| net.nodes[4].row.rights[15] = SEND,
+            "node 4, row, byte 16",
+        ),
+        (
+            |net| net.nodes[4].processes[3].busy = true,
+            "node 4, process 3, byte 0",
+        ),
+        (|net| net.nodes[4].tuple_count = 1, "node 4, tuple count"),
+        (
+            |net| net.nodes[0].tuples[0].from = MARK,
+            "node 0, mark of tuple 0",
+        ),
+        (
+            |net| net.nodes[1].tuples[1].count = 9,
+            "node 1, tuple 1, byte 0",
+        ),
+        (
+            |net| net.nodes[2].tuples[3].fields[3] = Field::Reading(LAST),
+            "node 2, tuple 3, byte 20",
+        ),
+        (
+            |net| net.nodes[15].tuples[15].from = MARK,
+            "node 15, mark of tuple 15",
+        ),
+        (
+            |net| net.code[511].fields[3] = TemplateField::Reading(LAST),
+            "instruction 511, byte 28",
+        ),
+    ];
+
+    #[test]
+    fn each_record_has_its_name() {
+        for (change, record) in CHANGES {
+            assert_eq!(changed(change), [record]);
+        }
     }
 
     #[test]
@@ -247,7 +336,7 @@ mod tests {
         net.nodes[0].processes[0] = Process::starting(Place(258));
         net.nodes[0].processes[0].variables[7] = Value::Address(Locality(1));
         net.nodes[0].tuple_count = 1;
-        net.nodes[0].tuples[0] = Tuple::of(&[Field::Reading(-2)]);
+        net.nodes[0].tuples[0] = Tuple::of(&[Field::Reading(-2)]).marked(Locality(1));
         let target = Target::Variable(3);
         let (sent, next) = (Place(257), Place(5));
         net.code[0] = Instruction::plain(Action::Eval { target, sent, next });
@@ -258,7 +347,9 @@ mod tests {
         assert_eq!(bytes[20..23], [1, 2, 1]);
         assert_eq!(bytes[58..63], [2, 1, 0, 0, 0]);
         assert_eq!(bytes[192..199], [1, 1, 1, 0xFE, 0xFF, 0xFF, 0xFF]);
-        let code = &bytes[3 + 16 * 526..];
+        // The last field, the mark, and the count of the next tuple.
+        assert_eq!(bytes[209..216], [1, 0, 0, 0, 0, 1, 0]);
+        let code = &bytes[3 + 16 * 542..];
         assert_eq!(code[..9], [4, 2, 3, 1, 1, 5, 0, 0, 0]);
         assert_eq!(code[9..14], [5, 6, 0, 0, 0]);
     }

@@ -43,9 +43,10 @@ pub fn valid_image(random: &mut Random) -> Vec<u8> {
 }
 
 /// A sound net, mostly one that no run reaches: any slots busy, any
-/// variables set, full nodes, rows that bar the code.
+/// variables set, full nodes, rows that bar the code, tuples from anywhere.
 pub fn sound_net(random: &mut Random) -> Net {
     let mut net = image_net(random);
+    mark_tuples(random, &mut net);
     for address in 0..net.address_count as usize {
         for slot in 0..SLOTS {
             if random.percent(50) {
@@ -216,11 +217,26 @@ fn start(random: &mut Random, length: u16) -> Place {
     }
 }
 
+// Tuples of an image are from their own nodes.
 fn fill_tuples(random: &mut Random, net: &mut Net, style: &Style) {
-    for node in &mut net.nodes[..style.count as usize] {
+    for address in 0..style.count {
+        let node = &mut net.nodes[address as usize];
         node.tuple_count = tuple_count(random);
         for held in &mut node.tuples[..node.tuple_count as usize] {
-            *held = style.tuple(random);
+            *held = style.tuple(random).marked(Locality(address));
+        }
+    }
+}
+
+// Marks none, some or all of the tuples with any address in use.
+fn mark_tuples(random: &mut Random, net: &mut Net) {
+    let marked = random.choose(&[0, 50, 100]);
+    let count = net.address_count;
+    for node in &mut net.nodes[..count as usize] {
+        for held in &mut node.tuples[..node.tuple_count as usize] {
+            if random.percent(marked) {
+                held.from = address(random, count);
+            }
         }
     }
 }

@@ -1,12 +1,14 @@
 //! The image of a net, read and written (document 01, "The image" and
 //! "Numbers for an image"; document 02, slip 2: where an image went bad).
 
+mod fresh;
 mod reader;
 mod writer;
 
 use crate::bits::FieldAt;
 use crate::net::*;
 use crate::sound::keeps_within;
+use fresh::fresh;
 use reader::Start;
 use std::fmt;
 
@@ -20,6 +22,8 @@ pub const FORMAL_TWICE: u8 = 27;
 pub const BITS_END: u8 = 28;
 pub const MORE_AFTER_CODE: u8 = 29;
 pub const BEYOND_ROW: u8 = 30;
+/// A net that no accepted image gives, and that is not written as one.
+pub const NOT_FRESH: u8 = 36;
 
 /// Why an image is refused.
 #[derive(Clone, Copy, PartialEq, Eq, Debug)]
@@ -77,6 +81,15 @@ pub fn starts_keep_within(net: &Net) -> bool {
 fn start_keeps_within(net: &Net, address: Locality, place: Place) -> bool {
     let row = &net.nodes[address.0 as usize].row;
     keeps_within(&net.code[..], net.code_length, place, address, row)
+}
+
+/// The accepted image that gives a net, or 36 where there is none.
+pub fn image_of(net: &Net) -> Result<Vec<u8>, u8> {
+    if fresh(net) {
+        Ok(write_image(net))
+    } else {
+        Err(NOT_FRESH)
+    }
 }
 
 /// The image of a net with counts in range. Nothing is judged; each

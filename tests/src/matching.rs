@@ -71,14 +71,15 @@ pub fn evaluate(
     Some(template)
 }
 
-/// The tuple an out puts: its field values. None when a needed variable
-/// is unset; a formal has no value either, though no sound out has one.
+/// The tuple an out at `host` puts: its field values, and `host` as its
+/// mark. None when a needed variable is unset; a formal has no value either,
+/// though no sound out has one.
 pub fn evaluate_tuple(
     instruction: &Instruction,
     host: Locality,
     variables: &[Value; VARIABLES],
 ) -> Option<Tuple> {
-    let mut tuple = Tuple::ZERO;
+    let mut tuple = Tuple::ZERO.marked(host);
     tuple.count = instruction.count;
     for index in 0..instruction.count as usize {
         match evaluate_field(instruction.fields[index], host, variables)? {
@@ -99,7 +100,7 @@ pub fn field_fits(pattern: Pattern, field: Field) -> bool {
     }
 }
 
-/// Equal field counts, and each field fits.
+/// Equal field counts, and each field fits, whatever the tuple's mark.
 pub fn fits(template: &Template, tuple: &Tuple) -> bool {
     let count = template.count as usize;
     template.count == tuple.count
@@ -188,6 +189,36 @@ mod tests {
         assert!(fits(&one, &Tuple::of(&[reading(0)])));
         assert!(!fits(&one, &Tuple::of(&[reading(0), reading(0)])));
         assert!(!fits(&one, &Tuple::ZERO));
+    }
+
+    #[test]
+    fn a_mark_takes_no_part() {
+        let variables = Process::FREE.variables;
+        let one = template(&[TemplateField::Reading(5)], &variables).unwrap();
+        let (five, six) = (Tuple::of(&[reading(5)]), Tuple::of(&[reading(6)]));
+        for mark in (0..16).map(Locality) {
+            assert!(fits(&one, &five.marked(mark)));
+            assert!(!fits(&one, &six.marked(mark)));
+        }
+        let mut node = Node::ZERO;
+        node.tuples[0] = six.marked(HOST);
+        node.tuples[1] = five.marked(Locality(15));
+        node.tuples[2] = five.marked(HOST);
+        node.tuple_count = 3;
+        assert_eq!(oldest_fitting(&one, &node), Some(1));
+    }
+
+    #[test]
+    fn the_tuple_of_an_out_has_its_host_s_mark() {
+        let action = Action::Out {
+            target: Target::Written(Locality(1)),
+            next: Place(0),
+        };
+        let fields = [TemplateField::Reading(5), TemplateField::Own];
+        let out = Instruction::with(action, &fields);
+        let tuple = evaluate_tuple(&out, HOST, &Process::FREE.variables);
+        let expected = Tuple::of(&[reading(5), address(3)]).marked(HOST);
+        assert_eq!(tuple, Some(expected));
     }
 
     #[test]

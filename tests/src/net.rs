@@ -1,4 +1,5 @@
-//! The records of a net (document 01, "The net").
+//! The records of a net (document 01, "The net"; document 02, slip 8: the
+//! mark of a tuple).
 
 /// Most addresses in a net.
 pub const ADDRESSES: usize = 16;
@@ -36,11 +37,15 @@ pub enum Field {
     Address(Locality),
 }
 
-/// A tuple: the first `count` fields are its own, the others are zero.
+/// A tuple: the first `count` fields are its own, the others are zero. Its
+/// mark takes no part in fitting, but equal tuples have equal marks.
 #[derive(Clone, Copy, PartialEq, Eq, Debug)]
 pub struct Tuple {
     pub count: u8,
     pub fields: [Field; FIELDS],
+    /// The mark: the address of the node where its out was performed, and
+    /// for a tuple of an image or a text that of its own node.
+    pub from: Locality,
 }
 
 /// The rights of a row over one address: i, r, o, e. What a row holds is kept
@@ -152,14 +157,20 @@ impl Tuple {
     pub const ZERO: Tuple = Tuple {
         count: 0,
         fields: [Field::Reading(0); FIELDS],
+        from: Locality(0),
     };
 
-    /// The tuple of these fields, at most four of them.
+    /// The tuple of these fields, at most four of them, from address 0.
     pub fn of(fields: &[Field]) -> Tuple {
         let mut tuple = Tuple::ZERO;
         tuple.count = fields.len() as u8;
         tuple.fields[..fields.len()].copy_from_slice(fields);
         tuple
+    }
+
+    /// The tuple of the same fields from this address.
+    pub fn marked(self, from: Locality) -> Tuple {
+        Tuple { from, ..self }
     }
 }
 
@@ -300,6 +311,14 @@ mod tests {
         assert_eq!(node.busy_slots(), 2);
         node.processes = [Process::starting(Place(0)); SLOTS];
         assert_eq!(node.free_slot(), None);
+    }
+
+    #[test]
+    fn a_mark_tells_tuples_apart() {
+        let tuple = Tuple::of(&[Field::Reading(5)]);
+        assert_eq!(tuple.marked(Locality(0)), tuple);
+        assert_ne!(tuple.marked(Locality(1)), tuple);
+        assert_eq!(tuple.marked(Locality(1)).fields, tuple.fields);
     }
 
     /// By i or by r, and not by o and e.

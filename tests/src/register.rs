@@ -1,4 +1,4 @@
-//! The register (document 01, "The register"; document 02, slips 1 and 2).
+//! The register (document 01, "The register"; document 02, slips 1, 2 and 8).
 
 use crate::image::read_image;
 use crate::net::*;
@@ -65,8 +65,8 @@ fn write_node(text: &mut String, address: u8, node: &Node) {
         format_args!("node {address} {} {busy}", node.tuple_count),
     );
     for tuple in &node.tuples[..node.tuple_count as usize] {
-        let fields = fields_text(tuple);
-        line(text, format_args!("tuple {address}{fields}"));
+        let (fields, from) = (fields_text(tuple), tuple.from.0);
+        line(text, format_args!("tuple {address}{fields} from {from}"));
     }
 }
 
@@ -100,7 +100,7 @@ mod tests {
     #[test]
     fn the_paper_s_run() {
         let expected =
-            "net 1 2\npick 1 0 0 0\npick 2 0 0 1\npick 3 0 0 7\nnode 0 1 0\ntuple 0 5\ntotal 1\n";
+            "net 1 2\npick 1 0 0 0\npick 2 0 0 1\npick 3 0 0 7\nnode 0 1 0\ntuple 0 5 from 0\ntotal 1\n";
         assert_eq!(register(&PAPER_IMAGE, &[0, 0, 0]), expected);
     }
 
@@ -156,9 +156,44 @@ mod tests {
         let mut net = stops(2, 1);
         let fields = [reading(-1), address(1), reading(i32::MIN), address(0)];
         fill(&mut net, 1, &[Tuple::of(&fields), Tuple::of(&fields[..1])]);
-        let expected =
-            "net 2 1\nnode 0 0 0\nnode 1 2 0\ntuple 1 -1 @1 -2147483648 @0\ntuple 1 -1\ntotal 2\n";
+        let expected = "net 2 1\nnode 0 0 0\nnode 1 2 0\n\
+            tuple 1 -1 @1 -2147483648 @0 from 1\ntuple 1 -1 from 1\ntotal 2\n";
         assert_eq!(register(&write_image(&net), &[]), expected);
+    }
+
+    /// A tuple of the image, one put by another node and one by code that
+    /// this other node sent.
+    #[test]
+    fn a_tuple_line_ends_with_where_it_was_put() {
+        let put = |target, next| out(target, &[TemplateField::Own], next);
+        let mut net = net(
+            3,
+            &[
+                put(written(1), 1),
+                eval(written(2), 2, 3),
+                put(written(1), 3),
+            ],
+        );
+        grant(&mut net, 0, 1, PUT);
+        grant(&mut net, 0, 2, SEND);
+        grant(&mut net, 2, 1, PUT);
+        fill(&mut net, 1, &[readings(&[4])]);
+        let text = register(&write_image(&net), &[0, 0, 0x20]);
+        assert_eq!(answers_in(&text), [0, 0, 0]);
+        let lines = "node 1 3 0\ntuple 1 4 from 1\ntuple 1 @0 from 0\ntuple 1 @2 from 2\n";
+        assert!(text.contains(lines), "{text}");
+    }
+
+    #[test]
+    fn the_highest_address_in_a_tuple_line() {
+        let mut net = net(16, &[out(written(0), &[TemplateField::Own], 1)]);
+        net.nodes.swap(0, 15);
+        grant(&mut net, 15, 0, PUT);
+        let text = register(&write_image(&net), &[0xF0]);
+        assert!(
+            text.contains("node 0 1 0\ntuple 0 @15 from 15\nnode 1 0 0\n"),
+            "{text}"
+        );
     }
 
     #[test]

@@ -1,6 +1,6 @@
 //! Soundness of a net (document 01, "One pick"), and what code reaches
 //! and whether it keeps within a row ("Reaching and rights"; document 02,
-//! slip 6: taking covers reading).
+//! slip 6: taking covers reading; slip 8: marks are addresses of the net).
 
 use crate::net::*;
 
@@ -174,7 +174,7 @@ fn tuples_sound(net: &Net, node: &Node) -> bool {
 }
 
 fn tuple_sound(net: &Net, tuple: &Tuple) -> bool {
-    if !field_count_sound(tuple.count) {
+    if !field_count_sound(tuple.count) || !address_sound(net, tuple.from) {
         return false;
     }
     let (held, past) = tuple.fields.split_at(tuple.count as usize);

@@ -80,7 +80,7 @@ const STATED: [(&str, Stated); 30] = [
     ),
     (
         "out, in, read and eval barred at a full target",
-        Answers(&[0, 0, 0, 0, 4, 4, 4, 4], &["tuple 1 3", "total 17"]),
+        Answers(&[0, 0, 0, 0, 4, 4, 4, 4], &["tuple 1 3 from 1", "total 17"]),
     ),
     (
         "creation at 15 addresses",
@@ -110,11 +110,19 @@ const STATED: [(&str, Stated); 30] = [
     ("the register's image with third byte 40", Refused(30, 27)),
     (
         "the register's run",
-        Answers(&[0, 1, 7], &["node 0 1 0", "tuple 0 5", "total 1"]),
+        Answers(&[0, 1, 7], &["node 0 1 0", "tuple 0 5 from 0", "total 1"]),
     ),
     (
         "reading with all bits set",
-        Answers(&[0], &["node 0 2 1", "tuple 0 -1", "tuple 0 -1", "total 2"]),
+        Answers(
+            &[0],
+            &[
+                "node 0 2 1",
+                "tuple 0 -1 from 0",
+                "tuple 0 -1 from 0",
+                "total 2",
+            ],
+        ),
     ),
     (
         "reading with only the first bit set",
@@ -122,8 +130,8 @@ const STATED: [(&str, Stated); 30] = [
             &[0],
             &[
                 "node 0 2 1",
-                "tuple 0 -2147483648",
-                "tuple 0 -2147483648",
+                "tuple 0 -2147483648 from 0",
+                "tuple 0 -2147483648 from 0",
                 "total 2",
             ],
         ),
@@ -134,27 +142,33 @@ const STATED: [(&str, Stated); 30] = [
     ),
     (
         "out to 16 tuples",
-        Answers(&[3], &["tuple 0 15", "tuple 0 16", "total 16"]),
+        Answers(
+            &[3],
+            &["tuple 0 15 from 0", "tuple 0 16 from 0", "total 16"],
+        ),
     ),
     (
         "out to 15 tuples",
-        Answers(&[0], &["tuple 0 15", "tuple 0 100", "total 16"]),
+        Answers(
+            &[0],
+            &["tuple 0 15 from 0", "tuple 0 100 from 0", "total 16"],
+        ),
     ),
     (
         "read at a variable holding self, i but not r, a tuple fits",
-        Answers(&[0, 0], &["node 0 1 1", "tuple 0 3", "total 1"]),
+        Answers(&[0, 0], &["node 0 1 1", "tuple 0 3 from 0", "total 1"]),
     ),
     (
         "read at a variable holding self, i but not r, none fits",
-        Answers(&[0, 2], &["node 0 1 1", "tuple 0 @0", "total 1"]),
+        Answers(&[0, 2], &["node 0 1 1", "tuple 0 @0 from 0", "total 1"]),
     ),
     (
         "formal reading against an address",
-        Answers(&[2], &["node 0 1 1", "tuple 0 @0", "total 1"]),
+        Answers(&[2], &["node 0 1 1", "tuple 0 @0 from 0", "total 1"]),
     ),
     (
         "two tuples fit",
-        Answers(&[0], &["node 0 1 1", "tuple 0 8", "total 1"]),
+        Answers(&[0], &["node 0 1 1", "tuple 0 8 from 0", "total 1"]),
     ),
 ];
 

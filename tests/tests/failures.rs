@@ -3,7 +3,7 @@
 //! nothing is printed that rests on what could not be read.
 
 use cavindorum_tests::by_hand::{paper_net, ONE_STOP, PAPER_IMAGE};
-use cavindorum_tests::dump::framed;
+use cavindorum_tests::dump::{framed, DUMP_BYTES};
 use cavindorum_tests::edges::{pack, Edge};
 use cavindorum_tests::program::{run_on, TestDirectory};
 use cavindorum_tests::replay::Run;
@@ -149,11 +149,11 @@ fn an_input_that_fails_midway() {
     let (whole, part) = (framed(&ONE_STOP), framed(&PAPER_IMAGE));
     let (input, _other) = failing_after(&[&whole[..], &part[..8]].concat());
     let (printed, errors) = said("inspect", &here.path, input);
-    assert_eq!((printed.len(), &errors[..]), (23_272, INPUT_FAILS));
+    assert_eq!((printed.len(), &errors[..]), (5 + DUMP_BYTES, INPUT_FAILS));
     let text = framed(TEXT);
     let (input, _other) = failing_after(&[&text[..], &text[..8]].concat());
     let (printed, errors) = said("inspect_text", &here.path, input);
-    assert_eq!((printed.len(), &errors[..]), (23_268, INPUT_FAILS));
+    assert_eq!((printed.len(), &errors[..]), (1 + DUMP_BYTES, INPUT_FAILS));
     let run = paper_run();
     let (input, _other) = failing_after(&run[..run.len() - 1]);
     let (printed, errors) = said("replay", &here.path, input);

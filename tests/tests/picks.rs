@@ -3,8 +3,8 @@
 //! net after it.
 
 use cavindorum_tests::by_hand::{
-    self, eval, fill, fork, grant, new, one_address, out, read, readings, take, NONE, OWN, PUT,
-    READ, SEND, TAKE,
+    self, eval, fill, fill_marked, fork, from, grant, new, one_address, out, read, readings, take,
+    written, NONE, OWN, PUT, READ, SEND, TAKE,
 };
 use cavindorum_tests::generate::{net_after_picks, pick_byte, picks, random_net, sound_net};
 use cavindorum_tests::net::*;
@@ -203,7 +203,7 @@ fn sent_code_is_judged_by_the_target_s_row() {
     net.nodes[1].row.rights[1] = PUT;
     let sent = made(&net, &[0, 0x10]);
     assert_eq!(sent.answers, [0, 0]);
-    assert_eq!(sent.net.nodes[1].tuples[0], one_address(1));
+    assert_eq!(sent.net.nodes[1].tuples[0], from(1, one_address(1)));
     net.nodes[1].processes = [Process::starting(Place(2)); SLOTS];
     assert_eq!(unchanged(&net), 3);
     net.nodes[0].row.rights[1].send = false;
@@ -259,6 +259,109 @@ fn ten_nine_eight_seven_stand_in_this_order() {
     assert_eq!(damaged.answers, [10; 10]);
     assert_eq!(damaged.net, net);
     assert_eq!(made(&Net::empty(), &[0, 1, 0xFF]).answers, [10; 3]);
+}
+
+// Marks.
+
+/// The tuples that a node holds.
+fn held(net: &Net, at: usize) -> &[Tuple] {
+    let node = &net.nodes[at];
+    &node.tuples[..node.tuple_count as usize]
+}
+
+#[test]
+fn an_out_bears_its_host_s_address() {
+    let mut net = net(2, NONE, &[out(FAR, &[TemplateField::Own], 1)]);
+    net.nodes[0].row.rights[1] = PUT;
+    fill(&mut net, 1, &[readings(&[7])]);
+    let tuples = [from(1, readings(&[7])), from(0, one_address(0))];
+    assert_eq!(held(&performed(&net), 1), tuples);
+}
+
+/// Wherever it puts the tuple.
+#[test]
+fn an_out_of_sent_code_bears_the_address_where_it_runs() {
+    for (target, at) in [(OWN, 1), (written(0), 0), (written(2), 2)] {
+        let code = [eval(FAR, 1, 2), out(target, &[TemplateField::Own], 2)];
+        let mut net = net(3, NONE, &code);
+        net.nodes[0].row.rights[1] = SEND;
+        net.nodes[1].row.rights[at] = PUT;
+        let sent = made(&net, &[0, 0x10]);
+        assert_eq!(sent.answers, [0, 0]);
+        assert_eq!(held(&sent.net, at), [from(1, one_address(1))]);
+    }
+}
+
+/// The oldest tuple that fits is read, taken and put again with the mark of
+/// its host, whatever its own mark; the others keep theirs.
+#[test]
+fn marks_take_no_part_in_fitting() {
+    for marks in [[0, 1, 2], [2, 1, 0], [1, 2, 1]] {
+        let put = [TemplateField::Variable(0)];
+        let code = [
+            read(OWN, &[FORMAL], 1),
+            take(OWN, &[FORMAL], 2),
+            out(OWN, &put, 3),
+        ];
+        let mut net = net(3, Rights::ALL, &code);
+        let fields = [one_address(0), readings(&[7]), readings(&[8])];
+        let [odd, first, second] = [0, 1, 2].map(|index| from(marks[index], fields[index]));
+        fill_marked(&mut net, 0, &[odd, first, second]);
+        let left = [
+            &[odd, first, second][..],
+            &[odd, second],
+            &[odd, second, from(0, readings(&[7]))],
+        ];
+        for left in left {
+            net = performed(&net);
+            assert_eq!(held(&net, 0), left);
+            assert_eq!(net.nodes[0].processes[0].variables[0], Value::Reading(7));
+        }
+    }
+}
+
+/// Tuples that differ in their marks alone, taken one after another.
+#[test]
+fn the_older_of_two_alike_is_taken() {
+    let mut net = net(3, TAKE, &[take(OWN, &[FORMAL], 0)]);
+    fill_marked(
+        &mut net,
+        0,
+        &[2, 0, 1].map(|mark| from(mark, readings(&[7]))),
+    );
+    for left in [&[0, 1][..], &[1], &[]] {
+        net = performed(&net);
+        let marks: Vec<u8> = held(&net, 0).iter().map(|tuple| tuple.from.0).collect();
+        assert_eq!(marks, left);
+    }
+    assert_eq!(net.nodes[0].tuples[0], Tuple::ZERO);
+}
+
+/// A mark that is not below the address count, and one on a zero tuple: at
+/// each node and in each record.
+#[test]
+fn an_unsound_mark_is_10() {
+    let mut sound = net(2, NONE, &[]);
+    fill(&mut sound, 1, &[readings(&[7]); 3]);
+    let marked = |at: usize, index: usize, mark: u8| {
+        let mut net = sound.clone();
+        net.nodes[at].tuples[index].from = Locality(mark);
+        let picks = vec![0];
+        Run { net, picks }
+    };
+    let mut runs = Vec::new();
+    for at in 0..ADDRESSES {
+        for index in 0..TUPLES {
+            let least = if at == 1 && index < 3 { 2 } else { 1 };
+            runs.extend([least, 255].map(|mark| marked(at, index, mark)));
+        }
+    }
+    for (run, made) in runs.iter().zip(replay(&runs)) {
+        assert_eq!(made.answers, [10]);
+        assert_eq!(made.net, run.net);
+    }
+    let foreign = marked(1, 0, 0);
+    assert_eq!(made(&foreign.net, &[0]).answers, [1]);
 }
 
 /// Each of the 256 picks on one net.

@@ -76,7 +76,7 @@ fn first_difference(printed: &[u8], expected: &str, image: &[u8], picks: &[u8]) 
 fn the_paper_s_run() {
     let registers = compare_all(&[files(&PAPER_IMAGE, &[0, 0, 0])]);
     let paper =
-        "net 1 2\npick 1 0 0 0\npick 2 0 0 1\npick 3 0 0 7\nnode 0 1 0\ntuple 0 5\ntotal 1\n";
+        "net 1 2\npick 1 0 0 0\npick 2 0 0 1\npick 3 0 0 7\nnode 0 1 0\ntuple 0 5 from 0\ntotal 1\n";
     assert_eq!(registers, [paper]);
 }
 

@@ -57,8 +57,9 @@ pub fn moved_process() -> Example {
         title: "A moved process",
         about: "\
 Address 0 reads a reading and sends code to address 1. The sent process takes a copy of
-the variables with it, and `self` in it means address 1, where it runs. What it may do is
-for the row of address 1 to say: address 0 itself may put nothing anywhere.
+the variables with it, and `self` in it means address 1, where it runs: in the register its
+tuple is `from 1`. What it may do is for the row of address 1 to say: address 0 itself may
+put nothing anywhere.
 ",
         notation: "\
 0 has 0:r 1:e

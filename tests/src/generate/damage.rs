@@ -237,16 +237,17 @@ fn change_process(random: &mut Random, net: &mut Net) {
 
 fn change_tuples(random: &mut Random, net: &mut Net) {
     let node = any_node(random, net);
-    let field = wild_field(random, net);
+    let (field, from) = (wild_field(random, net), wild_address(random, net));
     let node = &mut net.nodes[node];
     let index = match random.below(3) {
         0 => random.below(TUPLES),
         _ => random.below(node.tuple_count as usize + 1).min(TUPLES - 1),
     };
     let tuple = &mut node.tuples[index];
-    match random.below(5) {
+    match random.below(7) {
         0 => node.tuple_count = wild_count(random, node.tuple_count as usize, TUPLES) as u8,
         1 => tuple.count = wild_count(random, tuple.count as usize, FIELDS) as u8,
+        2 | 3 => tuple.from = from,
         _ => tuple.fields[random.below(FIELDS)] = field,
     }
 }

@@ -191,6 +191,61 @@ fn random_nets_are_sound_and_not() {
     assert!((1200..2800).contains(&nets), "{nets}");
 }
 
+// A net whose tuples are all from address 0.
+fn without_marks(net: &Net) -> Net {
+    let mut net = net.clone();
+    let tuples = net.nodes.iter_mut().flat_map(|node| &mut node.tuples);
+    tuples.for_each(|tuple| tuple.from = Locality(0));
+    net
+}
+
+// Whether a record past the count of its node has a mark.
+fn zero_tuple_marked(net: &Net) -> bool {
+    let past = |node: &Node| {
+        let past = node.tuples.iter().skip(node.tuple_count as usize);
+        past.into_iter().any(|tuple| tuple.from != Locality(0))
+    };
+    net.nodes.iter().any(past)
+}
+
+/// Some nets are not sound by a mark alone: on a zero tuple, or not below the
+/// address count.
+#[test]
+fn random_nets_are_not_sound_by_a_mark() {
+    let mut random = Random::new(16);
+    let mut met = [0; 2];
+    for _ in 0..4000 {
+        let net = random_net(&mut random);
+        if !sound(&net) && sound(&without_marks(&net)) {
+            met[zero_tuple_marked(&net) as usize] += 1;
+        }
+    }
+    assert!(met.iter().all(|count| *count > 20), "{met:?}");
+}
+
+// The number of tuples that are from another node than their own.
+fn foreign_marks(net: &Net) -> usize {
+    let foreign = |(address, node): (usize, &Node)| {
+        let held = &node.tuples[..node.tuple_count as usize];
+        let own = held.iter().filter(|tuple| tuple.from.0 as usize == address);
+        held.len() - own.count()
+    };
+    net.nodes.iter().enumerate().map(foreign).sum()
+}
+
+/// Tuples of images are their own nodes', and runs put some at others.
+#[test]
+fn tuples_from_other_nodes_are_met() {
+    let mut random = Random::new(17);
+    let (mut placed, mut reached) = (0, 0);
+    for _ in 0..500 {
+        assert_eq!(foreign_marks(&valid_net(&mut random)), 0);
+        placed += foreign_marks(&sound_net(&mut random));
+        reached += foreign_marks(&net_after_picks(&mut random));
+    }
+    assert!(placed > 1000 && reached > 200, "{placed} {reached}");
+}
+
 #[test]
 fn picks_on_random_nets_meet_every_answer() {
     let mut random = Random::new(9);

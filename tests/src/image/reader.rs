@@ -170,13 +170,14 @@ impl ImageReader<'_> {
         })
     }
 
-    // Part 4: the tuples.
+    // Part 4: the tuples, each with the mark of its own node.
     fn tuples(&mut self) -> Result<(), Fault> {
         for address in 0..self.net.address_count as usize {
             let count = self.count(5, 0, TUPLES as u32)?;
             self.net.nodes[address].tuple_count = count as u8;
             for index in 0..count as usize {
-                self.net.nodes[address].tuples[index] = self.tuple()?;
+                let tuple = self.tuple()?.marked(Locality(address as u8));
+                self.net.nodes[address].tuples[index] = tuple;
             }
         }
         Ok(())

@@ -302,6 +302,23 @@ fn processes_fill_slots_from_0() {
     assert_eq!(slots[2..], [Process::FREE; 2]);
 }
 
+/// Three addresses, of which the last two hold tuples.
+#[test]
+fn tuples_are_from_their_own_node() {
+    let rows = "0 0000 0000 0000".repeat(3);
+    let tuples = "00000 00001 00 1 0000 00010 00 1 0000 00 1 0001";
+    let bytes = bits(&format!(
+        "0001 00011 0000000001 {rows} 000 000 000 {tuples} 000"
+    ));
+    let net = read_image(&bytes).unwrap();
+    let mut expected = stops(3, 1);
+    fill_marked(&mut expected, 1, &[from(1, one_address(0))]);
+    let second = [from(2, one_address(0)), from(2, one_address(1))];
+    fill_marked(&mut expected, 2, &second);
+    assert_eq!(net, expected);
+    assert_eq!(write_image(&net), bytes);
+}
+
 #[test]
 fn rights_stand_in_the_order_i_r_o_e() {
     let bytes = bits("0001 00010 0000000001 1 1000 0100 0 0010 0001 000 000 00000 00000 000");

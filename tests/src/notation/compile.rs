@@ -54,7 +54,7 @@ impl Compiler<'_> {
             }
             Line::Held(at, tuple) => {
                 let node = &mut self.net.nodes[at.0 as usize];
-                node.tuples[node.tuple_count as usize] = *tuple;
+                node.tuples[node.tuple_count as usize] = tuple.marked(*at);
                 node.tuple_count += 1;
             }
         }

@@ -71,9 +71,10 @@ impl Draft {
         self.nodes[at.0 as usize].tuple_count as usize == TUPLES
     }
 
+    /// Adds a tuple with the mark of its own node.
     pub fn add_tuple(&mut self, at: Locality, fields: &[Field]) {
         let node = &mut self.nodes[at.0 as usize];
-        node.tuples[node.tuple_count as usize] = Tuple::of(fields);
+        node.tuples[node.tuple_count as usize] = Tuple::of(fields).marked(at);
         node.tuple_count += 1;
     }
 

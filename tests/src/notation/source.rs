@@ -15,6 +15,7 @@ pub struct Source {
 pub enum Line {
     Definition(u16, Process),
     Start(Locality, Process),
+    /// A tuple, of which no mark is written.
     Held(Locality, Tuple),
 }
 

@@ -163,6 +163,16 @@ fn lines_in_any_order() {
 }
 
 #[test]
+fn tuples_are_from_their_own_node() {
+    let text = "0 has\n1 has\n2 has\nA0 = nil\n2 :: <5>\n1 :: <5>\n2 :: <@0>\n";
+    let mut expected = stops(3, 1);
+    fill_marked(&mut expected, 1, &[from(1, readings(&[5]))]);
+    let second = [from(2, readings(&[5])), from(2, one_address(0))];
+    fill_marked(&mut expected, 2, &second);
+    assert_eq!(read_text(text.as_bytes()), Ok(expected));
+}
+
+#[test]
 fn the_deepest_processes() {
     let text = |process: String| format!("0 has 0:e\n0 :: {process}\n");
     let forks = code(&text(brackets(32)));

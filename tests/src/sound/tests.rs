@@ -207,6 +207,24 @@ fn addresses_lie_below_the_count() {
 }
 
 #[test]
+fn marks_lie_below_the_count() {
+    let mark = |mark: u8| move |net: &mut Net| net.nodes[0].tuples[0].from = Locality(mark);
+    assert!(after(mark(0)));
+    assert!(after(mark(1)));
+    assert!(!after(mark(2)));
+    assert!(!after(mark(16)));
+    assert!(!after(mark(255)));
+    let of_16 = |mark: u8| {
+        move |net: &mut Net| {
+            net.address_count = 16;
+            net.nodes[1].tuples[0].from = Locality(mark);
+        }
+    };
+    assert!(after(of_16(15)));
+    assert!(!after(of_16(16)));
+}
+
+#[test]
 fn places_lie_below_the_length() {
     assert!(!after(|net| net.nodes[1].processes[2].at = Place(3)));
     assert!(!after(|net| net.code[1].action = out(Target::Own, 3).action));
@@ -271,6 +289,9 @@ fn records_past_a_count_or_in_a_free_slot_are_zero() {
     assert!(!after(|net| net.nodes[2].processes[0].busy = true));
     assert!(!after(|net| net.nodes[2].tuple_count = 1));
     assert!(!after(|net| net.nodes[0].tuples[1].count = 1));
+    assert!(!after(|net| net.nodes[0].tuples[1].from = Locality(1)));
+    assert!(!after(|net| net.nodes[1].tuples[15].from = Locality(1)));
+    assert!(!after(|net| net.nodes[2].tuples[0].from = Locality(1)));
     assert!(!after(
         |net| net.nodes[0].tuples[15].fields[3] = Field::Reading(1)
     ));
@@ -308,18 +329,24 @@ fn writable(net: &Net) -> bool {
         && net.code.iter().all(fields)
 }
 
-// Variables unset and busy slots moved to the front, as an image has them.
+// Variables unset, busy slots moved to the front and tuples from their own
+// node, as an image has them. A mark that is not sound stays.
 fn as_started(net: &mut Net) {
-    for node in net.nodes.iter_mut() {
+    let count = net.address_count;
+    for (address, node) in net.nodes.iter_mut().enumerate() {
         node.processes
             .iter_mut()
             .for_each(|process| process.variables = Process::FREE.variables);
         node.processes.sort_by_key(|process| !process.busy);
+        let held = node.tuples.iter_mut().take(node.tuple_count as usize);
+        held.filter(|tuple| tuple.from.0 < count)
+            .for_each(|tuple| tuple.from = Locality(address as u8));
     }
 }
 
-/// A net with no variables set is sound exactly when it is written as an
-/// image without faults 21 to 29 and read back the same.
+/// A net with no variables set and no tuple from another node is sound
+/// exactly when it is written as an image without faults 21 to 29 and read
+/// back the same.
 #[test]
 fn soundness_is_what_an_image_can_hold() {
     let mut random = Random::new(12);

@@ -1,5 +1,7 @@
 //! The answers to a pick and the net after it, on nets written by hand.
 
+mod marks;
+
 use super::*;
 use crate::by_hand::*;
 
@@ -96,7 +98,8 @@ fn out_adds_the_newest() {
     assert_eq!(answer, 0);
     let mut expected = net.clone();
     let tuple = Tuple::of(&[reading(4), address(1), address(0), reading(-3)]);
-    fill(&mut expected, 1, &[Tuple::of(&[reading(9)]), tuple]);
+    let tuples = [from(1, readings(&[9])), from(0, tuple)];
+    fill_marked(&mut expected, 1, &tuples);
     process(&mut expected).at = Place(1);
     assert_eq!(after, expected);
 }
@@ -303,7 +306,7 @@ fn sent_code_may_read_where_the_target_may_take() {
     assert_eq!(pick(&mut after, 0x10), 2);
     fill(&mut after, 1, &[readings(&[7])]);
     assert_eq!(pick(&mut after, 0x10), 0);
-    assert_eq!(after.nodes[1].tuples[0], readings(&[7]));
+    assert_eq!(after.nodes[1].tuples[0], from(1, readings(&[7])));
 }
 
 #[test]
@@ -381,7 +384,7 @@ fn eval_starts_a_copy_at_the_target() {
     assert_eq!(after, expected);
     // Self in the sent code then means the target.
     assert_eq!(pick(&mut after, 0x14), 0);
-    assert_eq!(after.nodes[1].tuples[0], Tuple::of(&[address(1)]));
+    assert_eq!(after.nodes[1].tuples[0], from(1, one_address(1)));
 }
 
 #[test]
