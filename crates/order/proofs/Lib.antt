@@ -1,0 +1,5 @@
+pub mod Concerns
+pub mod Edits
+pub mod Frame
+pub mod Moves
+pub mod OrderRule

@@ -1,0 +1,2 @@
+pub mod OrderRule
+pub mod Types
