@@ -1,0 +1,80 @@
+-- What is claimed of the check of a listing (document 02, slip 5): it accepts our own register, every listing made from it
+-- by padding its numbers, and no other; and the first bytes of a listing decide.
+use Prim.Native.Nat.{ℕ, _+_, _<_, _≤_}
+use mathlib.Core.Path.{_≡_}
+use mathlib.Core.List.{List, [], _∷_, _++_}
+use lib.ListN.{length, getD, take, replicate}
+use lib.IntN.{ℤ}
+use Rattle.net.specs.declared.locality.Locality.{Locality}
+use Rattle.text.specs.Decimal.{decimal}
+use Rattle.registers.specs.Words.{Word, name, number, reading, address, printed}
+use Rattle.registers.specs.Register.{registerOf}
+use Rattle.listing.specs.Listing.{Age, Checked, wantedLines, listingOf}
+
+-- ---- "The old program pads numbers: up to ten digits, leading zeros among them; all else is byte for byte"
+
+-- k noughts (48) before a number's plain decimal, at most ten digits in all
+pub data PaddedNumber (n : ℕ) : List ℕ → Type 0 where
+  padded : (k : ℕ) → k + length (decimal n) ≤ 10 → PaddedNumber n (replicate k 48 ++ decimal n)
+
+-- a word: a minus (45) and an @ (64) stand before the padding
+pub data PaddedWord : Word → List ℕ → Type 0 where
+  as-it-is : {text : List ℕ} → PaddedWord (name text) text
+  a-number : {n : ℕ} {ds : List ℕ} → PaddedNumber n ds → PaddedWord (number n) ds
+  above : {n : ℕ} {ds : List ℕ} → PaddedNumber n ds → PaddedWord (reading (ℤ.pos n)) ds
+  below : {n : ℕ} {ds : List ℕ} → PaddedNumber (n + 1) ds → PaddedWord (reading (ℤ.negsuc n)) (45 ∷ ds)
+  an-address : {l : Locality} {ds : List ℕ} → PaddedNumber (l .0) ds → PaddedWord (address l) (64 ∷ ds)
+
+-- words with a space (32) before each
+pub data PaddedWords : List Word → List ℕ → Type 0 where
+  no-words : PaddedWords [] []
+  word-then :
+      {w : Word} {ws : List Word} {u t : List ℕ}
+      → PaddedWord w u
+      → PaddedWords ws t
+      → PaddedWords (w ∷ ws) (32 ∷ (u ++ t))
+
+-- a line: single spaces between its words, and a newline (10) after the last
+pub data PaddedLine : List Word → List ℕ → Type 0 where
+  empty-line : PaddedLine [] (10 ∷ [])
+  line-of :
+      {w : Word} {ws : List Word} {u t : List ℕ}
+      → PaddedWord w u
+      → PaddedWords ws t
+      → PaddedLine (w ∷ ws) (u ++ (t ++ 10 ∷ []))
+
+-- lines, one after another
+pub data Padded : List (List Word) → List ℕ → Type 0 where
+  no-lines : Padded [] []
+  line-then :
+      {line : List Word} {lines : List (List Word)} {u t : List ℕ}
+      → PaddedLine line u
+      → Padded lines t
+      → Padded (line ∷ lines) (u ++ t)
+
+-- ---- the claims, of every image and every list of picks, each a byte
+
+-- our own register agrees: today's where the caller calls it new, and in the form of either age
+pub record PlainAgrees : Type 0 where
+  pub today :
+      (image picks : List ℕ)
+      → ((i : ℕ) → getD picks i 0 < 256)
+      → listingOf image picks (registerOf image picks) Age.New ≡ Checked.Agrees
+  pub either :
+      (image picks : List ℕ) (age : Age)
+      → ((i : ℕ) → getD picks i 0 < 256)
+      → listingOf image picks (printed (wantedLines image picks age)) age ≡ Checked.Agrees
+
+-- so does every listing made from it by padding numbers
+unfoldable pub PaddedAgrees : Type 0
+PaddedAgrees =
+    (image picks listing : List ℕ) (age : Age)
+    → Padded (wantedLines image picks age) listing
+    → listingOf image picks listing age ≡ Checked.Agrees
+
+-- and no other does
+unfoldable pub AgreesOnly : Type 0
+AgreesOnly =
+    (image picks listing : List ℕ) (age : Age)
+    → listingOf image picks listing age ≡ Checked.Agrees
+    → Padded (wantedLines image picks age) listing

@@ -1,0 +1,2 @@
+// Checking the old host's listings (document 02, slip 5).
+pub mod checking;
