@@ -42,7 +42,7 @@ digits-both : {a b : List ℕ} → AllDigits a → AllDigits b → AllDigits (a 
 digits-both none g = g
 digits-both (one h r) g = one h (digits-both r g)
 
-front-digits : (bs : List ℕ) → AllDigits (digitsOf bs)
+pub front-digits : (bs : List ℕ) → AllDigits (digitsOf bs)
 unfolding digitsOf
 front-digits [] = none
 front-digits (b ∷ bs) = chosen AllDigits (isDigit b) _ _ (λ e. one e (front-digits bs)) (λ _. none)
