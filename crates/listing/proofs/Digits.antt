@@ -21,7 +21,7 @@ use Rattle.listing.specs.Listing.{digitsOf, afterDigits, valueFrom, writ
 use Rattle.listing.specs.ListingClaims.{PaddedNumber, padded}
 
 -- ---- digits
-digit-low : (b : ℕ) → isDigit b ≡ true → 48 ≤ b
+pub digit-low : (b : ℕ) → isDigit b ≡ true → 48 ≤ b
 unfolding isDigit
 digit-low b h = leb-true 48 b (both-l _ _ h)
 
