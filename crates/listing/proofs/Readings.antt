@@ -2,21 +2,32 @@
 -- A pick makes no other.
 -- Assumes nothing.
 use Prim.Native.Nat.{ℕ, zero, suc, _+_, _<_, _≤_}
-use mathlib.Core.Path.{_≡_, refl}
-use mathlib.Core.Bool.{Bool, true, false}
+use mathlib.Core.Path.{_≡_, refl, sym, subst}
+use mathlib.Core.Logic.{_⊎_, inl, inr}
+use mathlib.Core.Bool.{true, not}
 use mathlib.Core.List.{List, [], _∷_}
 use native.Mathlib.Omega.{arith}
 use native.Mathlib.Decide.{decLe}
 use lib.ListN.{length, getD, set, replicate, List·getD-eq-default}
+use lib.Dec.{ltb}
 use lib.IntN.{ℤ}
-use Rattle.net.specs.Choice.{choose, fold}
+use Rattle.net.specs.Choice.{choose, fold, all}
 use Rattle.net.specs.Records.{fieldAt, variableAt, processAt, tupleAt, patternAt, nodeAt, instructionAt, addressOf, placeOf}
 use Rattle.net.specs.Records.{zeroField, zeroTuple, unsetVariable, freeProcess, zeroNode, withField, marked, withVariable, withRow, withProcess}
-use Rattle.net.specs.Records.{withTuple, withNode, movedTo, copiedTo, afterTaking, withoutTuple, freeSlot}
+use Rattle.net.specs.Records.{withTuple, withNode, movedTo, copiedTo, afterTaking, withoutTuple, processCount}
+use Rattle.net.specs.Records.{zeroTemplateField, zeroInstruction, emptyNet}
+use Rattle.net.specs.declared.instruction.TemplateField.{TemplateField}
+use Rattle.net.proofs.Laws.{both-l, both-r, all-e}
 use Rattle.net.proofs.Every.{chosen}
 use Rattle.net.proofs.FoldLaws.{fold-keeps}
-use Rattle.net.proofs.Past.{pastField, pastVariable, pastProcess, pastTuple, pastNode}
-use Rattle.fresh.specs.Fresh.{readingFits, itemFits, patternFits}
+use Rattle.net.proofs.Past.{pastField, pastVariable, pastProcess, pastTuple, pastNode, pastTemplate, pastInstruction}
+use Rattle.sound.specs.Soundness.{isUnset, allUnset}
+use Rattle.fresh.specs.Fresh.{readingFits, itemFits, patternFits, slotStarts, nodeStarts, startsAt}
+use Rattle.written.proofs.FreshFits.{TupleFit, tuple-fit, NodeFit, node-fit, InstructionFit, instruction-fit, NetFit, net-fit}
+use Rattle.written.proofs.FreshNet.{net-fits, net-starts}
+use Rattle.written.proofs.WrittenWhole as Written
+use Rattle.written.proofs.AcceptedWritten.{opened-ok as opened-is}
+use Rattle.image.specs.Image.{openedOf}
 use Rattle.matching.specs.declared.template.Want.{Want}
 use Rattle.matching.specs.declared.template.Wanted.{Wanted}
 use Rattle.matching.specs.Matching.{heldItem, wantOf, zeroWanted, wantsOf, evaluatedOf, wantAt, valueOf, boundField, boundOf, boundAt, matchedOf, oldestOf}
@@ -296,3 +307,91 @@ pub ran-after : (s : Net) (picks : List ℕ) → NetOk s → NetOk (ranFrom s pi
 unfolding ranFrom answered
 ran-after s [] ok = ok
 ran-after s (b ∷ bs) ok = ran-after (pickOf s b .net) bs (picked-after s ok b .net-ok)
+
+-- ---- the net of an image
+at-any :
+    {A : Type 0} (P : A → Type 0) (d : A) (xs : List A) (n : ℕ) → length xs ≡ n → ((i : ℕ) → i < n → P (getD xs i d)) → P d
+    → (i : ℕ) → P (getD xs i d)
+at-any P d xs n e f p i = go (decLe n i)
+  where
+    go : Dec (n ≤ i) → P (getD xs i d)
+    go (yes h) = subst P (sym (List·getD-eq-default xs d {n = i} (omega arith))) p
+    go (no h) = f i (omega arith)
+
+unset-ok : (x : Value) → isUnset x ≡ true → ItemOk (heldItem x)
+unfolding isUnset heldItem
+unset-ok Value.Unset h = nought-ok
+unset-ok (Value.Reading x) h = let z : _≡_ {A = ℕ} 0 1 = cc in absurd (omega arith)
+unset-ok (Value.Address l) h = let z : _≡_ {A = ℕ} 0 1 = cc in absurd (omega arith)
+
+starting-process : (p : Process) → length (p .variables) ≡ 8 → allUnset p ≡ true → ProcessOk p
+unfolding allUnset variableAt heldItem
+starting-process p long h = record {
+  each =
+      at-any (λ (x : Variable). ItemOk (heldItem (x .value))) pastVariable (p .variables) 8 long
+      (λ v l. unset-ok _ (all-e 8 _ h v l)) nought-ok;
+}
+
+fitting-tuple : (t : Tuple) → TupleFit t → TupleOk t
+unfolding fieldAt
+fitting-tuple t fit = record {
+  each =
+      at-any (λ (f : Field). ItemOk (f .item)) pastField (t .fields) 4 (fit .shaped .fields-are) (fit .each-item) nought-ok;
+}
+
+starting-node : (x : Node) → NodeFit x → nodeStarts x ≡ true → NodeOk x
+unfolding nodeStarts slotStarts processAt tupleAt
+starting-node x fit h = record {
+  processes =
+      at-any ProcessOk pastProcess (x .processes) 4 (fit .shaped .processes-are)
+      (λ k l. starting-process _ (fit .shaped .each-process k l .variables-are)
+      (both-r (choose (ltb k (processCount x)) (processAt x k .busy) (not (processAt x k .busy))) _ (all-e 4 _ h k l)))
+      past-process;
+  tuples =
+      at-any TupleOk pastTuple (x .tuples) 16 (fit .shaped .tuples-are)
+      (λ i l. fitting-tuple _ (tuple-fit _ (fit .each-tuple i l))) past-tuple;
+}
+
+past-node : NodeOk pastNode
+unfolding processAt tupleAt
+past-node = record { processes = λ k. past-process; tuples = λ i. past-tuple }
+
+abbrev CodeOk : Instruction → Type 0
+CodeOk c = (i : ℕ) → patternFits (patternAt c i) ≡ true
+
+past-code : CodeOk pastInstruction
+unfolding patternAt patternFits readingFits
+past-code i = refl
+
+fitting-code : (c : Instruction) → InstructionFit c → CodeOk c
+unfolding patternAt patternFits readingFits
+fitting-code c fit =
+    at-any (λ (f : TemplateField). patternFits (f .pattern) ≡ true) pastTemplate (c .template) 4 (fit .shaped .template-is)
+    (fit .each-pattern) refl
+
+starting-net : (s : Net) → NetFit s → all 16 (λ a. startsAt s (addressOf a)) ≡ true → NetOk s
+unfolding startsAt nodeAt instructionAt
+starting-net s fit h = record {
+  nodes = λ a.
+      at-any NodeOk pastNode (s .nodes) 16 (fit .shaped .nodes-are)
+      (λ i l. starting-node _ (node-fit _ (fit .each-node i l)) (both-l _ _ (all-e 16 _ h i l))) past-node (a .0);
+  code = λ p.
+      at-any CodeOk pastInstruction (s .code) 512 (fit .shaped .code-is)
+      (λ i l. fitting-code _ (instruction-fit _ (fit .each-instruction i l))) past-code (p .0);
+}
+
+empty-ok : NetOk emptyNet
+unfolding emptyNet nodeAt instructionAt zeroInstruction zeroTemplateField patternAt patternFits readingFits
+empty-ok = record {
+  nodes = λ a. same-at NodeOk pastNode 16 zeroNode (a .0) zero-node past-node;
+  code = λ p.
+      same-at CodeOk pastInstruction 512 zeroInstruction (p .0)
+      (λ i. same-at (λ (f : TemplateField). patternFits (f .pattern) ≡ true) pastTemplate 4 zeroTemplateField i refl refl) past-code;
+}
+
+pub opened-readings : (image : List ℕ) → NetOk (openedOf image .net)
+opened-readings image = go (opened-is image)
+  where
+    go : Written.NetOk (openedOf image .net) ⊎ (emptyNet ≡ openedOf image .net) → NetOk (openedOf image .net)
+    go (inl ok) = starting-net _ (net-fit _ (net-fits _ ok)) (net-starts _ ok)
+    go (inr e) = subst NetOk e empty-ok
