@@ -1,0 +1,43 @@
+-- The claims of `specs/ListingClaims.antt`. Assumes nothing.
+use Prim.Native.Nat.{ℕ, _<_}
+use mathlib.Core.List.{List}
+use lib.ListN.{getD, take}
+use Rattle.image.specs.Image.{openedOf}
+use Rattle.run.specs.Run.{runOf}
+use Rattle.registers.specs.Register.{registerIn, registerOf}
+use Rattle.listing.specs.Listing.{Age, shownFor, wantedLines, checkedOf, listingOf}
+use Rattle.listing.specs.ListingClaims.{PlainAgrees, PaddedAgrees, AgreesOnly}
+use Rattle.listing.proofs.Agreeing.{FineLines, Short, padded-agrees, listing-only, plain-lines}
+use Rattle.listing.proofs.Wanted.{lines-fine, outcome-always}
+use Rattle.listing.proofs.Small.{outcome-short}
+
+-- a fact that every number has
+data Any (n : ℕ) : Type 0 where
+  any : Any n
+
+wanted-fine : (image picks : List ℕ) (age : Age) → FineLines Any (wantedLines image picks age)
+unfolding wantedLines
+wanted-fine image picks age =
+    lines-fine (shownFor age) (openedOf image .net) (take 65536 picks)
+    (outcome-always Any (λ n. any) (openedOf image .net) (take 65536 picks) (runOf image (take 65536 picks)))
+
+wanted-short :
+    (image picks : List ℕ) (age : Age) → ((i : ℕ) → getD picks i 0 < 256) → FineLines Short (wantedLines image picks age)
+unfolding wantedLines
+wanted-short image picks age bytes =
+    lines-fine (shownFor age) (openedOf image .net) (take 65536 picks) (outcome-short image picks bytes)
+
+pub paddedAgrees : PaddedAgrees
+unfolding PaddedAgrees listingOf checkedOf
+paddedAgrees image picks listing age p = padded-agrees 1 (wanted-fine image picks age) p
+
+pub agreesOnly : AgreesOnly
+unfolding AgreesOnly listingOf checkedOf
+agreesOnly image picks listing age h = listing-only 1 (wantedLines image picks age) listing h
+
+pub plainAgrees : PlainAgrees
+unfolding PaddedAgrees registerOf registerIn wantedLines shownFor
+plainAgrees = record {
+  today = λ image picks bytes. paddedAgrees image picks _ Age.New (plain-lines (wanted-short image picks Age.New bytes));
+  either = λ image picks age bytes. paddedAgrees image picks _ age (plain-lines (wanted-short image picks age bytes));
+}
