@@ -49,7 +49,7 @@ unfolding clean
 clean-both [] b h g = g
 clean-both (x ∷ a) b h g = both-i _ _ (both-l _ _ h) (clean-both a b (both-r (not (eqb x 10)) _ h) g)
 
-clean-byte : (b : ℕ) (text : List ℕ) → (b ≡ 10 → ⊥) → clean text ≡ true → clean (b ∷ text) ≡ true
+pub clean-byte : (b : ℕ) (text : List ℕ) → (b ≡ 10 → ⊥) → clean text ≡ true → clean (b ∷ text) ≡ true
 unfolding clean
 clean-byte b text h g = both-i _ _ (ap not (ne-eqb b 10 h)) g
 
@@ -102,7 +102,7 @@ module _ {Q : ℕ → Type 0} where
   }
 
 -- ---- such a line is the first one listed
-listed-body : (body rest : List ℕ) → clean body ≡ true → listed ((body ++ 10 ∷ []) ++ rest) ≡ (body ++ 10 ∷ []) ∷ listed rest
+pub listed-body : (body rest : List ℕ) → clean body ≡ true → listed ((body ++ 10 ∷ []) ++ rest) ≡ (body ++ 10 ∷ []) ∷ listed rest
 unfolding listed clean atFront
 listed-body [] rest h = choose-true (eqb 10 10) ((10 ∷ []) ∷ listed rest) (atFront 10 (listed rest)) (eq-eqb 10 10 refl)
 listed-body (b ∷ body) rest h =

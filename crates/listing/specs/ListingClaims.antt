@@ -78,3 +78,22 @@ AgreesOnly =
     (image picks listing : List ℕ) (age : Age)
     → listingOf image picks listing age ≡ Checked.Agrees
     → Padded (wantedLines image picks age) listing
+
+-- how many bytes the longest listing has that agrees: of 65,536 picks and of 16 addresses, each with 16 tuples of four
+-- readings below nought, every number padded to ten digits
+abbrev pub longestListing : ℕ
+longestListing = 3232651
+
+-- no listing that agrees is longer
+unfoldable pub LongestListing : Type 0
+LongestListing =
+    (image picks listing : List ℕ) (age : Age)
+    → listingOf image picks listing age ≡ Checked.Agrees
+    → length listing ≤ longestListing
+
+-- the first bytes, one more than that, decide what is answered
+unfoldable pub FirstBytesDecide : Type 0
+FirstBytesDecide =
+    (image picks listing : List ℕ) (age : Age) (k : ℕ)
+    → longestListing < k
+    → listingOf image picks (take k listing) age ≡ listingOf image picks listing age
