@@ -1,0 +1,2 @@
+pub mod BestIs
+pub mod Lowest
