@@ -1,2 +1,4 @@
 pub mod BestIs
+pub mod Fitting
 pub mod Lowest
+pub mod SeasonClaims
