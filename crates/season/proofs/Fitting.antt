@@ -6,7 +6,7 @@ use mathlib.Core.Bool.{Bool, true, false}
 use mathlib.Core.List.{List, [], _∷_, map, List·Memᴰ, List·Memᴰ·head, List·Memᴰ·tail, List·Memᴰ·not-nil}
 use mathlib.Core.List.{List·Memᴰ·append-cases, List·Memᴰ·eq-of-singleton}
 use native.Mathlib.Omega.{arith}
-use native.Mathlib.Nat.{mul-suc}
+use native.Mathlib.Nat.{mul-suc, mul-le-mul}
 use lib.ListN.{length, take, length-take}
 use Rattle.net.specs.Choice.{choose, both}
 use Rattle.net.specs.Shape.{Shaped}
@@ -89,7 +89,7 @@ in-fits image picks Verdict.Accepted e few m h =
     (counts-fit _ few (ends-sound (openedOf image .net) picks (opened-shaped image) (opened-sound image (openedOf image) refl e)))
 in-fits image picks (Verdict.Refused f) e few m h = absurd (List·Memᴰ·not-nil h)
 
-made-fits : (run : Run) (m : MadeRun) → List·Memᴰ m (madeOf run) → CountsFit m
+pub made-fits : (run : Run) (m : MadeRun) → List·Memᴰ m (madeOf run) → CountsFit m
 unfolding madeOf runOf
 made-fits run m h =
     let few : length (take 65536 (run .picks)) ≤ 65536 = omega (arith, length-take 65536 (run .picks)) in
@@ -134,5 +134,14 @@ sums-fit ms h few = record {
   left-most = λ l. let most = summed-most (leftAt l) 16 ms (λ m e. h m e .left-most l) in omega (arith, most);
 }
 
+crossed : (l : Locality) (m n : MadeRun) → CountsFit m → CountsFit n → performedAt l m * picksAt l n ≤ 4294967296
+crossed l m n f g =
+    let most : performedAt l m ≤ 65536 = omega (arith, f .performed-most l, f .picks-most l) in
+    mul-le-mul most (g .picks-most l)
+
 pub seasonFits : SeasonFits
-seasonFits = record { each = each-fits; all = λ runs few. sums-fit (madeRuns runs) (each-fits runs) few }
+seasonFits = record {
+  each = each-fits;
+  cross = λ runs m n e d l. crossed l m n (each-fits runs m e) (each-fits runs n d);
+  all = λ runs few. sums-fit (madeRuns runs) (each-fits runs) few;
+}

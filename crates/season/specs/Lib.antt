@@ -1,4 +1,5 @@
 pub mod Fractions
 pub mod Season
 pub mod SeasonClaims
+pub mod Sums
 pub mod Types

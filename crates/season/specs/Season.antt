@@ -125,9 +125,9 @@ pub data Season : Type 0 where
   figures : List ℕ → Season
   none-given : ℕ → Season
 
-unfoldable pub seasonIn : List MadeRun → Season
-seasonIn ms =
-    choose (eqb (length ms) 0) (none-given 44) (choose (ltb 1000 (length ms)) (none-given 45) (figures (figuresOf ms)))
+unfoldable pub seasonWith : ℕ → List ℕ → Season
+seasonWith made text =
+    choose (eqb made 0) (none-given 44) (choose (ltb 1000 made) (none-given 45) (figures text))
 
 unfoldable pub seasonOf : List Run → Season
-seasonOf runs = seasonIn (madeRuns runs)
+seasonOf runs = seasonWith (length (madeRuns runs)) (figuresOf (madeRuns runs))

@@ -7,7 +7,8 @@ use lib.ListN.{length}
 use Rattle.season.specs.Types.{Locality}
 use Rattle.season.specs.Fractions.{Fraction, fraction, fractionAt, Best, nobody, leader}
 use Rattle.season.specs.Season.{Run, MadeRun, madeRuns, picksAt, performedAt, leftAt, allPicks, allPerformed, allLeft}
-use Rattle.season.specs.Season.{shareOver, meanOver, sharesAt, bestAt}
+use Rattle.season.specs.Season.{shareOver, meanOver, sharesAt, bestAt, seasonOf}
+use Rattle.season.specs.Sums.{emptySums, afterRuns, seasonFrom}
 
 -- ---- "in lowest terms"
 
@@ -65,4 +66,11 @@ pub record SumsFit (ms : List MadeRun) : Type 0 where
 
 pub record SeasonFits : Type 0 where
   pub each : (runs : List Run) (m : MadeRun) → List·Memᴰ m (madeRuns runs) → CountsFit m
+  pub cross :
+      (runs : List Run) (m n : MadeRun) → List·Memᴰ m (madeRuns runs) → List·Memᴰ n (madeRuns runs) → (l : Locality)
+      → performedAt l m * picksAt l n ≤ 4294967296
   pub all : (runs : List Run) → length (madeRuns runs) ≤ 1000 → SumsFit (madeRuns runs)
+
+-- ---- "the promise is for sums begun empty and changed by these calls alone": their figures are those of the runs
+unfoldable pub SumsGiveSeason : Type 0
+SumsGiveSeason = (runs : List Run) → seasonFrom (afterRuns emptySums runs) ≡ seasonOf runs
