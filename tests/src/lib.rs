@@ -1,5 +1,5 @@
-//! An independent model of the net, its images and texts, picks and
-//! register, written from documents 01 and 02 alone. Other programs are
+//! An independent model of the net, its images and texts, picks, register
+//! and listings, written from documents 01 and 02 alone. Other programs are
 //! compared with it.
 
 pub mod bits;
@@ -10,6 +10,7 @@ pub mod examples;
 pub mod faulty;
 pub mod generate;
 pub mod image;
+pub mod listing;
 pub mod matching;
 pub mod net;
 pub mod notation;

@@ -1,6 +1,7 @@
 //! The repository's programs: where they lie, and running them.
 
 use crate::stored::repository;
+use std::ffi::OsStr;
 use std::path::{Path, PathBuf};
 use std::process::{Child, Command, Output, Stdio};
 use std::sync::atomic::{AtomicUsize, Ordering};
@@ -30,7 +31,13 @@ pub fn print_register(directory: &Path) -> Vec<u8> {
 /// What a program of the repository prints in a directory. A missing
 /// program, or one that does not end well, is a failure.
 pub fn printed_by(name: &str, directory: &Path) -> Vec<u8> {
-    let output = printed_in(directory, &mut Command::new(program(name)));
+    printed_given(name, &[], directory)
+}
+
+/// The same with these arguments.
+pub fn printed_given(name: &str, arguments: &[&str], directory: &Path) -> Vec<u8> {
+    let mut command = Command::new(program(name));
+    let output = printed_in(directory, command.args(arguments));
     started(name, output)
 }
 
@@ -50,10 +57,21 @@ pub fn printed_in(directory: &Path, command: &mut Command) -> io::Result<Vec<u8>
 /// Runs a program of the repository in a directory, on this input and
 /// output.
 pub fn run_on(name: &str, directory: &Path, input: Stdio, output: Stdio) -> Output {
+    run_given(name, &[""; 0], directory, input, output)
+}
+
+/// The same with these arguments.
+pub fn run_given(
+    name: &str,
+    arguments: &[impl AsRef<OsStr>],
+    directory: &Path,
+    input: Stdio,
+    output: Stdio,
+) -> Output {
     let mut command = Command::new(program(name));
-    command.current_dir(directory).stdin(input).stdout(output);
-    let child = command.stderr(Stdio::piped()).spawn();
-    let ended = started(name, child).wait_with_output();
+    command.args(arguments).current_dir(directory);
+    command.stdin(input).stdout(output).stderr(Stdio::piped());
+    let ended = started(name, command.spawn()).wait_with_output();
     ended.expect("it can be waited for")
 }
 
@@ -61,6 +79,20 @@ fn started<T>(name: &str, result: io::Result<T>) -> T {
     result.unwrap_or_else(|error| {
         let path = program(name);
         panic!("{}: {error}; `rt check {name}` makes it", path.display())
+    })
+}
+
+/// What is made of each of these, by two threads.
+pub fn on_two_threads<T: Sync, R: Send>(all: &[T], make: impl Fn(&T) -> R + Sync) -> Vec<R> {
+    let (first, second) = all.split_at(all.len() / 2);
+    std::thread::scope(|scope| {
+        let other = scope.spawn(|| second.iter().map(&make).collect::<Vec<_>>());
+        let mut made: Vec<_> = first.iter().map(&make).collect();
+        match other.join() {
+            Ok(others) => made.extend(others),
+            Err(failure) => std::panic::resume_unwind(failure),
+        }
+        made
     })
 }
 
@@ -95,5 +127,19 @@ impl Drop for TestDirectory {
     fn drop(&mut self) {
         // What cannot be removed is left to the system.
         let _ = fs::remove_dir_all(&self.path);
+    }
+}
+
+#[cfg(test)]
+mod tests {
+    use super::*;
+
+    #[test]
+    fn two_threads_keep_the_order() {
+        for count in 0..6 {
+            let all: Vec<usize> = (0..count).collect();
+            let made = on_two_threads(&all, |number| number + 1);
+            assert!(made.into_iter().eq(1..=count));
+        }
     }
 }

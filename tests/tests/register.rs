@@ -5,7 +5,7 @@ use cavindorum_tests::by_hand::{longest, PAPER_IMAGE};
 use cavindorum_tests::faulty::faulty_images;
 use cavindorum_tests::generate::{damaged_image, picks, valid_image};
 use cavindorum_tests::image::{read_image, write_image};
-use cavindorum_tests::program::{print_register, TestDirectory};
+use cavindorum_tests::program::{on_two_threads, print_register, TestDirectory};
 use cavindorum_tests::random::Random;
 use cavindorum_tests::register::{answers_in, register, MOST_PICKS};
 
@@ -27,16 +27,7 @@ fn files(image: &[u8], picks: &[u8]) -> Files {
 /// Runs the program on all of these, on two threads, and compares what it
 /// prints with the model's registers, which are returned.
 fn compare_all(all: &[Files]) -> Vec<String> {
-    let (first, second) = all.split_at(all.len() / 2);
-    std::thread::scope(|scope| {
-        let other = scope.spawn(|| second.iter().map(compare).collect::<Vec<_>>());
-        let mut registers: Vec<_> = first.iter().map(compare).collect();
-        match other.join() {
-            Ok(others) => registers.extend(others),
-            Err(failure) => std::panic::resume_unwind(failure),
-        }
-        registers
-    })
+    on_two_threads(all, compare)
 }
 
 fn compare(files: &Files) -> String {
