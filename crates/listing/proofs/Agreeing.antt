@@ -1,21 +1,20 @@
 -- A listing agrees with wanted lines whose names have no newline exactly where it is a padding of them.
 -- Assumes nothing.
 use Prim.Native.Nat.{ℕ, zero, suc, _+_, _<_, _≤_}
-use mathlib.Core.Path.{_≡_, refl, sym, ap, subst, _∙_}
+use mathlib.Core.Path.{_≡_, refl, ap, subst, _∙_}
 use mathlib.Core.Bool.{Bool, true, false, not}
-use mathlib.Core.List.{List, [], _∷_, _++_, append-nil, append-assoc}
+use mathlib.Core.List.{List, [], _∷_, _++_, append-assoc}
 use native.Mathlib.Omega.{arith}
 use lib.ListN.{length}
 use lib.Dec.{eqb}
 use lib.IntN.{ℤ}
-use borrow.Author.Tests.{eq-eqb, ne-eqb, eqb-true, not-true}
+use borrow.Author.Tests.{eq-eqb, ne-eqb, not-true}
 use Rattle.net.specs.declared.locality.Locality.{Locality}
 use Rattle.net.specs.Choice.{choose, both}
 use Rattle.net.proofs.Laws.{both-i, both-l, both-r, choose-true, choose-false}
 use Rattle.net.proofs.Every.{chosen}
 use Rattle.text.specs.Decimal.{decimal, signedDecimal}
 use Rattle.text.specs.Joined.{joined}
-use Rattle.lexemes.specs.Lexemes.{isDigit}
 use Rattle.registers.specs.Words.{Word, name, number, reading, address, wordText, spaced, lineText, printed}
 use Rattle.listing.specs.Listing.{Checked, atFront, listed, carries, checkedFrom}
 use Rattle.listing.specs.ListingClaims.{PaddedNumber, padded, PaddedWord, as-it-is, a-number, above, below, an-address}

@@ -9,9 +9,9 @@ use native.Mathlib.Omega.{arith}
 use native.Mathlib.Nat.{pow-suc, pow-le-pow-right, mul-le-mul-right}
 use native.Mathlib.Decide.{decLe}
 use lib.ListN.{length, replicate, length-append, length-replicate}
-use lib.Dec.{ltb, leb, eqb}
-use borrow.Author.Tests.{le-leb, leb-true, lt-leb, eq-eqb, eqb-true}
-use Rattle.net.specs.Choice.{choose, both, inRange}
+use lib.Dec.{leb}
+use borrow.Author.Tests.{le-leb, leb-true, eq-eqb, eqb-true}
+use Rattle.net.specs.Choice.{choose, inRange}
 use Rattle.net.proofs.Laws.{both-i, both-l, both-r, in-range, in-range-low, in-range-high, choose-true, choose-false}
 use Rattle.net.proofs.Every.{chosen, chosen-lt}
 use Rattle.lexemes.specs.Lexemes.{isDigit}

@@ -3,24 +3,24 @@
 use Prim.Native.Nat.{ℕ, zero, suc, _+_, _-_, _<_, _≤_}
 use mathlib.Core.Path.{_≡_, refl, sym, ap, subst, _∙_}
 use mathlib.Core.Bool.{Bool, true, false, not}
-use mathlib.Core.List.{List, [], _∷_, _++_, append-assoc}
+use mathlib.Core.List.{List, [], _∷_, _++_}
 use native.Mathlib.Omega.{arith}
 use native.Mathlib.Decide.{decLe}
 use lib.ListN.{length, take, length-append}
-use lib.Seq.{take-all, take-nil, take-append-le, take-append-add, length-take-le}
+use lib.Seq.{take-all, take-append-le, take-append-add, length-take-le}
 use lib.Dec.{eqb}
 use borrow.Author.Tests.{eqb-true, not-true}
-use Rattle.net.specs.Choice.{choose, both}
+use Rattle.net.specs.Choice.{choose}
 use Rattle.net.proofs.Laws.{both-i, both-l, both-r, choose-false}
 use Rattle.net.proofs.Every.{chosen}
 use Rattle.registers.specs.Words.{Word, name, number, reading, address}
 use Rattle.listing.specs.Listing.{Checked, atFront, listed, carries, checkedFrom}
-use Rattle.listing.specs.ListingClaims.{PaddedNumber, PaddedWord, as-it-is, a-number, above, below, an-address}
+use Rattle.listing.specs.ListingClaims.{PaddedWord, as-it-is, a-number, above, below, an-address}
 use Rattle.listing.specs.ListingClaims.{PaddedWords, no-words, word-then, PaddedLine, empty-line, line-of}
 use Rattle.listing.specs.ListingClaims.{Padded, no-lines, line-then}
 use Rattle.listing.proofs.Digits.{padded-length}
 use Rattle.listing.proofs.Carrying.{carried-line}
-use Rattle.listing.proofs.Agreeing.{clean, clean-byte, listed-body}
+use Rattle.listing.proofs.Agreeing.{clean, listed-body}
 
 -- ---- how many bytes words and lines take at most
 unfoldable pub wordRoom : Word → ℕ

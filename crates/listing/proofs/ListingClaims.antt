@@ -1,15 +1,19 @@
 -- The claims of `specs/ListingClaims.antt`. Assumes nothing.
-use Prim.Native.Nat.{ℕ, _<_}
+use Prim.Native.Nat.{ℕ, _<_, _≤_}
 use mathlib.Core.List.{List}
-use lib.ListN.{getD, take}
+use native.Mathlib.Omega.{arith}
+use native.Mathlib.Nat.{le-trans}
+use lib.ListN.{getD, take, length-take}
 use Rattle.image.specs.Image.{openedOf}
 use Rattle.run.specs.Run.{runOf}
 use Rattle.registers.specs.Register.{registerIn, registerOf}
 use Rattle.listing.specs.Listing.{Age, shownFor, wantedLines, checkedOf, listingOf}
-use Rattle.listing.specs.ListingClaims.{PlainAgrees, PaddedAgrees, AgreesOnly}
+use Rattle.listing.specs.ListingClaims.{PlainAgrees, PaddedAgrees, AgreesOnly, longestListing, LongestListing, FirstBytesDecide}
 use Rattle.listing.proofs.Agreeing.{FineLines, Short, padded-agrees, listing-only, plain-lines}
 use Rattle.listing.proofs.Wanted.{lines-fine, outcome-always}
 use Rattle.listing.proofs.Small.{outcome-short}
+use Rattle.listing.proofs.FirstBytes.{linesRoom, lines-room, decided}
+use Rattle.listing.proofs.Longest.{register-room}
 
 -- a fact that every number has
 data Any (n : ℕ) : Type 0 where
@@ -41,3 +45,20 @@ plainAgrees = record {
   today = λ image picks bytes. paddedAgrees image picks _ Age.New (plain-lines (wanted-short image picks Age.New bytes));
   either = λ image picks age bytes. paddedAgrees image picks _ age (plain-lines (wanted-short image picks age bytes));
 }
+
+-- ---- how long
+wanted-room : (image picks : List ℕ) (age : Age) → linesRoom (wantedLines image picks age) ≤ longestListing
+unfolding wantedLines
+wanted-room image picks age =
+    register-room (shownFor age) _ (take 65536 picks) _ (omega (arith, length-take 65536 picks))
+
+pub longestAgrees : LongestListing
+unfolding LongestListing AgreesOnly
+longestAgrees image picks listing age h =
+    le-trans (lines-room (agreesOnly image picks listing age h)) (wanted-room image picks age)
+
+pub firstBytesDecide : FirstBytesDecide
+unfolding FirstBytesDecide listingOf checkedOf
+firstBytesDecide image picks listing age k h =
+    let most = wanted-room image picks age in
+    decided (wantedLines image picks age) 1 k listing (omega (arith, most))

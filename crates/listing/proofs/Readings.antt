@@ -11,8 +11,8 @@ use native.Mathlib.Decide.{decLe}
 use lib.ListN.{length, getD, set, replicate, List·getD-eq-default}
 use lib.Dec.{ltb}
 use lib.IntN.{ℤ}
-use Rattle.net.specs.Choice.{choose, fold, all}
-use Rattle.net.specs.Records.{fieldAt, variableAt, processAt, tupleAt, patternAt, nodeAt, instructionAt, addressOf, placeOf}
+use Rattle.net.specs.Choice.{choose, all}
+use Rattle.net.specs.Records.{fieldAt, variableAt, processAt, tupleAt, patternAt, nodeAt, instructionAt, addressOf}
 use Rattle.net.specs.Records.{zeroField, zeroTuple, unsetVariable, freeProcess, zeroNode, withField, marked, withVariable, withRow, withProcess}
 use Rattle.net.specs.Records.{withTuple, withNode, movedTo, copiedTo, afterTaking, withoutTuple, processCount}
 use Rattle.net.specs.Records.{zeroTemplateField, zeroInstruction, emptyNet}
@@ -31,8 +31,7 @@ use Rattle.image.specs.Image.{openedOf}
 use Rattle.matching.specs.declared.template.Want.{Want}
 use Rattle.matching.specs.declared.template.Wanted.{Wanted}
 use Rattle.matching.specs.Matching.{heldItem, wantOf, zeroWanted, wantsOf, evaluatedOf, wantAt, valueOf, boundField, boundOf, boundAt, matchedOf, oldestOf}
-use Rattle.plans.specs.Request.{requestOf}
-use Rattle.plans.specs.Additions.{itemOf, tupleOf, gaining}
+use Rattle.plans.specs.Additions.{itemOf, tupleOf}
 use Rattle.step.specs.Types.{Locality, Place, Value, Variable, Item, Field, Tuple, Row, Process, Slot, Node, Pattern, Instruction, Net}
 use Rattle.step.specs.Types.{Evaluated, Found, Answer, Request}
 use Rattle.step.specs.declared.machine.Picked.{Picked}

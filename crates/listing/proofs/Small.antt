@@ -1,17 +1,16 @@
 -- No number of the wanted lines has more than ten digits: each is below 10,000,000,000.
 -- Assumes nothing.
 use Prim.Native.Nat.{ℕ, zero, suc, _+_, _*_, _/_, _%_, _^_, _<_, _≤_}
-use mathlib.Core.Path.{_≡_, refl, sym, ap, subst, _∙_}
-use mathlib.Core.Bool.{Bool, true, false}
-use mathlib.Core.List.{List, [], _∷_, _++_, map}
+use mathlib.Core.Path.{_≡_, refl, ap, _∙_}
+use mathlib.Core.Bool.{true}
+use mathlib.Core.List.{List, [], _∷_, map}
 use native.Mathlib.Omega.{arith}
-use native.Mathlib.Nat.{pow-suc, le-trans}
+use native.Mathlib.Nat.{pow-suc}
 use lib.ListN.{length, getD, take, length-append, length-take}
 use lib.Dec.{ltb}
 use lib.IntN.{ℤ}
 use borrow.Author.Tests.{ltb-true}
-use Rattle.net.specs.Choice.{choose, fold}
-use Rattle.net.specs.Records.{fieldAt, processAt, tupleAt, nodeAt, addressOf, processCount}
+use Rattle.net.specs.Records.{fieldAt, tupleAt, nodeAt, addressOf, processCount}
 use Rattle.net.specs.Shape.{Shaped}
 use Rattle.net.proofs.Every.{chosen, chosen-lt}
 use Rattle.net.proofs.FoldLaws.{fold-keeps}
@@ -32,8 +31,8 @@ use Rattle.plans.specs.Answer.{numberOf as answerNumber}
 use Rattle.step.specs.Pick.{hostOf, slotOf, pickOf}
 use Rattle.step.specs.SoundKept.{SoundKept}
 use Rattle.step.proofs.SoundKept.{sound-kept}
-use Rattle.run.specs.Run.{Ran, ran, refused, numbers, ranFrom, answered, runIn, runOf}
-use Rattle.registers.specs.Types.{Locality, Item, Tuple, Node, Net, Answer, Fault, Opened, Verdict}
+use Rattle.run.specs.Run.{Ran, ran, numbers, ranFrom, answered, runIn, runOf}
+use Rattle.registers.specs.Types.{Item, Tuple, Node, Net, Answer, Fault, Opened, Verdict}
 use Rattle.registers.specs.Lines.{fewer, itemWord, tuplesBelow, tupleCount}
 use Rattle.tenant.proofs.OpenedShaped.{opened-shaped}
 use Rattle.listing.proofs.Agreeing.{Fine, upward, downward, located, Short}
@@ -73,7 +72,7 @@ module _ (image : List ℕ) (f : Fault) (e : openedOf image .answer ≡ Verdict.
       short _ (omega (arith, inside, length-take 14750 image))
 
 -- ---- counts
-fewer-size : (count size : ℕ) → fewer count size ≤ size
+pub fewer-size : (count size : ℕ) → fewer count size ≤ size
 unfolding fewer
 fewer-size count size = chosen-lt (λ (n : ℕ). n ≤ size) count size _ _ (λ l. omega arith) (λ l. omega arith)
 

@@ -1,19 +1,19 @@
 -- The wanted lines, word by word: no name has a newline, and each number has Q where it has it in the net, the picks and the
 -- answers that the lines are made of.
 -- Assumes nothing.
-use Prim.Native.Nat.{ℕ, _+_, _<_, _≤_}
+use Prim.Native.Nat.{ℕ, _+_, _<_}
 use mathlib.Core.Path.{refl}
-use mathlib.Core.List.{List, [], _∷_, _++_}
+use mathlib.Core.List.{List}
 use lib.ListN.{length, getD}
 use lib.IntN.{ℤ}
 use Rattle.text.specs.Bytes.{bytes}
-use Rattle.net.specs.Choice.{choose, both}
+use Rattle.net.specs.Choice.{both}
 use Rattle.net.specs.Records.{fieldAt, tupleAt, nodeAt, addressOf, processCount}
 use Rattle.net.proofs.Every.{chosen}
 use Rattle.step.specs.Pick.{hostOf, slotOf}
 use Rattle.run.specs.Run.{Ran, Outcome, refused, refused-text, ran, numbers}
 use Rattle.registers.specs.Types.{Locality, Item, Tuple, Node, Net, Fault}
-use Rattle.registers.specs.Words.{Word, name, number}
+use Rattle.registers.specs.Words.{name, number}
 use Rattle.registers.specs.Shown.{Shown}
 use Rattle.registers.specs.Lines.{fewer, refusalLine, refusedLine, netLine, pickLine, madeLine, nodeLine, itemWord, fieldWords, markWords}
 use Rattle.registers.specs.Lines.{tupleLine, tupleLines, nodeLines, netLines, tupleCount, totalLine, closingLines, afterLines}
