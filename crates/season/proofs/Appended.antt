@@ -8,7 +8,7 @@ use lib.ListN.{length, length-map, List·getD-append}
 use lib.Seq.{getD-append-seam}
 use Rattle.net.specs.Choice.{fold}
 use Rattle.season.specs.Types.{Locality}
-use Rattle.season.specs.Fractions.{Fraction, fraction, Best, nobody, considered, fractionAt, bestOf}
+use Rattle.season.specs.Fractions.{Fraction, fraction, Best, considered, fractionAt, bestOf}
 use Rattle.season.specs.Season.{MadeRun, shareAt, summed, sharesAt, bestAt}
 
 -- ---- lists
@@ -52,10 +52,10 @@ module _ (xs : List Fraction) (x : Fraction) where
   best-more : bestOf longer ≡ considered (length xs + 1) x (bestOf xs)
   unfolding bestOf fold
   best-more =
-      ap (λ (n : ℕ). fold n (turn longer) nobody) (length-more xs x)
-      ∙ ap (λ (y : Fraction). considered (length xs + 1) y (fold (length xs) (turn longer) nobody)) last
+      ap (λ (n : ℕ). fold n (turn longer) Best.Nobody) (length-more xs x)
+      ∙ ap (λ (y : Fraction). considered (length xs + 1) y (fold (length xs) (turn longer) Best.Nobody)) last
       ∙ ap (considered (length xs + 1) x)
-      (fold-same (length xs) (turn longer) (turn xs) nobody (λ i l best. ap (λ (y : Fraction). considered (i + 1) y best) (earlier i l)))
+      (fold-same (length xs) (turn longer) (turn xs) Best.Nobody (λ i l best. ap (λ (y : Fraction). considered (i + 1) y best) (earlier i l)))
 
 pub best-at-more :
     (l : Locality) (ms : List MadeRun) (m : MadeRun)

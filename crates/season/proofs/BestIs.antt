@@ -13,7 +13,7 @@ use borrow.Author.Tests.{eqb-true, eqb-false, ltb-true, ltb-false}
 use Rattle.net.specs.Choice.{choose, fold}
 use Rattle.net.proofs.Laws.{split}
 use Rattle.net.proofs.Every.{chosen}
-use Rattle.season.specs.Fractions.{Fraction, fraction, larger, Best, nobody, leader, against, considered, fractionAt, bestOf}
+use Rattle.season.specs.Fractions.{Fraction, fraction, larger, Best, against, considered, fractionAt, bestOf}
 use Rattle.season.specs.SeasonClaims.{LargestAt, BestIs, none-there, largest}
 
 -- ---- fractions by their cross products
@@ -42,8 +42,8 @@ module _ (f : ℕ → Fraction) where
     pub none-earlier : (j : ℕ) → j < i → 0 < f j .denominator → Below (f j) (f i)
 
   pub data BestBelow (n : ℕ) : Best → Type 0 where
-    none-below : ((j : ℕ) → j < n → f j .denominator ≡ 0) → BestBelow n nobody
-    largest-below : (i : ℕ) → LargestBelow n i → BestBelow n (leader (i + 1) (f i))
+    none-below : ((j : ℕ) → j < n → f j .denominator ≡ 0) → BestBelow n Best.Nobody
+    largest-below : (i : ℕ) → LargestBelow n i → BestBelow n (Best.Leader (i + 1) (f i))
 
   -- a fact of those below n, and of n, at each below n + 1
   each-below : (P : ℕ → Type 0) (n : ℕ) → ((j : ℕ) → j < n → P j) → P n → (j : ℕ) → j < suc n → P j
@@ -100,7 +100,7 @@ module _ (f : ℕ → Fraction) where
       chosen (BestBelow (suc n)) _ _ _ (λ e. largest-below n (overtaken n i positive h (ltb-true _ _ e)))
       (λ e. largest-below i (stays n i h (ltb-false _ _ e)))
 
-  pub best-below : (n : ℕ) → BestBelow n (fold n (λ i best. considered (i + 1) (f i) best) nobody)
+  pub best-below : (n : ℕ) → BestBelow n (fold n (λ i best. considered (i + 1) (f i) best) Best.Nobody)
   unfolding fold considered
   best-below zero = none-below (λ j l. absurd (omega arith))
   best-below (suc n) =

@@ -4,7 +4,7 @@ use mathlib.Core.Path.{_≡_, refl}
 use mathlib.Core.List.{List, [], _∷_}
 use native.Mathlib.Omega.{arith}
 use Rattle.season.specs.Types.{Locality}
-use Rattle.season.specs.Fractions.{Best, nobody, leader, fraction, fractionAt}
+use Rattle.season.specs.Fractions.{Best, fraction, fractionAt}
 use Rattle.season.specs.Season.{MadeRun, shareAt, summed, allPicks, sharesAt, bestAt, shareOver, meanOver}
 use Rattle.season.specs.SeasonClaims.{LowestTerms, BestIs, none-there, largest, BestIsLargest, NoneAlike}
 use Rattle.season.proofs.Lowest.{lowest-terms}
@@ -35,11 +35,11 @@ module _ (l : Locality) where
       omega (arith, first, rest)
 
   module _ (ms : List MadeRun) where
-    nobody-best : (best : Best) → BestIs (sharesAt l ms) best → allPicks l ms ≡ 0 → best ≡ nobody
+    nobody-best : (best : Best) → BestIs (sharesAt l ms) best → allPicks l ms ≡ 0 → best ≡ Best.Nobody
     nobody-best best (none-there h) e = refl
     nobody-best best (largest i h) e = let most = some-most ms i in absurd (omega (arith, most, h .counted))
 
-    best-nobody : (best : Best) → BestIs (sharesAt l ms) best → best ≡ nobody → allPicks l ms ≡ 0
+    best-nobody : (best : Best) → BestIs (sharesAt l ms) best → best ≡ Best.Nobody → allPicks l ms ≡ 0
     best-nobody best (none-there h) e = none-none ms h
     best-nobody best (largest i h) e = let z : _≡_ {A = ℕ} 0 1 = cc in absurd (omega arith)
 

@@ -1,14 +1,12 @@
 -- Fractions, in lowest terms and compared unrounded (document 02, slip 7).
+pub use Rattle.season.specs.declared.fraction.Fraction.{Fraction}
+pub use Rattle.season.specs.declared.fraction.Best.{Best}
 use Prim.Native.Nat.{ℕ, zero, suc, _+_, _*_, _/_, _%_}
 use mathlib.Core.Bool.{Bool}
 use mathlib.Core.List.{List}
 use lib.ListN.{getD, length}
 use lib.Dec.{eqb, ltb}
 use Rattle.net.specs.Choice.{choose, fold}
-
-pub record Fraction : Type 0 where
-  pub numerator : ℕ
-  pub denominator : ℕ
 
 unfoldable pub fraction : ℕ → ℕ → Fraction
 fraction n d = record { numerator = n; denominator = d }
@@ -37,15 +35,10 @@ lowest n d = dividedBy (greatestDivisor n d) n d
 unfoldable pub larger : Fraction → Fraction → Bool
 larger x y = ltb (y .numerator * x .denominator) (x .numerator * y .denominator)
 
--- the number of the best, with its fraction
-pub data Best : Type 0 where
-  nobody : Best
-  leader : ℕ → Fraction → Best
-
--- a later one takes its place if it is larger: "earliest on a tie"
+-- the best so far is none, or a number with its fraction: a later one takes its place if it is larger: "earliest on a tie"
 unfoldable pub against : ℕ → Fraction → Best → Best
-against i x nobody = leader i x
-against i x (leader j y) = choose (larger x y) (leader i x) (leader j y)
+against i x Best.Nobody = Best.Leader i x
+against i x (Best.Leader j y) = choose (larger x y) (Best.Leader i x) (Best.Leader j y)
 
 -- nothing over nothing "is passed over"
 unfoldable pub considered : ℕ → Fraction → Best → Best
@@ -56,4 +49,4 @@ unfoldable pub fractionAt : List Fraction → ℕ → Fraction
 fractionAt xs i = getD xs i (fraction 0 0)
 
 unfoldable pub bestOf : List Fraction → Best
-bestOf xs = fold (length xs) (λ i best. considered (i + 1) (fractionAt xs i) best) nobody
+bestOf xs = fold (length xs) (λ i best. considered (i + 1) (fractionAt xs i) best) Best.Nobody

@@ -1,3 +1,4 @@
+pub mod Calls
 pub mod Fractions
 pub mod Season
 pub mod SeasonClaims

@@ -13,7 +13,7 @@ use Rattle.step.specs.Pick.{hostOf}
 use Rattle.run.specs.Run.{Outcome, refused, refused-text, ran, numbers, runOf}
 use Rattle.registers.specs.Words.{Word, name, number, printed}
 use Rattle.season.specs.Types.{Locality, Net}
-use Rattle.season.specs.Fractions.{Fraction, fraction, lowest, Best, nobody, leader, bestOf}
+use Rattle.season.specs.Fractions.{Fraction, fraction, lowest, Best, bestOf}
 
 -- ---- runs, "handed in one by one as image and picks (the first 65,536)"
 pub record Run : Type 0 where
@@ -108,8 +108,8 @@ unfoldable pub shareWord : ℕ → Fraction → Word
 shareWord picks x = choose (eqb picks 0) (name (bytes "none")) (fractionWord x)
 
 unfoldable pub bestWord : Best → Word
-bestWord nobody = name (bytes "none")
-bestWord (leader i x) = number i
+bestWord Best.Nobody = name (bytes "none")
+bestWord (Best.Leader i x) = number i
 
 unfoldable pub shareLine : Locality → List MadeRun → List Word
 shareLine l ms =
@@ -120,14 +120,14 @@ shareLine l ms =
 unfoldable pub figuresOf : List MadeRun → List ℕ
 figuresOf ms = printed (joined 16 (λ a. shareLine (addressOf a) ms ∷ []))
 
--- ---- what is answered when the figures are asked for: their bytes, or 44 for no runs at all, 45 for more than 1,000
+-- ---- what is known when the figures are asked for: "44 no runs at all, 45 more than 1,000 runs", or the figures' bytes
 pub data Season : Type 0 where
+  no-runs : Season
+  too-many : Season
   figures : List ℕ → Season
-  none-given : ℕ → Season
 
 unfoldable pub seasonWith : ℕ → List ℕ → Season
-seasonWith made text =
-    choose (eqb made 0) (none-given 44) (choose (ltb 1000 made) (none-given 45) (figures text))
+seasonWith made text = choose (eqb made 0) no-runs (choose (ltb 1000 made) too-many (figures text))
 
 unfoldable pub seasonOf : List Run → Season
 seasonOf runs = seasonWith (length (madeRuns runs)) (figuresOf (madeRuns runs))

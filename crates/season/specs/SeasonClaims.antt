@@ -5,7 +5,7 @@ use mathlib.Core.Logic.{_↔_}
 use mathlib.Core.List.{List, List·Memᴰ}
 use lib.ListN.{length}
 use Rattle.season.specs.Types.{Locality}
-use Rattle.season.specs.Fractions.{Fraction, fraction, fractionAt, Best, nobody, leader}
+use Rattle.season.specs.Fractions.{Fraction, fraction, fractionAt, Best}
 use Rattle.season.specs.Season.{Run, MadeRun, madeRuns, picksAt, performedAt, leftAt, allPicks, allPerformed, allLeft}
 use Rattle.season.specs.Season.{shareOver, meanOver, sharesAt, bestAt, seasonOf}
 use Rattle.season.specs.Sums.{emptySums, afterRuns, seasonFrom}
@@ -40,15 +40,15 @@ pub record LargestAt (xs : List Fraction) (i : ℕ) : Type 0 where
 
 -- the best is that one, numbered from 1; there is none only where all are passed over
 pub data BestIs (xs : List Fraction) : Best → Type 0 where
-  none-there : ((j : ℕ) → fractionAt xs j .denominator ≡ 0) → BestIs xs nobody
-  largest : (i : ℕ) → LargestAt xs i → BestIs xs (leader (i + 1) (fractionAt xs i))
+  none-there : ((j : ℕ) → fractionAt xs j .denominator ≡ 0) → BestIs xs Best.Nobody
+  largest : (i : ℕ) → LargestAt xs i → BestIs xs (Best.Leader (i + 1) (fractionAt xs i))
 
 unfoldable pub BestIsLargest : Type 0
 BestIsLargest = (l : Locality) (ms : List MadeRun) → BestIs (sharesAt l ms) (bestAt l ms)
 
 -- "an address with no picks prints `none` for its share and its run": for both or for neither
 unfoldable pub NoneAlike : Type 0
-NoneAlike = (l : Locality) (ms : List MadeRun) → (allPicks l ms ≡ 0) ↔ (bestAt l ms ≡ nobody)
+NoneAlike = (l : Locality) (ms : List MadeRun) → (allPicks l ms ≡ 0) ↔ (bestAt l ms ≡ Best.Nobody)
 
 -- ---- how large the numbers are: why those of a season fit 32 bits, and their cross products 64
 

@@ -1,4 +1,6 @@
 -- What the sums over runs hold, from which the figures are given without the runs (document 02, slip 7).
+pub use Rattle.season.specs.declared.sums.Tally.{Tally}
+pub use Rattle.season.specs.declared.sums.Sums.{Sums}
 use Prim.Native.Nat.{ℕ, _+_, _%_}
 use mathlib.Core.List.{List, [], _∷_}
 use lib.ListN.{getD, set, replicate}
@@ -9,24 +11,13 @@ use Rattle.text.specs.Bytes.{bytes}
 use Rattle.text.specs.Joined.{joined}
 use Rattle.registers.specs.Words.{Word, name, number, printed}
 use Rattle.season.specs.Types.{Locality}
-use Rattle.season.specs.Fractions.{fraction, lowest, Best, nobody, considered}
+use Rattle.season.specs.Fractions.{fraction, lowest, Best, considered}
 use Rattle.season.specs.Season.{Run, MadeRun, madeOf, performedAt, picksAt, leftAt, fractionWord, shareWord, bestWord}
 use Rattle.season.specs.Season.{Season, seasonWith}
 
--- of one address: the two sums of its share, the tuples left, and the best run so far
-pub record Tally : Type 0 where
-  pub performed : ℕ
-  pub picks : ℕ
-  pub left : ℕ
-  pub best : Best
-
--- how many runs were made, and a tally for each address
-pub record Sums : Type 0 where
-  pub runs : ℕ
-  pub tallies : List Tally
-
+-- a tally holds the two sums of a share, the tuples left and the best run, and sums how many runs were made
 unfoldable pub noTally : Tally
-noTally = record { performed = 0; picks = 0; left = 0; best = nobody }
+noTally = record { performed = 0; picks = 0; left = 0; best = Best.Nobody }
 
 unfoldable pub emptySums : Sums
 emptySums = record { runs = 0; tallies = replicate 16 noTally }

@@ -1,1 +1,4 @@
-// Shares over a season (document 02, slip 7): what they are, and the proofs about that. No code yet.
+// Shares over a season (document 02, slip 7).
+pub mod figures;
+pub mod fraction;
+pub mod sums;
