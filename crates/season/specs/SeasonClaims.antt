@@ -8,7 +8,7 @@ use Rattle.season.specs.Types.{Locality}
 use Rattle.season.specs.Fractions.{Fraction, fraction, fractionAt, Best}
 use Rattle.season.specs.Season.{Run, MadeRun, madeRuns, picksAt, performedAt, leftAt, allPicks, allPerformed, allLeft}
 use Rattle.season.specs.Season.{shareOver, meanOver, sharesAt, bestAt, seasonOf}
-use Rattle.season.specs.Sums.{emptySums, afterRuns, seasonFrom}
+use Rattle.season.specs.Sums.{Tally, emptySums, afterRuns, figuresFrom, seasonFrom}
 
 -- ---- "in lowest terms"
 
@@ -74,3 +74,7 @@ pub record SeasonFits : Type 0 where
 -- ---- "the promise is for sums begun empty and changed by these calls alone": their figures are those of the runs
 unfoldable pub SumsGiveSeason : Type 0
 SumsGiveSeason = (runs : List Run) → seasonFrom (afterRuns emptySums runs) ≡ seasonOf runs
+
+-- ---- a buffer of so many bytes has room for the figures, whatever the sums hold
+unfoldable pub LongestFigures : Type 0
+LongestFigures = (made : ℕ) (ts : List Tally) → length (figuresFrom made ts) ≤ 2112
