@@ -27,7 +27,7 @@ summed-more f [] m = omega arith
 summed-more f (n ∷ ms) m = let rest = summed-more f ms m in omega (arith, rest)
 
 -- ---- the best
-fold-same :
+pub fold-same :
     {A : Type 0} (n : ℕ) (f g : ℕ → A → A) (a : A) → ((i : ℕ) → i < n → (x : A) → f i x ≡ g i x) → fold n f a ≡ fold n g a
 unfolding fold
 fold-same zero f g a h = refl

@@ -24,11 +24,11 @@ use Rattle.run.proofs.CallLaws.{opened-sound}
 use Rattle.tenant.proofs.OpenedShaped.{opened-shaped}
 use Rattle.season.specs.Types.{Locality, Net, Verdict}
 use Rattle.season.specs.Season.{Run, MadeRun, madeIn, madeOf, madeRuns, tallied, counts, performs, picksAt, performedAt}
-use Rattle.season.specs.Season.{leftAt, summed, allPicks, allPerformed, allLeft}
+use Rattle.season.specs.Season.{leftIn, leftAt, summed, allPicks, allPerformed, allLeft}
 use Rattle.season.specs.SeasonClaims.{CountsFit, SumsFit, SeasonFits}
 
 -- ---- counts of picks
-most-one : (t : Bool) → choose t 1 0 ≤ 1
+pub most-one : (t : Bool) → choose t 1 0 ≤ 1
 most-one t = chosen (λ (n : ℕ). n ≤ 1) t 1 0 (λ _. omega arith) (λ _. omega arith)
 
 tallied-most : (test : ℕ → ℕ → Bool) (picks answers : List ℕ) → tallied test picks answers ≤ length picks
@@ -67,7 +67,7 @@ ends-sound s (b ∷ bs) shaped sound =
     ends-sound (pickOf s b .net) bs (kept .1) (kept .0)
 
 left-fits : (l : Locality) (m : MadeRun) → NetOk (m .net) → leftAt l m ≤ 16
-unfolding leftAt
+unfolding leftAt leftIn
 left-fits l m ok =
     chosen-lt (λ (n : ℕ). n ≤ 16) _ _ _ _ (λ h. node-at (m .net) ok l h .room) (λ _. omega arith)
 

@@ -1,5 +1,7 @@
+pub mod AddLaws
 pub mod Appended
 pub mod BestIs
+pub mod Counting
 pub mod Example
 pub mod Fitting
 pub mod Longest

@@ -1,13 +1,14 @@
 -- A fraction divided by the greatest common divisor is in lowest terms. Assumes nothing.
 use Prim.Native.Nat.{ℕ, zero, suc, _*_, _/_, _%_, _≤_, _<_, _∣_}
 use mathlib.Core.Path.{_≡_, refl, sym, ap, subst, _∙_}
-use mathlib.Core.Bool.{true, false}
+use mathlib.Core.Bool.{Bool, true, false}
 use native.Mathlib.Omega.{arith}
 use native.Mathlib.Nat.{mul-comm, mul-assoc, mul-left-comm, mul-one, mod-lt, dvd-refl, dvd-zero, dvd-mod-iff, pos-of-dvd-of-pos}
 use native.Mathlib.Nat.{le-of-dvd, mul-dvd-mul-left, mul-div-cancel', le-of-mul-le-mul-left, zero-div, div-self}
 use lib.Dec.{eqb}
-use borrow.Author.Tests.{eqb-true, eqb-false}
+use borrow.Author.Tests.{eqb-true, eqb-false, eq-eqb, ne-eqb}
 use Rattle.net.specs.Choice.{choose}
+use Rattle.net.proofs.Laws.{choose-true, choose-false}
 use Rattle.net.proofs.Every.{chosen}
 use Rattle.season.specs.Fractions.{Fraction, fraction, euclid, greatestDivisor, dividedBy, lowest}
 use Rattle.season.specs.SeasonClaims.{InLowestTerms}
@@ -36,6 +37,40 @@ euclid-divides zero a b h = divides-nought a b (omega arith)
 euclid-divides (suc k) a b h =
     chosen (λ (g : ℕ). Divides g a b) (eqb b 0) _ _ (λ e. divides-nought a b (eqb-true b 0 e))
     (λ e. round-divides _ a b (euclid-divides k b (a % b) (less-left k a b h e)))
+
+-- the rounds: none is left at nought, and further rounds change nothing
+euclid-nought : (k a b : ℕ) → b ≡ 0 → euclid k a b ≡ a
+unfolding euclid
+euclid-nought zero a b e = refl
+euclid-nought (suc k) a b e = choose-true _ _ _ (eq-eqb b 0 e)
+
+euclid-turn : (k a b : ℕ) → (b ≡ 0 → ⊥) → euclid (suc k) a b ≡ euclid k b (a % b)
+unfolding euclid
+euclid-turn k a b n = choose-false _ _ _ (ne-eqb b 0 n)
+
+choose-same : (t : Bool) (x y z : ℕ) → (t ≡ false → y ≡ z) → choose t x y ≡ choose t x z
+unfolding choose
+choose-same true x y z h = refl
+choose-same false x y z h = h refl
+
+euclid-enough : (k j a b : ℕ) → b ≤ k → b ≤ j → euclid k a b ≡ euclid j a b
+unfolding euclid
+euclid-enough zero j a b h g = sym (euclid-nought j a b (omega arith))
+euclid-enough (suc k) zero a b h g = euclid-nought (suc k) a b (omega arith)
+euclid-enough (suc k) (suc j) a b h g =
+    choose-same (eqb b 0) a _ _ (λ e. euclid-enough k j b (a % b) (less-left k a b h e) (less-left j a b g e))
+
+pub divisor-end : (a b : ℕ) → b ≡ 0 → greatestDivisor a b ≡ a
+unfolding greatestDivisor
+divisor-end a b e = euclid-nought b a b e
+
+pub divisor-turn : (a b : ℕ) → 0 < b → greatestDivisor b (a % b) ≡ greatestDivisor a b
+unfolding greatestDivisor
+divisor-turn a zero h = absurd (omega arith)
+divisor-turn a (suc k) h =
+    let less : a % suc k < suc k = mod-lt a h in
+    euclid-enough (a % suc k) k (suc k) (a % suc k) (omega arith) (omega arith)
+    ∙ sym (euclid-turn k a (suc k) (λ e. omega arith))
 
 euclid-greatest : (k a b c : ℕ) → c ∣ a → c ∣ b → c ∣ euclid k a b
 unfolding euclid

@@ -1,4 +1,5 @@
 pub mod Calls
+pub mod Counting
 pub mod Example
 pub mod Fractions
 pub mod Season

@@ -66,8 +66,11 @@ unfoldable pub shareAt : Locality → MadeRun → Fraction
 shareAt l m = fraction (performedAt l m) (picksAt l m)
 
 -- the "tuples left there"; "an unused address holds no tuples"
+unfoldable pub leftIn : Locality → Net → ℕ
+leftIn l s = choose (ltb (l .0) (s .addresses)) (nodeAt s l .stored) 0
+
 unfoldable pub leftAt : Locality → MadeRun → ℕ
-leftAt l m = choose (ltb (l .0) (m .net .addresses)) (nodeAt (m .net) l .stored) 0
+leftAt l m = leftIn l (m .net)
 
 -- ---- all runs at an address
 unfoldable pub summed : List ℕ → ℕ

@@ -1,4 +1,5 @@
 // Shares over a season (document 02, slip 7).
+pub mod counts;
 pub mod figures;
 pub mod fraction;
 pub mod sums;
