@@ -1,26 +1,24 @@
 -- Laws by which one run is added to the sums: by how it ended, as the call of `run` says. Assumes nothing.
 use Prim.Native.Nat.{ℕ, _+_, _≤_, _<_}
-use mathlib.Core.Path.{_≡_, refl, sym, ap, subst, _∙_}
-use mathlib.Core.Bool.{true, false}
+use mathlib.Core.Path.{_≡_, refl, sym, ap, _∙_}
+use mathlib.Core.Bool.{true}
 use mathlib.Core.List.{List, [], _∷_, _++_}
 use native.Mathlib.Omega.{arith}
-use lib.ListN.{length, take, drop, length-map}
+use lib.ListN.{length, drop, length-map}
 use lib.Seq.{sets-eq}
 use lib.Dec.{leb}
 use borrow.Author.Tests.{le-leb, lt-ltb}
-use Rattle.net.specs.Choice.{choose}
-use Rattle.net.specs.Records.{emptyNet}
 use Rattle.net.proofs.Laws.{choose-true}
 use Rattle.text.specs.Buffer.{over}
 use Rattle.image.specs.Image.{openedOf}
 use Rattle.plans.specs.Answer.{numberOf}
-use Rattle.run.specs.Run.{Ran, Outcome, refused, refused-text, ran, ranFrom, runIn, runOf, numbers}
+use Rattle.run.specs.Run.{Ran, ran, ranFrom, runIn, runOf, numbers}
 use Rattle.run.specs.Calls.{finished, finishedOf, answersIn}
 use Rattle.run.proofs.CallLaws.{answers-length}
 use Rattle.season.specs.Types.{Net, Verdict, Finish, Finished}
 use Rattle.season.specs.Season.{MadeRun, madeIn}
 use Rattle.season.specs.Sums.{Sums, withMade, withEach}
-use Rattle.season.specs.Counting.{Counts, noCounts, counted, withCounted, CountedIsMade}
+use Rattle.season.specs.Counting.{noCounts, counted, withCounted, CountedIsMade}
 use Rattle.season.proofs.Counting.{countedIsMade}
 
 -- ---- by how the run ended

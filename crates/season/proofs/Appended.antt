@@ -1,9 +1,8 @@
 -- The figures of one run more, from those of the runs before it. Assumes nothing.
 use Prim.Native.Nat.{ℕ, zero, suc, _+_, _<_}
-use mathlib.Core.Path.{_≡_, refl, sym, ap, _∙_}
+use mathlib.Core.Path.{_≡_, refl, ap, _∙_}
 use mathlib.Core.List.{List, [], _∷_, _++_, map}
 use native.Mathlib.Omega.{arith}
-use native.Mathlib.Numerals.{add-one}
 use lib.ListN.{length, length-map, List·getD-append}
 use lib.Seq.{getD-append-seam}
 use Rattle.net.specs.Choice.{fold}

@@ -1,20 +1,18 @@
 -- The best of a list of fractions is its largest, the earliest on a tie. Assumes nothing.
 use Prim.Native.Nat.{ℕ, zero, suc, _+_, _*_, _≤_, _<_}
-use mathlib.Core.Path.{_≡_, refl, sym, ap, subst, _∙_}
+use mathlib.Core.Path.{_≡_, sym, ap, subst}
 use mathlib.Core.Logic.{_⊎_, inl, inr}
-use mathlib.Core.Bool.{true, false}
 use mathlib.Core.List.{List}
 use native.Mathlib.Omega.{arith}
-use native.Mathlib.Nat.{mul-comm, mul-assoc, mul-right-comm, mul-le-mul-right, mul-lt-mul-of-pos-right, lt-of-mul-lt-mul-right}
+use native.Mathlib.Nat.{mul-right-comm, mul-le-mul-right, mul-lt-mul-of-pos-right, lt-of-mul-lt-mul-right}
 use native.Mathlib.Decide.{decLe}
 use lib.ListN.{length, List·getD-eq-default}
-use lib.Dec.{eqb}
 use borrow.Author.Tests.{eqb-true, eqb-false, ltb-true, ltb-false}
-use Rattle.net.specs.Choice.{choose, fold}
+use Rattle.net.specs.Choice.{fold}
 use Rattle.net.proofs.Laws.{split}
 use Rattle.net.proofs.Every.{chosen}
 use Rattle.season.specs.Fractions.{Fraction, fraction, larger, Best, against, considered, fractionAt, bestOf}
-use Rattle.season.specs.SeasonClaims.{LargestAt, BestIs, none-there, largest}
+use Rattle.season.specs.SeasonClaims.{BestIs, none-there, largest}
 
 -- ---- fractions by their cross products
 abbrev AtMost : Fraction → Fraction → Type 0

@@ -1,20 +1,18 @@
 -- The counts of all addresses at once are those of each (`CountedIsMade` of `specs/Counting.antt`). Assumes nothing.
-use Prim.Native.Nat.{ℕ, zero, suc, _+_, _%_, _≤_, _<_}
-use mathlib.Core.Path.{_≡_, refl, sym, ap, subst, _∙_}
+use Prim.Native.Nat.{ℕ, _+_, _≤_, _<_}
+use mathlib.Core.Path.{_≡_, refl, sym, ap, _∙_}
 use mathlib.Core.Bool.{Bool, true, false, not}
 use mathlib.Core.List.{List, [], _∷_, _++_}
 use native.Mathlib.Omega.{arith}
 use native.Mathlib.Nat.{mod-eq-of-lt}
 use native.Mathlib.Decide.{ℕ-discrete}
-use lib.ListN.{length, getD, set, replicate, length-set, length-replicate, getD-replicate}
+use lib.ListN.{length, getD, set, replicate, length-set, getD-replicate}
 use lib.Seq.{getD-set-same, getD-set-other}
 use lib.Dec.{eqb, ltb}
-use borrow.Author.Tests.{eq-eqb, ne-eqb, eqb-false}
-use Rattle.net.specs.Choice.{choose, both, fold}
+use borrow.Author.Tests.{eq-eqb, ne-eqb}
+use Rattle.net.specs.Choice.{choose, both}
 use Rattle.net.specs.Records.{addressOf}
-use Rattle.net.proofs.Laws.{choose-true, choose-false}
 use Rattle.step.specs.Pick.{hostOf}
-use Rattle.season.specs.Types.{Locality, Net}
 use Rattle.season.specs.Season.{MadeRun, tallied, counts, performs, picksAt, performedAt, leftIn, leftAt}
 use Rattle.season.specs.Sums.{Tally, Sums, tallyAt, plus, withCounts, tallyWith, talliesWith, withMade}
 use Rattle.season.proofs.Appended.{fold-same}

@@ -1,6 +1,6 @@
 -- How large the counts of a made run and the sums of a season are. Assumes nothing.
-use Prim.Native.Nat.{ℕ, zero, suc, _+_, _*_, _≤_, min}
-use mathlib.Core.Path.{_≡_, refl, sym, ap, subst, _∙_}
+use Prim.Native.Nat.{ℕ, _*_, _≤_}
+use mathlib.Core.Path.{_≡_, refl, sym, subst}
 use mathlib.Core.Logic.{_⊎_, inl, inr}
 use mathlib.Core.Bool.{Bool, true, false}
 use mathlib.Core.List.{List, [], _∷_, map, List·Memᴰ, List·Memᴰ·head, List·Memᴰ·tail, List·Memᴰ·not-nil}
@@ -8,7 +8,7 @@ use mathlib.Core.List.{List·Memᴰ·append-cases, List·Memᴰ·eq-of-singleton
 use native.Mathlib.Omega.{arith}
 use native.Mathlib.Nat.{mul-suc, mul-le-mul}
 use lib.ListN.{length, take, length-take}
-use Rattle.net.specs.Choice.{choose, both}
+use Rattle.net.specs.Choice.{choose}
 use Rattle.net.specs.Shape.{Shaped}
 use Rattle.net.proofs.Laws.{both-l}
 use Rattle.net.proofs.Every.{chosen, chosen-lt}
@@ -19,7 +19,7 @@ use Rattle.image.specs.Image.{openedOf}
 use Rattle.step.specs.Pick.{pickOf}
 use Rattle.step.specs.SoundKept.{SoundKept}
 use Rattle.step.proofs.SoundKept.{sound-kept}
-use Rattle.run.specs.Run.{ranFrom, answered, runIn, runOf, numbers}
+use Rattle.run.specs.Run.{ranFrom, answered, runIn, runOf}
 use Rattle.run.proofs.CallLaws.{opened-sound}
 use Rattle.tenant.proofs.OpenedShaped.{opened-shaped}
 use Rattle.season.specs.Types.{Locality, Net, Verdict}

@@ -1,12 +1,11 @@
 -- How long the figures can be: no number has more than 20 digits. Assumes nothing.
 use Prim.Native.Nat.{ℕ, zero, suc, _+_, _*_, _/_, _%_, _≤_}
-use mathlib.Core.Path.{_≡_, refl, ap, _∙_}
+use mathlib.Core.Path.{_≡_, ap, _∙_}
 use mathlib.Core.List.{List, [], _∷_, _++_}
 use native.Mathlib.Omega.{arith}
 use native.Mathlib.Nat.{suc-mul}
 use lib.ListN.{length, length-append}
 use lib.Dec.{ltb}
-use Rattle.net.specs.Choice.{choose}
 use Rattle.net.specs.Records.{addressOf}
 use Rattle.net.proofs.Every.{chosen}
 use Rattle.text.specs.Bytes.{bytes}

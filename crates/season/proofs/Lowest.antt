@@ -3,14 +3,14 @@ use Prim.Native.Nat.{ℕ, zero, suc, _*_, _/_, _%_, _≤_, _<_, _∣_}
 use mathlib.Core.Path.{_≡_, refl, sym, ap, subst, _∙_}
 use mathlib.Core.Bool.{Bool, true, false}
 use native.Mathlib.Omega.{arith}
-use native.Mathlib.Nat.{mul-comm, mul-assoc, mul-left-comm, mul-one, mod-lt, dvd-refl, dvd-zero, dvd-mod-iff, pos-of-dvd-of-pos}
-use native.Mathlib.Nat.{le-of-dvd, mul-dvd-mul-left, mul-div-cancel', le-of-mul-le-mul-left, zero-div, div-self}
+use native.Mathlib.Nat.{mul-assoc, mul-left-comm, mul-one, mod-lt, dvd-refl, dvd-zero, dvd-mod-iff, pos-of-dvd-of-pos}
+use native.Mathlib.Nat.{le-of-dvd, mul-dvd-mul-left, mul-div-cancel', le-of-mul-le-mul-left, zero-div}
 use lib.Dec.{eqb}
 use borrow.Author.Tests.{eqb-true, eqb-false, eq-eqb, ne-eqb}
 use Rattle.net.specs.Choice.{choose}
 use Rattle.net.proofs.Laws.{choose-true, choose-false}
 use Rattle.net.proofs.Every.{chosen}
-use Rattle.season.specs.Fractions.{Fraction, fraction, euclid, greatestDivisor, dividedBy, lowest}
+use Rattle.season.specs.Fractions.{fraction, euclid, greatestDivisor, dividedBy, lowest}
 use Rattle.season.specs.SeasonClaims.{InLowestTerms}
 
 -- ---- what Euclid gives divides both, and every common divisor divides it

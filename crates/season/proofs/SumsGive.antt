@@ -1,14 +1,11 @@
 -- The figures given from the sums are those of the runs handed in (`SumsGiveSeason`). Assumes nothing.
 use Prim.Native.Nat.{ℕ, zero, suc, _+_, _*_, _%_, _≤_, _<_}
 use mathlib.Core.Path.{_≡_, refl, sym, ap, subst, _∙_}
-use mathlib.Core.Bool.{true, false}
-use mathlib.Core.Logic.{_≢_}
 use mathlib.Core.List.{List, [], _∷_, _++_, append-nil, append-assoc, List·Memᴰ, List·Memᴰ·head, List·Memᴰ·tail}
 use native.Mathlib.Omega.{arith}
 use native.Mathlib.Nat.{mul-suc, mod-eq-of-lt}
 use native.Mathlib.Decide.{decLe}
-use lib.ListN.{length, set, replicate}
-use lib.Dec.{eqb, ltb}
+use lib.ListN.{length, set}
 use borrow.Author.Tests.{le-ltb, lt-ltb, ne-eqb}
 use Rattle.net.specs.Choice.{choose, fold}
 use Rattle.net.specs.Records.{addressOf}
@@ -18,10 +15,10 @@ use Rattle.net.proofs.FoldLaws.{fold-keeps}
 use Rattle.text.specs.Joined.{joined}
 use Rattle.registers.specs.Words.{Word, printed}
 use Rattle.season.specs.Types.{Locality}
-use Rattle.season.specs.Fractions.{Best, considered, bestOf}
+use Rattle.season.specs.Fractions.{bestOf}
 use Rattle.season.specs.Season.{Run, MadeRun, madeOf, madeRuns, performedAt, picksAt, leftAt, shareAt, summed, sharesAt}
 use Rattle.season.specs.Season.{allPicks, allPerformed, allLeft, shareOver, meanOver, bestAt, shareLine, figuresOf}
-use Rattle.season.specs.Season.{Season, seasonWith, seasonOf}
+use Rattle.season.specs.Season.{seasonWith, seasonOf}
 use Rattle.season.specs.Sums.{Tally, Sums, noTally, emptySums, tallyAt, plus, withCounts, tallyWith, talliesWith, withMade}
 use Rattle.season.specs.Sums.{withEach, withRun, afterRuns, tallyLine, figuresFrom, seasonFrom}
 use Rattle.season.specs.SeasonClaims.{CountsFit, SumsGiveSeason}
