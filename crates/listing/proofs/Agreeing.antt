@@ -15,6 +15,7 @@ use Rattle.net.proofs.Laws.{both-i, both-l, both-r, choose-true, choose-false}
 use Rattle.net.proofs.Every.{chosen}
 use Rattle.text.specs.Decimal.{decimal, signedDecimal}
 use Rattle.text.specs.Joined.{joined}
+use Rattle.lexemes.specs.Lexemes.{isDigit}
 use Rattle.registers.specs.Words.{Word, name, number, reading, address, wordText, spaced, lineText, printed}
 use Rattle.listing.specs.Listing.{Checked, atFront, listed, carries, checkedFrom}
 use Rattle.listing.specs.ListingClaims.{PaddedNumber, padded, PaddedWord, as-it-is, a-number, above, below, an-address}
@@ -57,9 +58,21 @@ unfolding clean
 digits-clean none = refl
 digits-clean (one {b = b} {ds = ds} h r) = let low = digit-low b h in clean-byte b ds (λ e. omega arith) (digits-clean r)
 
--- ---- words whose names have no newline, and whose numbers have Q
+-- ---- bytes that are neither digits nor newlines
+unfoldable pub plain : List ℕ → Bool
+plain [] = true
+plain (b ∷ text) = both (both (not (isDigit b)) (not (eqb b 10))) (plain text)
+
+plain-clean : (text : List ℕ) → plain text ≡ true → clean text ≡ true
+unfolding plain clean
+plain-clean [] h = refl
+plain-clean (b ∷ text) h =
+    let first = both (not (isDigit b)) (not (eqb b 10)) in
+    both-i _ _ (both-r (not (isDigit b)) _ (both-l first _ h)) (plain-clean text (both-r first _ h))
+
+-- ---- words whose names are such, and whose numbers have Q
 pub data Fine (Q : ℕ → Type 0) : Word → Type 0 where
-  label : {text : List ℕ} → clean text ≡ true → Fine Q (name text)
+  label : {text : List ℕ} → plain text ≡ true → Fine Q (name text)
   value : {n : ℕ} → Q n → Fine Q (number n)
   upward : {n : ℕ} → Q n → Fine Q (reading (ℤ.pos n))
   downward : {n : ℕ} → Q (n + 1) → Fine Q (reading (ℤ.negsuc n))
@@ -79,7 +92,7 @@ record OneLine (u : List ℕ) : Type 0 where
 
 module _ {Q : ℕ → Type 0} where
   word-clean : {w : Word} {u : List ℕ} → Fine Q w → PaddedWord w u → clean u ≡ true
-  word-clean (label h) as-it-is = h
+  word-clean (label {text} h) as-it-is = plain-clean text h
   word-clean (value _) (a-number p) = number-clean p
   word-clean (upward _) (above p) = number-clean p
   word-clean (downward _) (below {ds = ds} p) = clean-byte 45 ds (λ e. omega arith) (number-clean p)
