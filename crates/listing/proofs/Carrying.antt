@@ -47,7 +47,7 @@ module _ (next : List ℕ → Bool) (rest : List ℕ) (q : Quiet rest) where
   word-there (below {n} {ds} p) = byte-there 45 (numberThen (n + 1) next) (ds ++ rest) ∙ number-there p
   word-there (an-address {l} {ds} p) = byte-there 64 (numberThen (l .0) next) (ds ++ rest) ∙ number-there p
 
-quiet-low : (b : ℕ) (rest : List ℕ) → b < 48 → Quiet (b ∷ rest)
+pub quiet-low : (b : ℕ) (rest : List ℕ) → b < 48 → Quiet (b ∷ rest)
 unfolding isDigit both
 quiet-low b rest h = quiet-byte b rest (ap (λ (t : Bool). both t (leb b 57)) (lt-leb 48 b h))
 

@@ -88,14 +88,14 @@ digit-one : (n : ℕ) → n < 10 → AllDigits (digit n ∷ [])
 unfolding digit
 digit-one n h = one (is-digit (48 + n) (omega arith) (omega arith)) none
 
-plain-digits : (k n : ℕ) → AllDigits (digits k n)
+pub plain-digits : (k n : ℕ) → AllDigits (digits k n)
 unfolding digits
 plain-digits zero n = none
 plain-digits (suc k) n =
     chosen-lt AllDigits n 10 _ _ (digit-one n)
     (λ _. digits-both (plain-digits k (n / 10)) (digit-one (n % 10) (omega arith)))
 
-plain-some : (k n : ℕ) → 1 ≤ length (digits (suc k) n)
+pub plain-some : (k n : ℕ) → 1 ≤ length (digits (suc k) n)
 unfolding digits
 plain-some k n =
     chosen-lt (λ (t : List ℕ). 1 ≤ length t) n 10 _ _ (λ _. omega arith)
@@ -116,7 +116,7 @@ more-value :
 unfolding digit
 more-value ds n e = let last = value-last 0 ds (48 + n % 10) in omega (arith, last, e)
 
-plain-value : (k n : ℕ) → length (digits k n) < k → valueFrom 0 (digits k n) ≡ n
+pub plain-value : (k n : ℕ) → length (digits k n) < k → valueFrom 0 (digits k n) ≡ n
 unfolding digits
 plain-value zero n = λ h. absurd (omega arith)
 plain-value (suc k) n =

@@ -133,7 +133,7 @@ unfolding atFront checkedFrom
 over-front i b [] = refl
 over-front i b (line ∷ lines) = refl
 
-left-over : (i b : ℕ) (bs : List ℕ) → checkedFrom i [] (listed (b ∷ bs)) ≡ Checked.LeftOver i
+pub left-over : (i b : ℕ) (bs : List ℕ) → checkedFrom i [] (listed (b ∷ bs)) ≡ Checked.LeftOver i
 unfolding listed checkedFrom
 left-over i b bs = chosen (λ (ls : List (List ℕ)). checkedFrom i [] ls ≡ Checked.LeftOver i) (eqb b 10) _ _ (λ _. refl)
     (λ _. over-front i b (listed bs))

@@ -1,0 +1,234 @@
+-- Comparing the bytes of our register with those of a listing (`specs/Comparing.antt`) gives what checking the lines gives.
+-- Assumes nothing.
+use Prim.Native.Nat.{ℕ, suc, _+_, _<_, _≤_}
+use mathlib.Core.Path.{_≡_, refl, sym, ap, subst, _∙_}
+use mathlib.Core.Bool.{Bool, true, false, not}
+use mathlib.Core.List.{List, [], _∷_, _++_, append-assoc}
+use native.Mathlib.Omega.{arith}
+use lib.ListN.{length, drop}
+use lib.Dec.{leb, eqb}
+use lib.IntN.{ℤ}
+use borrow.Author.Tests.{eq-eqb, ne-eqb, eqb-true, eqb-false, not-true}
+use Rattle.net.specs.Choice.{choose, both}
+use Rattle.net.proofs.Laws.{both-l, both-r, choose-true, choose-false}
+use Rattle.net.proofs.Every.{chosen}
+use Rattle.text.specs.Decimal.{digits, decimal, signedDecimal}
+use Rattle.lexemes.specs.Lexemes.{isDigit}
+use Rattle.registers.specs.Words.{Word, name, number, reading, address, wordText, spaced, lineText, printed}
+use Rattle.listing.specs.Listing.{Checked, atFront, listed, byteThen, textThen, digitsOf, afterDigits, valueFrom, writes, numberThen}
+use Rattle.listing.specs.Listing.{wordThen, wordsThen, nothingLeft, lineEnds, carries, checkedFrom}
+use Rattle.listing.specs.Comparing.{standsFirst, partedAt, comparing}
+use Rattle.listing.proofs.Digits.{AllDigits, none, one, digit-low, Quiet, quiet-byte, digits-front, plain-digits, plain-some, plain-value}
+use Rattle.listing.proofs.Carrying.{quiet-low}
+use Rattle.listing.proofs.Agreeing.{Each, nil, cons, plain, Fine, label, value, upward, downward, located, FineLines, Short}
+use Rattle.listing.proofs.FirstBytes.{left-over}
+
+-- ---- the first line of some bytes, and what stands after it
+firstLine : List ℕ → List ℕ
+firstLine [] = []
+firstLine (b ∷ bs) = choose (eqb b 10) (b ∷ []) (b ∷ firstLine bs)
+
+afterLine : List ℕ → List ℕ
+afterLine [] = []
+afterLine (b ∷ bs) = choose (eqb b 10) bs (afterLine bs)
+
+-- each by whether the first byte is a newline
+first-ends : (b : ℕ) (bs : List ℕ) → eqb b 10 ≡ true → firstLine (b ∷ bs) ≡ b ∷ []
+unfolding firstLine
+first-ends b bs e = choose-true (eqb b 10) (b ∷ []) (b ∷ firstLine bs) e
+
+first-goes : (b : ℕ) (bs : List ℕ) → eqb b 10 ≡ false → firstLine (b ∷ bs) ≡ b ∷ firstLine bs
+unfolding firstLine
+first-goes b bs e = choose-false (eqb b 10) (b ∷ []) (b ∷ firstLine bs) e
+
+after-ends : (b : ℕ) (bs : List ℕ) → eqb b 10 ≡ true → afterLine (b ∷ bs) ≡ bs
+unfolding afterLine
+after-ends b bs e = choose-true (eqb b 10) bs (afterLine bs) e
+
+after-goes : (b : ℕ) (bs : List ℕ) → eqb b 10 ≡ false → afterLine (b ∷ bs) ≡ afterLine bs
+unfolding afterLine
+after-goes b bs e = choose-false (eqb b 10) bs (afterLine bs) e
+
+by-test : {P : Type 0} (b : Bool) → (b ≡ true → P) → (b ≡ false → P) → P
+by-test true f g = f refl
+by-test false f g = g refl
+
+-- they are the first one listed, and those after it
+front-listed : (b : ℕ) (bs : List ℕ) → listed bs ≡ firstLine bs ∷ listed (afterLine bs) → atFront b (listed bs) ≡ (b ∷ firstLine bs) ∷ listed (afterLine bs)
+unfolding atFront
+front-listed b bs e = ap (atFront b) e
+
+listed-goes : (b : ℕ) (bs : List ℕ) → atFront b (listed bs) ≡ (b ∷ firstLine bs) ∷ listed (afterLine bs) → listed (b ∷ bs) ≡ firstLine (b ∷ bs) ∷ listed (afterLine (b ∷ bs))
+unfolding listed
+listed-goes b bs front =
+    by-test (eqb b 10)
+    (λ e. choose-true (eqb b 10) ((b ∷ []) ∷ listed bs) (atFront b (listed bs)) e
+    ∙ (λ i. sym (first-ends b bs e) i ∷ listed (sym (after-ends b bs e) i)))
+    (λ e. choose-false (eqb b 10) ((b ∷ []) ∷ listed bs) (atFront b (listed bs)) e ∙ front
+    ∙ (λ i. sym (first-goes b bs e) i ∷ listed (sym (after-goes b bs e) i)))
+
+listed-first : (b : ℕ) (bs : List ℕ) → listed (b ∷ bs) ≡ firstLine (b ∷ bs) ∷ listed (afterLine (b ∷ bs))
+unfolding listed atFront firstLine afterLine
+listed-first b [] = listed-goes b [] refl
+listed-first b (c ∷ bs) = listed-goes b (c ∷ bs) (front-listed b (c ∷ bs) (listed-first c bs))
+
+-- ---- a test of the first line is one of the bytes from its beginning
+record Same (next here : List ℕ → Bool) : Type 0 where
+  at : (bs : List ℕ) → next (firstLine bs) ≡ here bs
+
+anything : List ℕ → Bool
+anything bs = true
+
+none-of : (c b : ℕ) (x y : Bool) → eqb c b ≡ false → both (eqb c b) x ≡ both (eqb c b) y
+unfolding both
+none-of c b x y e = ap (λ (t : Bool). both t x) e ∙ sym (ap (λ (t : Bool). both t y) e)
+
+module _ (next here : List ℕ → Bool) (h : Same next here) (b : ℕ) (n : eqb b 10 ≡ false) where
+  byte-at : (bs : List ℕ) → byteThen b next (firstLine bs) ≡ byteThen b here bs
+  unfolding byteThen firstLine
+  byte-at [] = refl
+  byte-at (c ∷ bs) =
+      by-test (eqb c 10)
+      (λ e. ap (byteThen b next) (first-ends c bs e)
+      ∙ none-of c b _ _ (ne-eqb c b (λ d. eqb-false b 10 n (sym d ∙ eqb-true c 10 e))))
+      (λ e. ap (byteThen b next) (first-goes c bs e) ∙ ap (both (eqb c b)) (h .at bs))
+
+byte-same : {next here : List ℕ → Bool} (b : ℕ) → eqb b 10 ≡ false → Same next here → Same (byteThen b next) (byteThen b here)
+byte-same {next} {here} b n h = record { at = byte-at next here h b n }
+
+digit-not-end : (b : ℕ) → isDigit b ≡ true → eqb b 10 ≡ false
+digit-not-end b h = let low = digit-low b h in ne-eqb b 10 (λ e. omega arith)
+
+-- bytes that open with no digit
+quiet-first : (c : ℕ) (bs : List ℕ) → isDigit c ≡ false → Quiet (firstLine (c ∷ bs))
+unfolding firstLine
+quiet-first c bs e = chosen Quiet (eqb c 10) _ _ (λ _. quiet-byte c [] e) (λ _. quiet-byte c (firstLine bs) e)
+
+digits-same : (bs : List ℕ) → digitsOf (firstLine bs) ≡ digitsOf bs
+unfolding digitsOf firstLine
+digits-same [] = refl
+digits-same (c ∷ bs) =
+    by-test (isDigit c)
+    (λ e. ap digitsOf (first-goes c bs (digit-not-end c e)) ∙ ap (λ (ds : List ℕ). choose (isDigit c) (c ∷ ds) []) (digits-same bs))
+    (λ e. quiet-first c bs e .no-digits ∙ sym (quiet-byte c bs e .no-digits))
+
+after-same : (bs : List ℕ) → afterDigits (firstLine bs) ≡ firstLine (afterDigits bs)
+unfolding afterDigits firstLine
+after-same [] = refl
+after-same (c ∷ bs) =
+    by-test (isDigit c)
+    (λ e. ap afterDigits (first-goes c bs (digit-not-end c e))
+    ∙ choose-true (isDigit c) (afterDigits (firstLine bs)) (c ∷ firstLine bs) e ∙ after-same bs
+    ∙ ap firstLine (sym (choose-true (isDigit c) (afterDigits bs) (c ∷ bs) e)))
+    (λ e. quiet-first c bs e .all-after ∙ ap firstLine (sym (quiet-byte c bs e .all-after)))
+
+number-same : {next here : List ℕ → Bool} (n : ℕ) → Same next here → Same (numberThen n next) (numberThen n here)
+unfolding numberThen
+number-same {next} {here} n h = record {
+  at = λ bs.
+      ap (λ (ds : List ℕ). both (writes n ds) (next (afterDigits (firstLine bs)))) (digits-same bs)
+      ∙ ap (λ (rest : List ℕ). both (writes n (digitsOf bs)) (next rest)) (after-same bs)
+      ∙ ap (both (writes n (digitsOf bs))) (h .at (afterDigits bs));
+}
+
+plain-first : (b : ℕ) (text : List ℕ) → plain (b ∷ text) ≡ true → isDigit b ≡ false
+unfolding plain
+plain-first b text h = not-true (isDigit b) (both-l _ _ (both-l (both (not (isDigit b)) (not (eqb b 10))) _ h))
+
+plain-goes : (b : ℕ) (text : List ℕ) → plain (b ∷ text) ≡ true → eqb b 10 ≡ false
+unfolding plain
+plain-goes b text h =
+    not-true (eqb b 10) (both-r (not (isDigit b)) _ (both-l (both (not (isDigit b)) (not (eqb b 10))) _ h))
+
+plain-rest : (b : ℕ) (text : List ℕ) → plain (b ∷ text) ≡ true → plain text ≡ true
+unfolding plain
+plain-rest b text h = both-r (both (not (isDigit b)) (not (eqb b 10))) _ h
+
+text-same : {next here : List ℕ → Bool} (text : List ℕ) → plain text ≡ true → Same next here → Same (textThen text next) (textThen text here)
+unfolding textThen
+text-same [] p h = record { at = h .at }
+text-same (b ∷ text) p h =
+    record { at = byte-same b (plain-goes b text p) (text-same text (plain-rest b text p) h) .at }
+
+module _ {Q : ℕ → Type 0} where
+  word-same : {next here : List ℕ → Bool} {w : Word} → Fine Q w → Same next here → Same (wordThen w next) (wordThen w here)
+  unfolding wordThen
+  word-same (label {text} p) h = record { at = text-same text p h .at }
+  word-same (value {n} p) h = record { at = number-same n h .at }
+  word-same (upward {n} p) h = record { at = number-same n h .at }
+  word-same (downward {n} p) h = record { at = byte-same 45 (ne-eqb 45 10 (λ e. omega arith)) (number-same (n + 1) h) .at }
+  word-same (located {l} p) h = record { at = byte-same 64 (ne-eqb 64 10 (λ e. omega arith)) (number-same (l .0) h) .at }
+
+  words-same : {next here : List ℕ → Bool} {ws : List Word} → Each (Fine Q) ws → Same next here → Same (wordsThen ws next) (wordsThen ws here)
+  unfolding wordsThen
+  words-same nil h = record { at = h .at }
+  words-same (cons f fs) h =
+      record { at = byte-same 32 (ne-eqb 32 10 (λ e. omega arith)) (word-same f (words-same fs h)) .at }
+
+ends-at : (bs : List ℕ) → lineEnds (firstLine bs) ≡ byteThen 10 anything bs
+unfolding lineEnds byteThen nothingLeft anything firstLine
+ends-at [] = refl
+ends-at (c ∷ bs) =
+    by-test (eqb c 10)
+    (λ e. ap (byteThen 10 nothingLeft) (first-ends c bs e))
+    (λ e. ap (byteThen 10 nothingLeft) (first-goes c bs e) ∙ none-of c 10 _ _ e)
+
+ends-same : Same lineEnds (byteThen 10 anything)
+ends-same = record { at = ends-at }
+
+lineThere : List Word → List ℕ → Bool
+lineThere [] bs = byteThen 10 anything bs
+lineThere (w ∷ ws) bs = wordThen w (wordsThen ws (byteThen 10 anything)) bs
+
+line-same : {Q : ℕ → Type 0} {line : List Word} → Each (Fine Q) line → Same (carries line) (lineThere line)
+unfolding carries lineThere
+line-same nil = record { at = ends-at }
+line-same (cons f fs) = record { at = word-same f (words-same fs ends-same) .at }
+
+-- ---- turns of the comparison, in line i
+quiet-opens : (b : ℕ) (bs : List ℕ) → Quiet (b ∷ bs) → isDigit b ≡ false
+unfolding digitsOf
+quiet-opens b bs q =
+    by-test (isDigit b)
+    (λ e. let z = ap length (sym (choose-true (isDigit b) (b ∷ digitsOf bs) [] e) ∙ q .no-digits) in absurd (omega (arith, z)))
+    (λ e. e)
+
+module _ (i : ℕ) where
+  parts : (theirs : List ℕ) → partedAt false i theirs ≡ Checked.Differs i
+  unfolding partedAt choose
+  parts [] = refl
+  parts (c ∷ theirs) = refl
+
+  byte-turn : (passing fresh : Bool) (b : ℕ) (ours theirs : List ℕ) → isDigit b ≡ false
+      → comparing passing fresh i (b ∷ ours) theirs
+      ≡ choose (standsFirst b theirs) (comparing false (eqb b 10) (choose (eqb b 10) (i + 1) i) ours (drop 1 theirs)) (partedAt fresh i theirs)
+  unfolding comparing
+  byte-turn passing fresh b ours theirs e = choose-false (isDigit b) _ _ e
+
+  -- what follows a number does not open with a digit
+  not-passing : (ours theirs : List ℕ) → Quiet ours → comparing true false i ours theirs ≡ comparing false false i ours theirs
+  unfolding comparing
+  not-passing [] [] q = refl
+  not-passing [] (c ∷ theirs) q = refl
+  not-passing (b ∷ ours) theirs q =
+      let n = quiet-opens b ours q in
+      byte-turn true false b ours theirs n ∙ sym (byte-turn false false b ours theirs n)
+
+  passes : {ds : List ℕ} (ours theirs : List ℕ) → AllDigits ds → Quiet ours
+      → comparing true false i (ds ++ ours) theirs ≡ comparing false false i ours theirs
+  unfolding comparing choose
+  passes ours theirs none q = not-passing ours theirs q
+  passes ours theirs (one {b = b} {ds = ds} h r) q = choose-true (isDigit b) _ _ h ∙ passes ours theirs r q
+
+  -- a number
+  number-turn : {ds : List ℕ} (ours theirs : List ℕ) → AllDigits ds → 1 ≤ length ds → Quiet ours
+      → comparing false false i (ds ++ ours) theirs
+      ≡ choose (writes (valueFrom 0 ds) (digitsOf theirs)) (comparing false false i ours (afterDigits theirs)) (Checked.Differs i)
+  unfolding comparing choose
+  number-turn ours theirs none l q = absurd (omega arith)
+  number-turn ours theirs (one {b = b} {ds = ds} h r) l q =
+      choose-true (isDigit b) _ _ h
+      ∙ ap (λ (xs : List ℕ). choose (writes (valueFrom 0 xs) (digitsOf theirs)) (comparing true false i (ds ++ ours) (afterDigits theirs)) (partedAt false i theirs))
+      (digits-front ours (one h r) q)
+      ∙ ap (λ (x : Checked). choose (writes (valueFrom 0 (b ∷ ds)) (digitsOf theirs)) (comparing true false i (ds ++ ours) (afterDigits theirs)) x) (parts theirs)
+      ∙ ap (λ (x : Checked). choose (writes (valueFrom 0 (b ∷ ds)) (digitsOf theirs)) x (Checked.Differs i)) (passes ours (afterDigits theirs) r q)
