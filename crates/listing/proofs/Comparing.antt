@@ -5,11 +5,11 @@ use mathlib.Core.Path.{_≡_, refl, sym, ap, subst, _∙_}
 use mathlib.Core.Bool.{Bool, true, false, not}
 use mathlib.Core.List.{List, [], _∷_, _++_, append-assoc}
 use native.Mathlib.Omega.{arith}
-use lib.ListN.{length, drop}
+use lib.ListN.{length, drop, length-append}
 use lib.Dec.{leb, eqb}
 use lib.IntN.{ℤ}
 use borrow.Author.Tests.{eq-eqb, ne-eqb, eqb-true, eqb-false, not-true}
-use Rattle.net.specs.Choice.{choose, both}
+use Rattle.net.specs.Choice.{choose, both, inRange}
 use Rattle.net.proofs.Laws.{both-l, both-r, choose-true, choose-false}
 use Rattle.net.proofs.Every.{chosen}
 use Rattle.text.specs.Decimal.{digits, decimal, signedDecimal}
@@ -232,3 +232,151 @@ module _ (i : ℕ) where
       (digits-front ours (one h r) q)
       ∙ ap (λ (x : Checked). choose (writes (valueFrom 0 (b ∷ ds)) (digitsOf theirs)) (comparing true false i (ds ++ ours) (afterDigits theirs)) x) (parts theirs)
       ∙ ap (λ (x : Checked). choose (writes (valueFrom 0 (b ∷ ds)) (digitsOf theirs)) x (Checked.Differs i)) (passes ours (afterDigits theirs) r q)
+
+-- ---- the comparison follows a test: where the bytes pass it, it goes on after their line, and else the line differs
+after-digits-line : (bs : List ℕ) → afterLine (afterDigits bs) ≡ afterLine bs
+unfolding afterDigits
+after-digits-line [] = refl
+after-digits-line (c ∷ bs) =
+    by-test (isDigit c)
+    (λ e. ap afterLine (choose-true (isDigit c) (afterDigits bs) (c ∷ bs) e) ∙ after-digits-line bs
+    ∙ sym (after-goes c bs (digit-not-end c e)))
+    (λ e. ap afterLine (choose-false (isDigit c) (afterDigits bs) (c ∷ bs) e))
+
+low-byte : (b : ℕ) → b < 48 → isDigit b ≡ false
+low-byte b h = quiet-opens b [] (quiet-low b [] h)
+
+at-sign : isDigit 64 ≡ false
+unfolding isDigit both
+at-sign = refl
+
+quiet-spaced : (ws : List Word) (ours : List ℕ) → Quiet ours → Quiet (spaced ws ++ ours)
+unfolding spaced
+quiet-spaced [] ours q = q
+quiet-spaced (w ∷ ws) ours q = quiet-low 32 ((wordText w ++ spaced ws) ++ ours) (omega arith)
+
+module _ (i : ℕ) (on : List ℕ → Checked) where
+  record Follows (next : List ℕ → Bool) (ours : List ℕ) : Type 0 where
+    is : (theirs : List ℕ)
+        → comparing false false i ours theirs ≡ choose (next theirs) (on (afterLine theirs)) (Checked.Differs i)
+
+  -- part of a test passed
+  both-follow : (t : Bool) (next : List ℕ → Bool) (ours rest bs : List ℕ) → Follows next ours → (t ≡ true → afterLine rest ≡ afterLine bs)
+      → choose t (comparing false false i ours rest) (Checked.Differs i) ≡ choose (both t (next rest)) (on (afterLine bs)) (Checked.Differs i)
+  unfolding choose both
+  both-follow true next ours rest bs h e =
+      h .is rest ∙ ap (λ (xs : List ℕ). choose (next rest) (on xs) (Checked.Differs i)) (e refl)
+  both-follow false next ours rest bs h e = refl
+
+  module _ (next : List ℕ → Bool) (ours : List ℕ) (h : Follows next ours) (b : ℕ) (d : isDigit b ≡ false) (n : eqb b 10 ≡ false) where
+    byte-is : (theirs : List ℕ)
+        → choose (standsFirst b theirs) (comparing false (eqb b 10) (choose (eqb b 10) (i + 1) i) ours (drop 1 theirs)) (partedAt false i theirs)
+        ≡ choose (byteThen b next theirs) (on (afterLine theirs)) (Checked.Differs i)
+    unfolding standsFirst partedAt byteThen choose
+    byte-is [] = refl
+    byte-is (c ∷ theirs) =
+        ap (λ (t : Bool). choose (eqb c b) (comparing false t (choose t (i + 1) i) ours theirs) (Checked.Differs i)) n
+        ∙ both-follow (eqb c b) next ours theirs (c ∷ theirs) h
+        (λ e. sym (after-goes c theirs (ap (λ (x : ℕ). eqb x 10) (eqb-true c b e) ∙ n)))
+
+  byte-follows : {next : List ℕ → Bool} {ours : List ℕ} (b : ℕ) → isDigit b ≡ false → eqb b 10 ≡ false → Follows next ours → Follows (byteThen b next) (b ∷ ours)
+  byte-follows {next} {ours} b d n h =
+      record { is = λ theirs. byte-turn i false false b ours theirs d ∙ byte-is next ours h b d n theirs }
+
+  text-follows : {next : List ℕ → Bool} {ours : List ℕ} (text : List ℕ) → plain text ≡ true → Follows next ours → Follows (textThen text next) (text ++ ours)
+  unfolding textThen
+  text-follows [] p h = record { is = h .is }
+  text-follows (b ∷ text) p h =
+      record { is = byte-follows b (plain-first b text p) (plain-goes b text p) (text-follows text (plain-rest b text p) h) .is }
+
+  number-follows : {next : List ℕ → Bool} {ours : List ℕ} (n : ℕ) → Short n → Quiet ours → Follows next ours → Follows (numberThen n next) (decimal n ++ ours)
+  unfolding numberThen decimal
+  number-follows {next} {ours} n s q h = record {
+    is = λ theirs.
+        number-turn i ours theirs (plain-digits 20 n) (plain-some 19 n) q
+        ∙ ap (λ (v : ℕ). choose (writes v (digitsOf theirs)) (comparing false false i ours (afterDigits theirs)) (Checked.Differs i))
+        (plain-value 20 n (omega (arith, s .few)))
+        ∙ both-follow (writes n (digitsOf theirs)) next ours (afterDigits theirs) theirs h (λ _. after-digits-line theirs);
+  }
+
+  word-follows : {next : List ℕ → Bool} {ours : List ℕ} {w : Word} → Fine Short w → Quiet ours → Follows next ours → Follows (wordThen w next) (wordText w ++ ours)
+  unfolding wordThen wordText signedDecimal
+  word-follows (label {text} p) q h = record { is = text-follows text p h .is }
+  word-follows (value {n} p) q h = record { is = number-follows n p q h .is }
+  word-follows (upward {n} p) q h = record { is = number-follows n p q h .is }
+  word-follows (downward {n} p) q h =
+      record { is = byte-follows 45 (low-byte 45 (omega arith)) (ne-eqb 45 10 (λ e. omega arith)) (number-follows (n + 1) p q h) .is }
+  word-follows (located {l} p) q h =
+      record { is = byte-follows 64 at-sign (ne-eqb 64 10 (λ e. omega arith)) (number-follows (l .0) p q h) .is }
+
+  words-follow : {next : List ℕ → Bool} {ours : List ℕ} {ws : List Word} → Each (Fine Short) ws → Quiet ours → Follows next ours → Follows (wordsThen ws next) (spaced ws ++ ours)
+  unfolding wordsThen spaced
+  words-follow nil q h = record { is = h .is }
+  words-follow {next} {ours} (cons {x = w} {xs = ws} f fs) q h =
+      let more = word-follows f (quiet-spaced ws ours q) (words-follow fs q h) in
+      let here = subst (Follows (wordThen w (wordsThen ws next))) (sym (append-assoc (wordText w) (spaced ws) ours)) more in
+      record { is = byte-follows 32 (low-byte 32 (omega arith)) (ne-eqb 32 10 (λ e. omega arith)) here .is }
+
+-- ---- a line
+module _ (i : ℕ) (ours : List ℕ) where
+  on : List ℕ → Checked
+  on theirs = comparing false true (i + 1) ours theirs
+
+  ended : (c : ℕ) (theirs : List ℕ) (t : Bool) → eqb c 10 ≡ t
+      → choose t (comparing false true (i + 1) ours theirs) (Checked.Differs i) ≡ choose (both t true) (on (afterLine (c ∷ theirs))) (Checked.Differs i)
+  unfolding choose both on
+  ended c theirs true e = ap (comparing false true (i + 1) ours) (sym (after-ends c theirs e))
+  ended c theirs false e = refl
+
+  newline-is : (theirs : List ℕ)
+      → choose (standsFirst 10 theirs) (comparing false (eqb 10 10) (choose (eqb 10 10) (i + 1) i) ours (drop 1 theirs)) (partedAt false i theirs)
+      ≡ choose (byteThen 10 anything theirs) (on (afterLine theirs)) (Checked.Differs i)
+  unfolding standsFirst partedAt byteThen choose anything
+  newline-is [] = refl
+  newline-is (c ∷ theirs) = ended c theirs (eqb c 10) refl
+
+  newline-follows : Follows i on (byteThen 10 anything) (10 ∷ ours)
+  newline-follows =
+      record { is = λ theirs. byte-turn i false false 10 ours theirs (low-byte 10 (omega arith)) ∙ newline-is theirs }
+
+  line-follows : {line : List Word} → Each (Fine Short) line → Follows i on (lineThere line) (lineText line ++ ours)
+  unfolding lineThere lineText
+  line-follows nil = record { is = newline-follows .is }
+  line-follows (cons {x = w} {xs = ws} f fs) =
+      let q = quiet-low 10 ours (omega arith) in
+      let whole = word-follows i on f (quiet-spaced ws (10 ∷ ours) q) (words-follow i on fs q newline-follows) in
+      let same : wordText w ++ (spaced ws ++ 10 ∷ ours) ≡ (wordText w ++ (spaced ws ++ 10 ∷ [])) ++ ours =
+      simp append-assoc in
+      record { is = subst (Follows i on (wordThen w (wordsThen ws (byteThen 10 anything)))) same whole .is }
+
+-- ---- where a line begins
+fresh-or-not : (i : ℕ) (ours : List ℕ) (c : ℕ) (theirs : List ℕ) → comparing false true i ours (c ∷ theirs) ≡ comparing false false i ours (c ∷ theirs)
+unfolding comparing partedAt choose
+fresh-or-not i [] c theirs = refl
+fresh-or-not i (b ∷ ours) c theirs = refl
+
+wanting : (i : ℕ) (ours : List ℕ) → 1 ≤ length ours → comparing false true i ours [] ≡ Checked.Wanting i
+unfolding comparing partedAt standsFirst choose writes inRange both digitsOf
+wanting i [] h = absurd (omega arith)
+wanting i (b ∷ ours) h = chosen (λ (x : Checked). x ≡ Checked.Wanting i) (isDigit b) _ _ (λ _. refl) (λ _. refl)
+
+line-some : (line : List Word) (ours : List ℕ) → 1 ≤ length (lineText line ++ ours)
+unfolding lineText
+line-some [] ours = omega arith
+line-some (w ∷ ws) ours =
+    omega (arith, length-append (wordText w ++ (spaced ws ++ 10 ∷ [])) ours, length-append (wordText w) (spaced ws ++ 10 ∷ []), length-append (spaced ws) (10 ∷ []))
+
+-- ---- all lines
+pub lines-compared : {lines : List (List Word)} → FineLines Short lines → (i : ℕ) (theirs : List ℕ)
+    → comparing false true i (printed lines) theirs ≡ checkedFrom i lines (listed theirs)
+unfolding printed comparing checkedFrom listed on
+lines-compared nil i [] = refl
+lines-compared nil i (c ∷ theirs) = sym (left-over i c theirs)
+lines-compared (cons {x = line} {xs = lines} f fs) i [] = wanting i (lineText line ++ printed lines) (line-some line (printed lines))
+lines-compared (cons {x = line} {xs = lines} f fs) i (c ∷ theirs) =
+    let all : List ℕ = c ∷ theirs in
+    fresh-or-not i (lineText line ++ printed lines) c theirs
+    ∙ line-follows i (printed lines) f .is all
+    ∙ ap (λ (x : Checked). choose (lineThere line all) x (Checked.Differs i)) (lines-compared fs (i + 1) (afterLine all))
+    ∙ ap (λ (t : Bool). choose t (checkedFrom (i + 1) lines (listed (afterLine all))) (Checked.Differs i)) (sym (line-same f .at all))
+    ∙ ap (checkedFrom i (line ∷ lines)) (sym (listed-first c theirs))
