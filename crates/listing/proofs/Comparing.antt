@@ -1,20 +1,19 @@
 -- Comparing the bytes of our register with those of a listing (`specs/Comparing.antt`) gives what checking the lines gives.
 -- Assumes nothing.
-use Prim.Native.Nat.{ℕ, suc, _+_, _<_, _≤_}
+use Prim.Native.Nat.{ℕ, _+_, _<_, _≤_}
 use mathlib.Core.Path.{_≡_, refl, sym, ap, subst, _∙_}
 use mathlib.Core.Bool.{Bool, true, false, not}
 use mathlib.Core.List.{List, [], _∷_, _++_, append-assoc}
 use native.Mathlib.Omega.{arith}
 use lib.ListN.{length, drop, length-append}
-use lib.Dec.{leb, eqb}
-use lib.IntN.{ℤ}
-use borrow.Author.Tests.{eq-eqb, ne-eqb, eqb-true, eqb-false, not-true}
+use lib.Dec.{eqb}
+use borrow.Author.Tests.{ne-eqb, eqb-true, eqb-false, not-true}
 use Rattle.net.specs.Choice.{choose, both, inRange}
 use Rattle.net.proofs.Laws.{both-l, both-r, choose-true, choose-false}
 use Rattle.net.proofs.Every.{chosen}
-use Rattle.text.specs.Decimal.{digits, decimal, signedDecimal}
+use Rattle.text.specs.Decimal.{decimal, signedDecimal}
 use Rattle.lexemes.specs.Lexemes.{isDigit}
-use Rattle.registers.specs.Words.{Word, name, number, reading, address, wordText, spaced, lineText, printed}
+use Rattle.registers.specs.Words.{Word, number, wordText, spaced, lineText, printed}
 use Rattle.listing.specs.Listing.{Checked, atFront, listed, byteThen, textThen, digitsOf, afterDigits, valueFrom, writes, numberThen}
 use Rattle.listing.specs.Listing.{wordThen, wordsThen, nothingLeft, lineEnds, carries, checkedFrom}
 use Rattle.listing.specs.Comparing.{standsFirst, partedAt, comparing}

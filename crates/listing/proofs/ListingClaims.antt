@@ -1,14 +1,19 @@
 -- The claims of `specs/ListingClaims.antt`. Assumes nothing.
 use Prim.Native.Nat.{ℕ, _<_, _≤_}
+use mathlib.Core.Path.{_≡_}
 use mathlib.Core.List.{List}
 use native.Mathlib.Omega.{arith}
 use native.Mathlib.Nat.{le-trans}
 use lib.ListN.{getD, take, length-take}
 use Rattle.image.specs.Image.{openedOf}
 use Rattle.run.specs.Run.{runOf}
+use Rattle.registers.specs.Words.{printed}
 use Rattle.registers.specs.Register.{registerIn, registerOf}
-use Rattle.listing.specs.Listing.{Age, shownFor, wantedLines, checkedOf, listingOf}
-use Rattle.listing.specs.ListingClaims.{PlainAgrees, PaddedAgrees, AgreesOnly, longestListing, LongestListing, FirstBytesDecide}
+use Rattle.listing.specs.Listing.{Age, shownFor, wantedLines, listed, checkedOf, listingOf}
+use Rattle.listing.specs.ListingClaims.{PlainAgrees, PaddedAgrees, AgreesOnly, FaultIsFirst, longestListing, LongestListing, FirstBytesDecide}
+use Rattle.listing.specs.Comparing.{comparedOf}
+use Rattle.listing.proofs.Comparing.{lines-compared}
+use Rattle.listing.proofs.FirstFault.{fault-first}
 use Rattle.listing.proofs.Agreeing.{FineLines, Short, padded-agrees, listing-only, plain-lines}
 use Rattle.listing.proofs.Wanted.{lines-fine, outcome-always}
 use Rattle.listing.proofs.Small.{outcome-short}
@@ -45,6 +50,17 @@ plainAgrees = record {
   today = λ image picks bytes. paddedAgrees image picks _ Age.New (plain-lines (wanted-short image picks Age.New bytes));
   either = λ image picks age bytes. paddedAgrees image picks _ age (plain-lines (wanted-short image picks age bytes));
 }
+
+pub faultIsFirst : FaultIsFirst
+unfolding FaultIsFirst listingOf checkedOf
+faultIsFirst image picks listing age = fault-first 1 (wantedLines image picks age) (listed listing)
+
+-- ---- the bytes, compared as the code does
+pub comparedIs :
+    (image picks listing : List ℕ) (age : Age) → ((i : ℕ) → getD picks i 0 < 256)
+    → comparedOf (printed (wantedLines image picks age)) listing ≡ listingOf image picks listing age
+unfolding comparedOf listingOf checkedOf
+comparedIs image picks listing age bytes = lines-compared (wanted-short image picks age bytes) 1 listing
 
 -- ---- how long
 wanted-room : (image picks : List ℕ) (age : Age) → linesRoom (wantedLines image picks age) ≤ longestListing

@@ -1,5 +1,5 @@
 -- What is claimed of the check of a listing (document 02, slip 5): it accepts our own register, every listing made from it
--- by padding its numbers, and no other; and the first bytes of a listing decide.
+-- by padding its numbers, and no other; it names the first line at fault; and the first bytes of a listing decide.
 use Prim.Native.Nat.{ℕ, _+_, _<_, _≤_}
 use mathlib.Core.Path.{_≡_}
 use mathlib.Core.List.{List, [], _∷_, _++_}
@@ -9,7 +9,7 @@ use Rattle.net.specs.declared.locality.Locality.{Locality}
 use Rattle.text.specs.Decimal.{decimal}
 use Rattle.registers.specs.Words.{Word, name, number, reading, address, printed}
 use Rattle.registers.specs.Register.{registerOf}
-use Rattle.listing.specs.Listing.{Age, Checked, wantedLines, listingOf}
+use Rattle.listing.specs.Listing.{Age, Checked, wantedLines, listed, listingOf}
 
 -- ---- "The old program pads numbers: up to ten digits, leading zeros among them; all else is byte for byte"
 
@@ -78,6 +78,38 @@ AgreesOnly =
     (image picks listing : List ℕ) (age : Age)
     → listingOf image picks listing age ≡ Checked.Agrees
     → Padded (wantedLines image picks age) listing
+
+-- ---- the first line at fault, by what stands in the lines
+
+-- each of the first n lines of a listing is a padding of the wanted one
+unfoldable pub PaddedBelow : ℕ → List (List Word) → List (List ℕ) → Type 0
+PaddedBelow n wanted lines = (j : ℕ) → j < n → PaddedLine (getD wanted j []) (getD lines j [])
+
+-- what is answered where the lines are numbered from i on
+pub data FirstFault (i : ℕ) (wanted : List (List Word)) (lines : List (List ℕ)) : Checked → Type 0 where
+  no-fault : length lines ≡ length wanted → PaddedBelow (length wanted) wanted lines → FirstFault i wanted lines Checked.Agrees
+  line-differs :
+      (n : ℕ)
+      → n < length wanted
+      → n < length lines
+      → PaddedBelow n wanted lines
+      → (PaddedLine (getD wanted n []) (getD lines n []) → ⊥)
+      → FirstFault i wanted lines (Checked.Differs (i + n))
+  lines-wanting :
+      length lines < length wanted
+      → PaddedBelow (length lines) wanted lines
+      → FirstFault i wanted lines (Checked.Wanting (i + length lines))
+  lines-left :
+      length wanted < length lines
+      → PaddedBelow (length wanted) wanted lines
+      → FirstFault i wanted lines (Checked.LeftOver (i + length wanted))
+
+unfoldable pub FaultIsFirst : Type 0
+FaultIsFirst =
+    (image picks listing : List ℕ) (age : Age)
+    → FirstFault 1 (wantedLines image picks age) (listed listing) (listingOf image picks listing age)
+
+-- ---- how many bytes are looked at
 
 -- how many bytes the longest listing has that agrees: of 65,536 picks and of 16 addresses, each with 16 tuples of four
 -- readings below nought, every number padded to ten digits
