@@ -8,8 +8,9 @@ use lib.ListN.{getD, take, length-take}
 use Rattle.image.specs.Image.{openedOf}
 use Rattle.run.specs.Run.{runOf}
 use Rattle.registers.specs.Words.{printed}
-use Rattle.registers.specs.Register.{registerIn, registerOf}
-use Rattle.listing.specs.Listing.{Age, shownFor, wantedLines, listed, checkedOf, listingOf}
+use Rattle.registers.specs.Shown.{current}
+use Rattle.registers.specs.Register.{registerIn, registerAs, registerOf}
+use Rattle.listing.specs.Listing.{Age, partsFor, wantedLines, listed, checkedOf, listingOf}
 use Rattle.listing.specs.ListingClaims.{PlainAgrees, PaddedAgrees, AgreesOnly, FaultIsFirst, longestListing, LongestListing, FirstBytesDecide}
 use Rattle.listing.specs.Comparing.{comparedOf}
 use Rattle.listing.proofs.Comparing.{lines-compared}
@@ -27,14 +28,14 @@ data Any (n : ℕ) : Type 0 where
 wanted-fine : (image picks : List ℕ) (age : Age) → FineLines Any (wantedLines image picks age)
 unfolding wantedLines
 wanted-fine image picks age =
-    lines-fine (shownFor age) (openedOf image .net) (take 65536 picks)
+    lines-fine (partsFor age) (openedOf image .net) (take 65536 picks)
     (outcome-always Any (λ n. any) (openedOf image .net) (take 65536 picks) (runOf image (take 65536 picks)))
 
 wanted-short :
     (image picks : List ℕ) (age : Age) → ((i : ℕ) → getD picks i 0 < 256) → FineLines Short (wantedLines image picks age)
 unfolding wantedLines
 wanted-short image picks age bytes =
-    lines-fine (shownFor age) (openedOf image .net) (take 65536 picks) (outcome-short image picks bytes)
+    lines-fine (partsFor age) (openedOf image .net) (take 65536 picks) (outcome-short image picks bytes)
 
 pub paddedAgrees : PaddedAgrees
 unfolding PaddedAgrees listingOf checkedOf
@@ -45,7 +46,7 @@ unfolding AgreesOnly listingOf checkedOf
 agreesOnly image picks listing age h = listing-only 1 (wantedLines image picks age) listing h
 
 pub plainAgrees : PlainAgrees
-unfolding PaddedAgrees registerOf registerIn wantedLines shownFor
+unfolding PaddedAgrees registerOf registerAs registerIn wantedLines partsFor current
 plainAgrees = record {
   today = λ image picks bytes. paddedAgrees image picks _ Age.New (plain-lines (wanted-short image picks Age.New bytes));
   either = λ image picks age bytes. paddedAgrees image picks _ age (plain-lines (wanted-short image picks age bytes));
@@ -66,7 +67,7 @@ comparedIs image picks listing age bytes = lines-compared (wanted-short image pi
 wanted-room : (image picks : List ℕ) (age : Age) → linesRoom (wantedLines image picks age) ≤ longestListing
 unfolding wantedLines
 wanted-room image picks age =
-    register-room (shownFor age) _ (take 65536 picks) _ (omega (arith, length-take 65536 picks))
+    register-room (partsFor age) _ (take 65536 picks) _ (omega (arith, length-take 65536 picks))
 
 pub longestAgrees : LongestListing
 unfolding LongestListing AgreesOnly

@@ -12,14 +12,15 @@ use Rattle.net.specs.Records.{fieldAt, tupleAt, addressOf}
 use Rattle.net.proofs.Every.{chosen}
 use Rattle.run.specs.Run.{Outcome, refused, refused-text, ran, numbers}
 use Rattle.registers.specs.Types.{Locality, Item, Tuple, Node, Net, Fault}
-use Rattle.registers.specs.Words.{Word, number}
-use Rattle.registers.specs.Shown.{Shown}
-use Rattle.registers.specs.Lines.{fewer, refusalLine, refusedLine, netLine, pickLine, madeLine, nodeLine, itemWord, fieldWords, markWords}
+use Rattle.registers.specs.Words.{Word}
+use Rattle.registers.specs.declared.shown.Parts.{Parts}
+use Rattle.registers.specs.Shown.{unnamed}
+use Rattle.registers.specs.Lines.{fewer, refusalLine, placeWords, refusedLine, netLine, pickLine, madeLine, nameWords, nodeLine, itemWord, fieldWords, markWords}
 use Rattle.registers.specs.Lines.{tupleLine, tupleLines, nodeLines, netLines, totalLine, closingLines, afterLines}
 use Rattle.registers.specs.Lines.{pickLines, registerLines}
+use Rattle.registers.proofs.Longest.{fewer-below}
 use Rattle.listing.specs.ListingClaims.{longestListing}
 use Rattle.listing.proofs.FirstBytes.{wordRoom, wordsRoom, lineRoom, linesRoom}
-use Rattle.listing.proofs.Small.{fewer-size}
 
 -- ---- parts, one after another
 module _ {A : Type 0} (g : List A → ℕ) (none : g [] ≡ 0) (both : (a b : List A) → g (a ++ b) ≡ g a + g b) where
@@ -61,7 +62,7 @@ item-room (Item.Address l) = omega arith
 fields-room : (t : Tuple) → wordsRoom (fieldWords t) ≤ 4 * 12
 unfolding fieldWords
 fields-room t =
-    parts-most wordsRoom no-words words-both (fewer (t .count) 4) 4 12 _ (fewer-size (t .count) 4)
+    parts-most wordsRoom no-words words-both (fewer (t .count) 4) 4 12 _ (fewer-below (t .count) 4)
     (λ i. item-room (fieldAt t i))
 
 made-room : (i b x : ℕ) → linesRoom (madeLine i b x ∷ []) ≤ 49
@@ -73,44 +74,44 @@ unfolding pickLines
 picks-room picks answers l =
     parts-most linesRoom no-lines lines-both (length picks) 65536 49 _ l (λ i. made-room (i + 1) _ _)
 
-module _ (shown : Shown) where
-  refused-room : (f : Fault) → lineRoom (refusedLine shown f) ≤ 33
-  unfolding refusedLine lineRoom wordsRoom wordRoom bytes
-  refused-room f = chosen (λ (ws : List Word). suc 7 + (suc 10 + wordsRoom ws) ≤ 33) (shown .place) _ _ (λ _. omega arith) (λ _. omega arith)
+module _ (parts : Parts) where
+  refused-room : (f : Fault) → lineRoom (refusedLine parts f) ≤ 33
+  unfolding refusedLine placeWords lineRoom wordsRoom wordRoom bytes
+  refused-room f = chosen (λ (ws : List Word). suc 7 + (suc 10 + wordsRoom ws) ≤ 33) (parts .place) _ _ (λ _. omega arith) (λ _. omega arith)
 
-  mark-room : (t : Tuple) → wordsRoom (markWords shown t) ≤ 16
+  mark-room : (t : Tuple) → wordsRoom (markWords parts t) ≤ 16
   unfolding markWords wordsRoom wordRoom bytes
-  mark-room t = chosen (λ (ws : List Word). wordsRoom ws ≤ 16) (shown .mark) _ _ (λ _. omega arith) (λ _. omega arith)
+  mark-room t = chosen (λ (ws : List Word). wordsRoom ws ≤ 16) (parts .mark) _ _ (λ _. omega arith) (λ _. omega arith)
 
-  tuple-room : (a : Locality) (t : Tuple) → linesRoom (tupleLine shown a t ∷ []) ≤ 81
+  tuple-room : (a : Locality) (t : Tuple) → linesRoom (tupleLine parts a t ∷ []) ≤ 81
   unfolding tupleLine linesRoom lineRoom wordsRoom wordRoom bytes
-  tuple-room a t = omega (arith, words-both (fieldWords t) (markWords shown t), fields-room t, mark-room t)
+  tuple-room a t = omega (arith, words-both (fieldWords t) (markWords parts t), fields-room t, mark-room t)
 
-  node-room : (a : Locality) (x : Node) → linesRoom (nodeLines shown a x) ≤ 1334
-  unfolding nodeLines nodeLine tupleLines linesRoom lineRoom wordsRoom wordRoom bytes
+  node-room : (a : Locality) (x : Node) → linesRoom (nodeLines (unnamed parts) a x) ≤ 1334
+  unfolding nodeLines nodeLine nameWords unnamed tupleLines linesRoom lineRoom wordsRoom wordRoom bytes
   node-room a x =
       let tuples = parts-most linesRoom no-lines lines-both (fewer (x .stored) 16) 16 81
-      (λ i. tupleLine shown a (tupleAt x i) ∷ []) (fewer-size (x .stored) 16) (λ i. tuple-room a (tupleAt x i)) in
+      (λ i. tupleLine parts a (tupleAt x i) ∷ []) (fewer-below (x .stored) 16) (λ i. tuple-room a (tupleAt x i)) in
       omega (arith, tuples)
 
-  nodes-room : (s : Net) → linesRoom (netLines shown s) ≤ 16 * 1334
+  nodes-room : (s : Net) → linesRoom (netLines (unnamed parts) s) ≤ 16 * 1334
   unfolding netLines
   nodes-room s =
-      parts-most linesRoom no-lines lines-both (fewer (s .addresses) 16) 16 1334 _ (fewer-size (s .addresses) 16)
+      parts-most linesRoom no-lines lines-both (fewer (s .addresses) 16) 16 1334 _ (fewer-below (s .addresses) 16)
       (λ a. node-room (addressOf a) _)
 
-  closing-room : (s : Net) → linesRoom (closingLines shown s) ≤ 17
+  closing-room : (s : Net) → linesRoom (closingLines parts s) ≤ 17
   unfolding closingLines totalLine linesRoom lineRoom wordsRoom wordRoom bytes
-  closing-room s = chosen (λ (ls : List (List Word)). linesRoom ls ≤ 17) (shown .total) _ _ (λ _. omega arith) (λ _. omega arith)
+  closing-room s = chosen (λ (ls : List (List Word)). linesRoom ls ≤ 17) (parts .total) _ _ (λ _. omega arith) (λ _. omega arith)
 
-  after-room : (s : Net) → linesRoom (afterLines shown s) ≤ 21361
-  unfolding afterLines
-  after-room s = omega (arith, lines-both (netLines shown s) (closingLines shown s), nodes-room s, closing-room s)
+  after-room : (s : Net) → linesRoom (afterLines (unnamed parts) s) ≤ 21361
+  unfolding afterLines unnamed
+  after-room s = omega (arith, lines-both (netLines (unnamed parts) s) (closingLines parts s), nodes-room s, closing-room s)
 
   pub register-room :
-      (s : Net) (picks : List ℕ) (o : Outcome) → length picks ≤ 65536 → linesRoom (registerLines shown s picks o) ≤ longestListing
-  unfolding registerLines refusalLine netLine linesRoom lineRoom wordsRoom wordRoom bytes
+      (s : Net) (picks : List ℕ) (o : Outcome) → length picks ≤ 65536 → linesRoom (registerLines (unnamed parts) s picks o) ≤ longestListing
+  unfolding registerLines unnamed refusalLine netLine linesRoom lineRoom wordsRoom wordRoom bytes
   register-room s picks (refused f) l = omega (arith, refused-room f)
   register-room s picks (refused-text n) l = omega arith
   register-room s picks (ran r) l =
-      omega (arith, lines-both (pickLines picks (numbers r)) (afterLines shown (r .net)), picks-room picks (numbers r) l, after-room (r .net))
+      omega (arith, lines-both (pickLines picks (numbers r)) (afterLines (unnamed parts) (r .net)), picks-room picks (numbers r) l, after-room (r .net))

@@ -1,25 +1,22 @@
 -- No number of the wanted lines has more than ten digits: each is below 10,000,000,000.
 -- Assumes nothing.
-use Prim.Native.Nat.{ℕ, zero, suc, _+_, _*_, _/_, _%_, _^_, _<_, _≤_}
+use Prim.Native.Nat.{ℕ, suc, _+_, _*_, _/_, _%_, _<_, _≤_}
 use mathlib.Core.Path.{_≡_, refl, ap, _∙_}
 use mathlib.Core.Bool.{true}
-use mathlib.Core.List.{List, [], _∷_, map}
+use mathlib.Core.List.{List}
 use native.Mathlib.Omega.{arith}
-use native.Mathlib.Nat.{pow-suc}
-use lib.ListN.{length, getD, take, length-append, length-take}
-use lib.Dec.{ltb}
+use lib.ListN.{getD, take, length-take}
 use lib.IntN.{ℤ}
 use borrow.Author.Tests.{ltb-true}
 use Rattle.net.specs.Records.{fieldAt, tupleAt, nodeAt, addressOf, processCount}
-use Rattle.net.specs.Shape.{Shaped}
 use Rattle.net.proofs.Every.{chosen, chosen-lt}
 use Rattle.net.proofs.FoldLaws.{fold-keeps}
-use Rattle.sound.specs.Soundness.{itemSound, soundOf}
+use Rattle.sound.specs.Soundness.{itemSound}
 use Rattle.sound.proofs.NodeFacts.{TupleOk as TupleSound, NodeOk as NodeSound}
 use Rattle.sound.proofs.NetFacts.{NetOk as NetSound, sound-apart}
 use Rattle.sound.proofs.NetChanges.{node-at}
 use Rattle.fresh.specs.Fresh.{readingFits, itemFits}
-use Rattle.text.specs.Decimal.{digit, digits, decimal}
+use Rattle.text.specs.Decimal.{decimal}
 use Rattle.image.specs.Image.{openedOf, numberOf}
 use Rattle.accepted.specs.ImageClaims.{AcceptedIsSound, RefusedIsNumbered}
 use Rattle.accepted.specs.LengthClaims.{FirstBytesDecide}
@@ -27,12 +24,11 @@ use Rattle.accepted.proofs.AcceptedSound.{accepted-is-sound, refused-is-numbere
 use Rattle.accepted.proofs.LengthClaims.{firstBytesDecide}
 use Rattle.faults.specs.FaultClaims.{RefusedWith, FaultInside}
 use Rattle.faults.proofs.FaultClaims.{faultInside}
-use Rattle.plans.specs.Answer.{numberOf as answerNumber}
-use Rattle.step.specs.Pick.{hostOf, slotOf, pickOf}
-use Rattle.step.specs.SoundKept.{SoundKept}
-use Rattle.step.proofs.SoundKept.{sound-kept}
-use Rattle.run.specs.Run.{Ran, ran, numbers, ranFrom, answered, runIn, runOf}
-use Rattle.registers.specs.Types.{Item, Tuple, Node, Net, Answer, Fault, Opened, Verdict}
+use Rattle.step.specs.Pick.{hostOf, slotOf}
+use Rattle.run.specs.Run.{Ran, ran, numbers, ranFrom, runIn, runOf}
+use Rattle.run.proofs.SoundRuns.{ran-sound}
+use Rattle.registers.specs.Types.{Item, Tuple, Node, Net, Fault, Opened, Verdict}
+use Rattle.registers.proofs.Longest.{digits-below, fewer-below, answers-small, take-small}
 use Rattle.registers.specs.Lines.{fewer, itemWord, tuplesBelow, tupleCount}
 use Rattle.tenant.proofs.OpenedShaped.{opened-shaped}
 use Rattle.listing.proofs.Agreeing.{Fine, upward, downward, located, Short}
@@ -40,17 +36,6 @@ use Rattle.listing.proofs.Wanted.{TupleHas, NodeHas, NetHas, PickHas, O
 use Rattle.listing.proofs.Readings.{TupleOk, NodeOk, NetOk, ran-after, opened-readings}
 
 -- ---- a number below a power of ten
-digits-below : (k j n : ℕ) → n < 10 ^ suc j → length (digits k n) ≤ suc j
-unfolding digits
-digits-below zero j n h = omega arith
-digits-below (suc k) zero n h =
-    chosen-lt (λ (t : List ℕ). length t ≤ 1) n 10 _ _ (λ _. omega arith) (λ l. absurd (omega arith))
-digits-below (suc k) (suc j) n h =
-    let power : 10 ^ suc (suc j) ≡ 10 ^ suc j * 10 = pow-suc 10 (suc j) in
-    let inner = digits-below k j (n / 10) (omega (arith, power)) in
-    let whole = length-append (digits k (n / 10)) (digit (n % 10) ∷ []) in
-    chosen (λ (t : List ℕ). length t ≤ suc (suc j)) (ltb n 10) _ _ (λ _. omega arith) (λ _. omega (arith, inner, whole))
-
 short : (n : ℕ) → n < 10000000000 → Short n
 unfolding decimal
 short n h = record { few = digits-below 20 9 n (omega arith) }
@@ -72,10 +57,6 @@ module _ (image : List ℕ) (f : Fault) (e : openedOf image .answer ≡ Verdict.
       short _ (omega (arith, inside, length-take 14750 image))
 
 -- ---- counts
-pub fewer-size : (count size : ℕ) → fewer count size ≤ size
-unfolding fewer
-fewer-size count size = chosen-lt (λ (n : ℕ). n ≤ size) count size _ _ (λ l. omega arith) (λ l. omega arith)
-
 fewer-count : (count size : ℕ) → fewer count size ≤ count
 unfolding fewer
 fewer-count count size = chosen-lt (λ (n : ℕ). n ≤ count) count size _ _ (λ l. omega arith) (λ l. omega arith)
@@ -89,9 +70,9 @@ busy-few x =
 total-few : (s : Net) → tupleCount s ≤ 256
 unfolding tupleCount tuplesBelow
 total-few s =
-    let some = fewer-size (s .addresses) 16 in
+    let some = fewer-below (s .addresses) 16 in
     let each = fold-keeps (λ i (n : ℕ). n ≤ i * 16) (λ a count. count + fewer (nodeAt s (addressOf a) .stored) 16) 0
-    (fewer (s .addresses) 16) (omega arith) (λ i n _ h. let more = fewer-size (nodeAt s (addressOf i) .stored) 16 in omega (arith, more, h)) in
+    (fewer (s .addresses) 16) (omega arith) (λ i n _ h. let more = fewer-below (nodeAt s (addressOf i) .stored) 16 in omega (arith, more, h)) in
     omega (arith, some, each)
 
 -- ---- a sound net whose readings have 32 bits
@@ -106,7 +87,7 @@ unfolding fieldAt
 tuple-short n t m h g = record {
   mark = short _ (omega (arith, h .mark-ok));
   fields = λ i l.
-      let size = fewer-size (t .count) 4 in
+      let size = fewer-below (t .count) 4 in
       let count = fewer-count (t .count) 4 in
       item-short n _ m (h .fields-ok .holds i (omega (arith, size)) .used (omega (arith, count))) (g .each i);
 }
@@ -118,7 +99,7 @@ node-short a n k x l m h g = record {
   stored = short _ (omega (arith, h .room));
   busy = short _ (omega (arith, busy-few x));
   tuples = λ i j.
-      let size = fewer-size (x .stored) 16 in
+      let size = fewer-below (x .stored) 16 in
       let count = fewer-count (x .stored) 16 in
       tuple-short n _ m (h .tuples-ok .holds i (omega (arith, size)) .used (omega (arith, count))) (g .tuples i);
 }
@@ -127,38 +108,13 @@ net-short : (s : Net) → NetSound s → NetOk s → NetHas Short s
 net-short s h g = record {
   total = short _ (omega (arith, total-few s));
   nodes = λ a l.
-      let size = fewer-size (s .addresses) 16 in
+      let size = fewer-below (s .addresses) 16 in
       let count = fewer-count (s .addresses) 16 in
       node-short a _ _ _ (omega (arith, size)) (h .addresses-most) (node-at s h (addressOf a) (omega (arith, count)))
       (g .nodes (addressOf a));
 }
 
 -- ---- picks and their answers
-answer-small : (x : Answer) → answerNumber x < 100
-unfolding answerNumber
-answer-small Answer.Performed = omega arith
-answer-small Answer.Ended = omega arith
-answer-small Answer.NoTuple = omega arith
-answer-small Answer.NoRoom = omega arith
-answer-small Answer.NoRight = omega arith
-answer-small Answer.NotWithin = omega arith
-answer-small Answer.NotSet = omega arith
-answer-small Answer.FreeSlot = omega arith
-answer-small Answer.NotInUse = omega arith
-answer-small Answer.Malformed = omega arith
-answer-small Answer.Unsound = omega arith
-
-answers-small : (xs : List Answer) (i : ℕ) → getD (map answerNumber xs) i 0 < 100
-answers-small [] i = omega arith
-answers-small (x ∷ xs) zero = answer-small x
-answers-small (x ∷ xs) (suc i) = answers-small xs i
-
-take-small : (picks : List ℕ) (n : ℕ) → ((i : ℕ) → getD picks i 0 < 256) → (i : ℕ) → getD (take n picks) i 0 < 256
-take-small picks zero h i = omega arith
-take-small [] (suc n) h i = omega arith
-take-small (b ∷ bs) (suc n) h zero = h 0
-take-small (b ∷ bs) (suc n) h (suc i) = take-small bs n (λ j. h (suc j)) i
-
 pick-short : (i b x : ℕ) → i < 100000 → b < 256 → x < 100 → PickHas Short i b x
 unfolding hostOf slotOf
 pick-short i b x h g l = record {
@@ -167,14 +123,6 @@ pick-short i b x h g l = record {
   slot = short (b / 4 % 4) (omega arith);
   answer = short x (omega arith);
 }
-
--- ---- the net after picks is sound
-ends-sound : (s : Net) (picks : List ℕ) → Shaped s → soundOf s ≡ true → NetSound (ranFrom s picks .net)
-unfolding ranFrom answered SoundKept
-ends-sound s [] shaped sound = sound-apart s shaped sound
-ends-sound s (b ∷ bs) shaped sound =
-    let kept = sound-kept s b shaped sound in
-    ends-sound (pickOf s b .net) bs (kept .1) (kept .0)
 
 -- ---- the whole
 module _ (image picks : List ℕ) (bytes : (i : ℕ) → getD picks i 0 < 256) where
@@ -191,7 +139,7 @@ module _ (image picks : List ℕ) (bytes : (i : ℕ) → getD picks i 0 < 256) w
       let r : Ran = ranFrom s (take 65536 picks) in
       of-run (short _ (omega (arith, begins .addresses-most))) (short _ (omega (arith, begins .length-most)))
       (λ i l. pick-short (i + 1) _ _ (omega (arith, few)) (take-small picks 65536 bytes i) (answers-small (r .answers) i))
-      (net-short (r .net) (ends-sound s (take 65536 picks) shaped sound) (ran-after s (take 65536 picks) (opened-readings image)))
+      (net-short (r .net) (ran-sound s (take 65536 picks) shaped sound) (ran-after s (take 65536 picks) (opened-readings image)))
 
   pub outcome-short : OutcomeHas Short (openedOf image .net) (take 65536 picks) (runOf image (take 65536 picks))
   unfolding runOf runIn

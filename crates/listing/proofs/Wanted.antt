@@ -14,9 +14,10 @@ use Rattle.lexemes.specs.Lexemes.{isDigit}
 use Rattle.step.specs.Pick.{hostOf, slotOf}
 use Rattle.run.specs.Run.{Ran, Outcome, refused, refused-text, ran, numbers}
 use Rattle.registers.specs.Types.{Locality, Item, Tuple, Node, Net, Fault}
-use Rattle.registers.specs.Words.{name, number}
-use Rattle.registers.specs.Shown.{Shown}
-use Rattle.registers.specs.Lines.{fewer, refusalLine, refusedLine, netLine, pickLine, madeLine, nodeLine, itemWord, fieldWords, markWords}
+use Rattle.registers.specs.Words.{number}
+use Rattle.registers.specs.declared.shown.Parts.{Parts}
+use Rattle.registers.specs.Shown.{unnamed}
+use Rattle.registers.specs.Lines.{fewer, refusalLine, placeWords, refusedLine, netLine, pickLine, madeLine, nameWords, nodeLine, itemWord, fieldWords, markWords}
 use Rattle.registers.specs.Lines.{tupleLine, tupleLines, nodeLines, netLines, tupleCount, totalLine, closingLines, afterLines}
 use Rattle.registers.specs.Lines.{pickLines, registerLines}
 use Rattle.listing.proofs.Agreeing.{Each, nil, cons, each-both, each-joined, plain, Fine, label, value, FineLines}
@@ -52,34 +53,34 @@ pub data OutcomeHas (Q : ℕ → Type 0) (s : Net) (picks : List ℕ) : Outcome 
       → OutcomeHas Q s picks (ran r)
 
 -- ---- and of its lines
-module _ {Q : ℕ → Type 0} (shown : Shown) where
-  refused-fine : (f : Fault) → Q (f .number) → Q (f .place) → Each (Fine Q) (refusedLine shown f)
-  unfolding refusedLine bytes plain both isDigit
+module _ {Q : ℕ → Type 0} (parts : Parts) where
+  refused-fine : (f : Fault) → Q (f .number) → Q (f .place) → Each (Fine Q) (refusedLine parts f)
+  unfolding refusedLine placeWords bytes plain both isDigit
   refused-fine f h g =
       cons (label refl) (cons (value h)
-      (chosen (Each (Fine Q)) (shown .place) _ _ (λ _. cons (label refl) (cons (value g) nil)) (λ _. nil)))
+      (chosen (Each (Fine Q)) (parts .place) _ _ (λ _. cons (label refl) (cons (value g) nil)) (λ _. nil)))
 
-  mark-fine : (t : Tuple) → Q (t .mark .0) → Each (Fine Q) (markWords shown t)
+  mark-fine : (t : Tuple) → Q (t .mark .0) → Each (Fine Q) (markWords parts t)
   unfolding markWords bytes plain both isDigit
-  mark-fine t h = chosen (Each (Fine Q)) (shown .mark) _ _ (λ _. cons (label refl) (cons (value h) nil)) (λ _. nil)
+  mark-fine t h = chosen (Each (Fine Q)) (parts .mark) _ _ (λ _. cons (label refl) (cons (value h) nil)) (λ _. nil)
 
-  tuple-fine : (a : Locality) (t : Tuple) → Q (a .0) → TupleHas Q t → Each (Fine Q) (tupleLine shown a t)
+  tuple-fine : (a : Locality) (t : Tuple) → Q (a .0) → TupleHas Q t → Each (Fine Q) (tupleLine parts a t)
   unfolding tupleLine fieldWords bytes plain both isDigit
   tuple-fine a t h g =
       cons (label refl) (cons (value h)
       (each-both (each-joined (fewer (t .count) 4) _ (λ i l. cons (g .fields i l) nil)) (mark-fine t (g .mark))))
 
-  node-fine : (a : ℕ) (x : Node) → NodeHas Q a x → FineLines Q (nodeLines shown (addressOf a) x)
-  unfolding nodeLines nodeLine tupleLines bytes plain both isDigit
+  node-fine : (a : ℕ) (x : Node) → NodeHas Q a x → FineLines Q (nodeLines (unnamed parts) (addressOf a) x)
+  unfolding nodeLines nodeLine nameWords unnamed tupleLines bytes plain both isDigit
   node-fine a x h =
       cons (cons (label refl) (cons (value (h .at)) (cons (value (h .stored)) (cons (value (h .busy)) nil))))
       (each-joined (fewer (x .stored) 16) _ (λ i l. cons (tuple-fine (addressOf a) _ (h .at) (h .tuples i l)) nil))
 
-  after-fine : (s : Net) → NetHas Q s → FineLines Q (afterLines shown s)
-  unfolding afterLines netLines closingLines totalLine bytes plain both isDigit
+  after-fine : (s : Net) → NetHas Q s → FineLines Q (afterLines (unnamed parts) s)
+  unfolding afterLines unnamed netLines closingLines totalLine bytes plain both isDigit
   after-fine s h =
       each-both (each-joined (fewer (s .addresses) 16) _ (λ a l. node-fine a _ (h .nodes a l)))
-      (chosen (FineLines Q) (shown .total) _ _ (λ _. cons (cons (label refl) (cons (value (h .total)) nil)) nil) (λ _. nil))
+      (chosen (FineLines Q) (parts .total) _ _ (λ _. cons (cons (label refl) (cons (value (h .total)) nil)) nil) (λ _. nil))
 
   made-fine : (i b x : ℕ) → PickHas Q i b x → Each (Fine Q) (madeLine i b x)
   unfolding madeLine pickLine bytes plain both isDigit
@@ -88,8 +89,8 @@ module _ {Q : ℕ → Type 0} (shown : Shown) where
       (cons (value (h .at)) (cons (value (h .host)) (cons (value (h .slot)) (cons (value (h .answer)) nil))))
 
   pub lines-fine :
-      (s : Net) (picks : List ℕ) {o : Outcome} → OutcomeHas Q s picks o → FineLines Q (registerLines shown s picks o)
-  unfolding registerLines refusalLine netLine pickLines bytes plain both isDigit
+      (s : Net) (picks : List ℕ) {o : Outcome} → OutcomeHas Q s picks o → FineLines Q (registerLines (unnamed parts) s picks o)
+  unfolding registerLines unnamed refusalLine netLine pickLines bytes plain both isDigit
   lines-fine s picks (of-refused {f} h g) = cons (refused-fine f h g) nil
   lines-fine s picks (of-text h) = cons (cons (label refl) (cons (value h) nil)) nil
   lines-fine s picks (of-run {r} h g each net) =

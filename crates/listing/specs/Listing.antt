@@ -13,21 +13,23 @@ use Rattle.image.specs.Image.{openedOf}
 use Rattle.lexemes.specs.Lexemes.{isDigit}
 use Rattle.run.specs.Run.{runOf}
 use Rattle.registers.specs.Words.{Word, name, number, reading, address}
-use Rattle.registers.specs.Shown.{Shown, current}
+use Rattle.registers.specs.declared.shown.Parts.{Parts}
+use Rattle.registers.specs.Shown.{unnamed, allParts}
 use Rattle.registers.specs.Lines.{registerLines}
 
 -- ---- what is wanted
 
 -- "old, from before the `total` line and the refusal's bit, are checked without both; those he calls new, with both"; and
 -- the mark of a tuple "for listings the caller calls new" (slip 8)
-unfoldable pub shownFor : Age → Shown
-shownFor Age.Old = record { total = false; place = false; mark = false; names = false }
-shownFor Age.New = current
+unfoldable pub partsFor : Age → Parts
+partsFor Age.Old = record { total = false; place = false; mark = false }
+partsFor Age.New = allParts
 
--- the lines of our register of an image and its picks, of which the first 65,536 count
+-- the lines of our register of an image and its picks, of which the first 65,536 count: without names, which the check
+-- does not know (slip 14)
 unfoldable pub wantedLines : List ℕ → List ℕ → Age → List (List Word)
 wantedLines image picks age =
-    registerLines (shownFor age) (openedOf image .net) (take 65536 picks) (runOf image (take 65536 picks))
+    registerLines (unnamed (partsFor age)) (openedOf image .net) (take 65536 picks) (runOf image (take 65536 picks))
 
 -- ---- the lines of a listing
 

@@ -5,7 +5,7 @@ use Prim.Native.Nat.{ℕ, _<_, _≤_}
 use mathlib.Core.Path.{_≡_, ap}
 use mathlib.Core.Logic.{_⊎_, inl, inr}
 use mathlib.Core.Bool.{true}
-use mathlib.Core.List.{List, [], _∷_}
+use mathlib.Core.List.{List}
 use native.Mathlib.Omega.{arith}
 use native.Mathlib.Decide.{decLe}
 use lib.ListN.{List·getD-eq-default}
@@ -28,10 +28,7 @@ use Rattle.written.proofs.FreshFits.{net-fit}
 use Rattle.written.proofs.FreshNet.{net-fits, net-starts}
 use Rattle.written.proofs.WrittenWhole.{NetOk}
 use Rattle.written.proofs.AcceptedWritten.{opened-ok}
-use Rattle.step.specs.Pick.{pickOf}
-use Rattle.step.specs.SoundKept.{SoundKept}
-use Rattle.step.proofs.SoundKept.{sound-kept}
-use Rattle.run.specs.Run.{ranFrom, answered}
+use Rattle.run.proofs.SoundRuns.{ran-sound}
 use Rattle.marks.specs.Types.{Locality, Node, Net, Verdict}
 use Rattle.marks.specs.MarkClaims.{Given, by-image, by-text, Comes, by-picks}
 
@@ -106,12 +103,5 @@ own-marks s g a i h =
     λ j. record { 0 = e j }
 
 -- ---- after picks
-ran-ok : (s : Net) (picks : List ℕ) → Shaped s → soundOf s ≡ true → NetSound (ranFrom s picks .net)
-unfolding ranFrom answered SoundKept
-ran-ok s [] shaped sound = sound-apart s shaped sound
-ran-ok s (b ∷ bs) shaped sound =
-    let kept = sound-kept s b shaped sound in
-    ran-ok (pickOf s b .net) bs (kept .1) (kept .0)
-
 pub comes-ok : (s : Net) → Comes s → NetSound s
-comes-ok _ (by-picks {s} picks g) = let z = given-starts s g in ran-ok s picks (z .shaped) (z .sound)
+comes-ok _ (by-picks {s} picks g) = let z = given-starts s g in ran-sound s picks (z .shaped) (z .sound)

@@ -4,7 +4,7 @@
 use Prim.Native.Nat.{ℕ, _<_}
 use mathlib.Core.Path.{_≡_, refl, sym, ap, subst, _∙_}
 use mathlib.Core.Bool.{true, false}
-use mathlib.Core.List.{List, [], _∷_}
+use mathlib.Core.List.{List}
 use native.Mathlib.Omega.{arith}
 use Rattle.net.specs.Shape.{Shaped}
 use Rattle.net.proofs.Laws.{choose-true, both-i}
@@ -16,7 +16,8 @@ use Rattle.step.specs.Pick.{hostOf, unused, stepOf, pickOf}
 use Rattle.step.specs.declared.machine.Picked.{Picked}
 use Rattle.step.proofs.SoundKept.{step-sound-kept}
 use Rattle.run.specs.Types.{Opened}
-use Rattle.run.specs.Run.{answered, ranFrom}
+use Rattle.run.specs.Run.{ranFrom}
+use Rattle.run.proofs.SoundRuns.{ran-kept}
 use Rattle.run.proofs.CallLaws.{opened-sound, text-sound}
 use Rattle.tenant.proofs.Fence.{tested, never}
 use Rattle.tenant.proofs.OpenedShaped.{opened-shaped}
@@ -113,9 +114,7 @@ order s b c g a =
 
 -- ---- of nets that come from accepted images and texts
 run-good : (s : Net) (picks : List ℕ) → Good s → Good (ranFrom s picks .net)
-unfolding ranFrom answered
-run-good s [] g = g
-run-good s (b ∷ bs) g = run-good (pickOf s b .net) bs (rw (picks-as s b g) (step-good s b g))
+run-good s picks g = let kept = ran-kept s picks (g .shaped) (g .sound) in record { shaped = kept .1; sound = kept .0 }
 
 image-good : (image : List ℕ) → openedOf image .answer ≡ Verdict.Accepted → Good (openedOf image .net)
 image-good image a = record { shaped = opened-shaped image; sound = opened-sound image (openedOf image) refl a }

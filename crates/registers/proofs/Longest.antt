@@ -2,6 +2,7 @@
 -- Assumes nothing.
 use Prim.Native.Nat.{ℕ, zero, suc, _+_, _*_, _/_, _%_, _^_, _<_, _≤_}
 use mathlib.Core.Path.{_≡_, ap, _∙_}
+use mathlib.Core.Bool.{Bool}
 use mathlib.Core.List.{List, [], _∷_, _++_, map}
 use native.Mathlib.Omega.{arith}
 use native.Mathlib.Nat.{pow-suc, suc-mul, mul-le-mul-right, le-trans}
@@ -19,12 +20,12 @@ use Rattle.step.specs.Pick.{hostOf, slotOf}
 use Rattle.run.specs.Run.{Ran, Outcome, refused, refused-text, ran, numbers}
 use Rattle.registers.specs.Types.{Locality, Item, Tuple, Node, Net, Answer, Fault}
 use Rattle.registers.specs.Words.{Word, name, number, wordText, spaced, lineText, printed}
-use Rattle.registers.specs.Shown.{current}
-use Rattle.registers.specs.Lines.{fewer, refusalLine, refusedLine, netLine, pickLine, madeLine, nodeLine}
+use Rattle.registers.specs.Shown.{Parts, Shown, unnamed, allParts, current}
+use Rattle.registers.specs.Lines.{fewer, refusalLine, placeWords, refusedLine, netLine, pickLine, madeLine, nameWords, nodeLine}
 use Rattle.registers.specs.Lines.{itemWord, fieldWords, markWords, tupleLine, tupleLines, nodeLines, netLines, pickLines, registerLines}
 use Rattle.registers.specs.Lines.{tupleCount, totalLine, closingLines, afterLines}
-use Rattle.registers.specs.Register.{registerIn, registerOf, registerTextOf}
-use Rattle.registers.specs.Longest.{longest, LongestRegister, LongestTextRegister}
+use Rattle.registers.specs.Register.{registerIn, registerAs, registerOf, registerTextAs, registerTextOf}
+use Rattle.registers.specs.Longest.{longest, LongestShowing, LongestRegister, LongestTextRegister}
 use Rattle.registers.proofs.WordLaws.{spaced-none, spaced-both, printed-none, printed-both}
 
 -- ---- numbers
@@ -37,7 +38,7 @@ digits-short (suc k) n =
     let whole = length-append (digits k (n / 10)) (digit (n % 10) ∷ []) in omega (arith, inner, whole))
 
 -- of a number below a power of ten
-digits-below : (k j n : ℕ) → n < 10 ^ suc j → length (digits k n) ≤ suc j
+pub digits-below : (k j n : ℕ) → n < 10 ^ suc j → length (digits k n) ≤ suc j
 unfolding digits
 digits-below zero j n h = omega arith
 digits-below (suc k) zero n h =
@@ -48,15 +49,15 @@ digits-below (suc k) (suc j) n h =
     let whole = length-append (digits k (n / 10)) (digit (n % 10) ∷ []) in
     chosen (λ (t : List ℕ). length t ≤ suc (suc j)) (ltb n 10) _ _ (λ _. omega arith) (λ _. omega (arith, inner, whole))
 
-decimal-short : (n : ℕ) → length (decimal n) ≤ 20
+pub decimal-short : (n : ℕ) → length (decimal n) ≤ 20
 unfolding decimal
 decimal-short n = digits-short 20 n
 
-decimal-below : (j n : ℕ) → n < 10 ^ suc j → length (decimal n) ≤ suc j
+pub decimal-below : (j n : ℕ) → n < 10 ^ suc j → length (decimal n) ≤ suc j
 unfolding decimal
 decimal-below j n h = digits-below 20 j n h
 
-fewer-below : (count size : ℕ) → fewer count size ≤ size
+pub fewer-below : (count size : ℕ) → fewer count size ≤ size
 unfolding fewer
 fewer-below count size = chosen-lt (λ (n : ℕ). n ≤ size) count size _ _ (λ l. omega arith) (λ l. omega arith)
 
@@ -76,6 +77,10 @@ word-more :
     → length (spaced (w ∷ ws)) ≤ suc m + rest
 unfolding spaced
 word-more w ws m rest h g = omega (arith, length-append (wordText w) (spaced ws))
+
+-- words that may be left out
+some-or-none : (t : Bool) (ws : List Word) (m : ℕ) → length (spaced ws) ≤ m → length (spaced (choose t ws [])) ≤ m
+some-or-none t ws m h = chosen (λ (vs : List Word). length (spaced vs) ≤ m) t ws [] (λ _. h) (λ _. omega (arith, no-words))
 
 number-more : (n : ℕ) (ws : List Word) (rest : ℕ) → length (spaced ws) ≤ rest → length (spaced (number n ∷ ws)) ≤ 21 + rest
 unfolding wordText
@@ -133,17 +138,28 @@ refused-short : (n : ℕ) → length (printed (refusalLine n ∷ [])) ≤ 29
 unfolding refusalLine bytes
 refused-short n = line-short _ _ 21 (number-more _ _ 0 no-words)
 
-refused-at-short : (f : Fault) → length (printed (refusedLine current f ∷ [])) ≤ 53
-unfolding refusedLine current choose bytes wordText
-refused-at-short f = line-short _ _ 45 (number-more _ _ 24 (word-more (name _) _ 2 21 (omega arith) (number-more _ _ 0 no-words)))
+place-short : (parts : Parts) (f : Fault) → length (spaced (placeWords parts f)) ≤ 24
+unfolding placeWords bytes wordText
+place-short parts f =
+    some-or-none (parts .place) _ 24 (word-more (name _) _ 2 21 (omega arith) (number-more _ _ 0 no-words))
+
+refused-at-short : (parts : Parts) (f : Fault) → length (printed (refusedLine parts f ∷ [])) ≤ 53
+unfolding refusedLine bytes
+refused-at-short parts f = line-short _ _ 45 (number-more _ _ 24 (place-short parts f))
 
 net-short : (n k : ℕ) → length (printed (netLine n k ∷ [])) ≤ 46
 unfolding netLine bytes
 net-short n k = line-short _ _ 42 (number-more _ _ 21 (number-more _ _ 0 no-words))
 
-node-short : (a : Locality) (n busy : ℕ) → length (printed (nodeLine current a n busy ∷ [])) ≤ 68
+name-short : (station : List ℕ) → length station ≤ 15 → length (spaced (nameWords station)) ≤ 16
+unfolding nameWords wordText
+name-short [] h = omega (arith, no-words)
+name-short (b ∷ text) h = word-more (name (b ∷ text)) [] 15 0 h no-words
+
+node-short : (station : List ℕ) (a : Locality) (n busy : ℕ) → length station ≤ 15 → length (printed (nodeLine station a n busy ∷ [])) ≤ 84
 unfolding nodeLine bytes
-node-short a n busy = line-short _ _ 63 (number-more _ _ 42 (number-more _ _ 21 (number-more _ _ 0 no-words)))
+node-short station a n busy h =
+    line-short _ _ 79 (number-more _ _ 58 (number-more _ _ 37 (number-more _ _ 16 (name-short station h))))
 
 made-short : (i b x : ℕ) → i < 100000 → b < 256 → x < 100 → length (printed (madeLine i b x ∷ [])) ≤ 19
 unfolding madeLine pickLine hostOf slotOf bytes
@@ -158,42 +174,43 @@ unfolding fieldWords
 fields-short t =
     some-short spaced spaced-none spaced-both (t .count) 4 22 _ (λ i _. word-more _ _ 21 0 (item-short (fieldAt t i)) no-words)
 
-mark-short : (t : Tuple) → length (spaced (markWords current t)) ≤ 26
-unfolding markWords current choose bytes wordText
-mark-short t = word-more (name _) _ 4 21 (omega arith) (number-more _ _ 0 no-words)
+mark-short : (parts : Parts) (t : Tuple) → length (spaced (markWords parts t)) ≤ 26
+unfolding markWords bytes wordText
+mark-short parts t =
+    some-or-none (parts .mark) _ 26 (word-more (name _) _ 4 21 (omega arith) (number-more _ _ 0 no-words))
 
-tuple-short : (a : Locality) (t : Tuple) → length (printed (tupleLine current a t ∷ [])) ≤ 141
+tuple-short : (parts : Parts) (a : Locality) (t : Tuple) → length (printed (tupleLine parts a t ∷ [])) ≤ 141
 unfolding tupleLine bytes
-tuple-short a t =
+tuple-short parts a t =
     line-short _ _ 135
-    (number-more _ _ 114 (two-short spaced spaced-none spaced-both _ _ _ _ (fields-short t) (mark-short t)))
+    (number-more _ _ 114 (two-short spaced spaced-none spaced-both _ _ _ _ (fields-short t) (mark-short parts t)))
 
-tuples-short : (a : Locality) (x : Node) → length (printed (tupleLines current a x)) ≤ 2256
+tuples-short : (parts : Parts) (a : Locality) (x : Node) → length (printed (tupleLines parts a x)) ≤ 2256
 unfolding tupleLines
-tuples-short a x =
-    some-short printed printed-none printed-both (x .stored) 16 141 _ (λ i _. tuple-short a (tupleAt x i))
+tuples-short parts a x =
+    some-short printed printed-none printed-both (x .stored) 16 141 _ (λ i _. tuple-short parts a (tupleAt x i))
 
-node-lines-short : (a : Locality) (x : Node) → length (printed (nodeLines current a x)) ≤ 2324
-unfolding nodeLines
-node-lines-short a x = lines-short _ _ 68 2256 (node-short a _ _) (tuples-short a x)
+-- of names that are no longer than an entry's
+module _ (shown : Shown) (short : (l : Locality) → length (shown .names l) ≤ 15) where
+  node-lines-short : (a : Locality) (x : Node) → length (printed (nodeLines shown a x)) ≤ 2340
+  unfolding nodeLines
+  node-lines-short a x = lines-short _ _ 84 2256 (node-short (shown .names a) a _ _ (short a)) (tuples-short (shown .parts) a x)
 
-net-lines-short : (s : Net) → length (printed (netLines current s)) ≤ 37184
-unfolding netLines
-net-lines-short s =
-    some-short printed printed-none printed-both (s .addresses) 16 2324 _
-    (λ a _. node-lines-short (addressOf a) (nodeAt s (addressOf a)))
+  net-lines-short : (s : Net) → length (printed (netLines shown s)) ≤ 37440
+  unfolding netLines
+  net-lines-short s =
+      some-short printed printed-none printed-both (s .addresses) 16 2340 _
+      (λ a _. node-lines-short (addressOf a) (nodeAt s (addressOf a)))
 
 total-short : (n : ℕ) → length (printed (totalLine n ∷ [])) ≤ 27
 unfolding totalLine bytes
 total-short n = line-short _ _ 21 (number-more _ _ 0 no-words)
 
-closing-short : (s : Net) → length (printed (closingLines current s)) ≤ 27
-unfolding closingLines current choose
-closing-short s = total-short (tupleCount s)
-
-after-short : (s : Net) → length (printed (afterLines current s)) ≤ 37211
-unfolding afterLines
-after-short s = two-short printed printed-none printed-both _ _ 37184 27 (net-lines-short s) (closing-short s)
+closing-short : (parts : Parts) (s : Net) → length (printed (closingLines parts s)) ≤ 27
+unfolding closingLines
+closing-short parts s =
+    chosen (λ (ls : List (List Word)). length (printed ls) ≤ 27) (parts .total) _ _ (λ _. total-short (tupleCount s))
+    (λ _. omega (arith, ap length printed-none))
 
 -- ---- the picks
 number-small : (x : Answer) → numberOf x < 100
@@ -210,12 +227,12 @@ number-small Answer.NotInUse = omega arith
 number-small Answer.Malformed = omega arith
 number-small Answer.Unsound = omega arith
 
-answers-small : (xs : List Answer) (i : ℕ) → getD (map numberOf xs) i 0 < 100
+pub answers-small : (xs : List Answer) (i : ℕ) → getD (map numberOf xs) i 0 < 100
 answers-small [] i = omega arith
 answers-small (x ∷ xs) zero = number-small x
 answers-small (x ∷ xs) (suc i) = answers-small xs i
 
-take-small : (picks : List ℕ) (n : ℕ) → ((i : ℕ) → getD picks i 0 < 256) → (i : ℕ) → getD (take n picks) i 0 < 256
+pub take-small : (picks : List ℕ) (n : ℕ) → ((i : ℕ) → getD picks i 0 < 256) → (i : ℕ) → getD (take n picks) i 0 < 256
 take-small picks zero h i = omega arith
 take-small [] (suc n) h i = omega arith
 take-small (b ∷ bs) (suc n) h zero = h 0
@@ -230,28 +247,42 @@ picks-short picks r h g =
     (λ i l. made-short (i + 1) _ _ (omega arith) (g i) (answers-small (r .answers) i)) in
     le-trans each (mul-le-mul-right 19 h)
 
-register-short :
-    (s : Net) (picks : List ℕ) (x : Outcome) → length picks ≤ 65536 → ((i : ℕ) → getD picks i 0 < 256)
-    → length (registerIn s picks x) ≤ longest
-unfolding registerIn registerLines longest
-register-short s picks (refused f) h g = omega (arith, refused-at-short f)
-register-short s picks (refused-text n) h g = omega (arith, refused-short n)
-register-short s picks (ran r) h g =
-    let rest = two-short printed printed-none printed-both _ _ _ _ (picks-short picks r h g) (after-short (r .net)) in
-    let whole = lines-short _ _ 46 _ (net-short (s .addresses) (s .length)) rest in
-    omega (arith, whole)
+module _ (shown : Shown) (short : (l : Locality) → length (shown .names l) ≤ 15) where
+  after-short : (s : Net) → length (printed (afterLines shown s)) ≤ 37467
+  unfolding afterLines
+  after-short s =
+      two-short printed printed-none printed-both _ _ 37440 27 (net-lines-short shown short s) (closing-short (shown .parts) s)
 
--- of which the first 65,536 count
-first-short :
-    (s : Net) (picks : List ℕ) (x : Outcome) → ((i : ℕ) → getD picks i 0 < 256)
-    → length (registerIn s (take 65536 picks) x) ≤ longest
-first-short s picks x h =
-    register-short s (take 65536 picks) x (omega (arith, length-take 65536 picks)) (take-small picks 65536 h)
+  register-short :
+      (s : Net) (picks : List ℕ) (x : Outcome) → length picks ≤ 65536 → ((i : ℕ) → getD picks i 0 < 256)
+      → length (registerIn shown s picks x) ≤ longest
+  unfolding registerIn registerLines longest
+  register-short s picks (refused f) h g = omega (arith, refused-at-short (shown .parts) f)
+  register-short s picks (refused-text n) h g = omega (arith, refused-short n)
+  register-short s picks (ran r) h g =
+      let rest = two-short printed printed-none printed-both _ _ _ _ (picks-short picks r h g) (after-short (r .net)) in
+      let whole = lines-short _ _ 46 _ (net-short (s .addresses) (s .length)) rest in
+      omega (arith, whole)
+
+  -- of which the first 65,536 count
+  first-short :
+      (s : Net) (picks : List ℕ) (x : Outcome) → ((i : ℕ) → getD picks i 0 < 256)
+      → length (registerIn shown s (take 65536 picks) x) ≤ longest
+  first-short s picks x h =
+      register-short s (take 65536 picks) x (omega (arith, length-take 65536 picks)) (take-small picks 65536 h)
+
+no-names-short : (parts : Parts) (l : Locality) → length (unnamed parts .names l) ≤ 15
+unfolding unnamed
+no-names-short parts l = omega arith
+
+pub longestShowing : LongestShowing
+unfolding LongestShowing registerAs
+longestShowing parts image picks h = first-short (unnamed parts) (no-names-short parts) _ picks _ h
 
 pub longestRegister : LongestRegister
-unfolding LongestRegister registerOf
-longestRegister image picks h = first-short _ picks _ h
+unfolding LongestRegister LongestShowing registerOf current
+longestRegister image picks h = longestShowing allParts image picks h
 
 pub longestTextRegister : LongestTextRegister
-unfolding LongestTextRegister registerTextOf
-longestTextRegister text picks h = first-short _ picks _ h
+unfolding LongestTextRegister registerTextOf registerTextAs current
+longestTextRegister text picks h = first-short (unnamed allParts) (no-names-short allParts) _ picks _ h

@@ -12,11 +12,11 @@ use lib.Dec.{leb}
 use borrow.Author.Tests.{lt-leb}
 use Rattle.net.specs.Choice.{choose}
 use Rattle.net.specs.Records.{processCount, nodeAt, addressOf}
-use Rattle.net.proofs.Laws.{choose-false}
+use Rattle.net.proofs.Laws.{choose-true, choose-false}
 use Rattle.net.proofs.FoldLaws.{fold-none, fold-more}
 use Rattle.text.specs.Buffer.{over}
 use Rattle.text.specs.Writing.{Wrote}
-use Rattle.text.proofs.WritingLaws.{wrote-length, joined-same}
+use Rattle.text.proofs.WritingLaws.{wrote-nothing, wrote-length, joined-same}
 use Rattle.image.specs.Image.{openedOf}
 use Rattle.notation.specs.Text.{readOf}
 use Rattle.plans.specs.Answer.{numberOf}
@@ -26,11 +26,11 @@ use Rattle.run.specs.Making.{Made}
 use Rattle.run.proofs.CallLaws.{ran-is, refused-is, text-ran-is, text-refused-is, answers-length}
 use Rattle.registers.specs.Types.{Locality, Node, Net, Fault, Opened, Verdict, TextOpened, TextVerdict}
 use Rattle.registers.specs.Words.{Word, printed}
-use Rattle.registers.specs.Shown.{current}
+use Rattle.registers.specs.Shown.{Parts, Shown, unnamed, allParts, current}
 use Rattle.registers.specs.Lines.{fewer, refusalLine, refusedLine, netLine, pickLine, madeLine, nodeLine}
 use Rattle.registers.specs.Lines.{tupleLines, nodeLines, netLines, pickLines, registerLines}
 use Rattle.registers.specs.Lines.{tuplesBelow, tupleCount, totalLine, closingLines, afterLines}
-use Rattle.registers.specs.Register.{registerIn, registerOf, registerTextOf}
+use Rattle.registers.specs.Register.{registerIn, registerAs, registerOf, registerTextAs, registerTextOf}
 use Rattle.registers.specs.Calls.{Registered, writtenIn, registeredOf, registeredNumber, roomNumber}
 use Rattle.registers.proofs.WordLaws.{printed-none, printed-both, parts-then, lines-then}
 
@@ -42,12 +42,12 @@ unfolding madeLine
 made-line xs at i b x a k ys r d e h = rw (← d, ← e) h
 
 pub node-lines :
-    (xs : List ℕ) (at : ℕ) (a : Locality) (x : Node) (busy : ℕ) (ys zs : List ℕ) (r q : ℕ) → busy ≡ processCount x
-    → Wrote xs at (printed (nodeLine current a (x .stored) busy ∷ [])) ys r → Wrote ys r (printed (tupleLines current a x)) zs q
-    → Wrote xs at (printed (nodeLines current a x)) zs q
-unfolding nodeLines
-node-lines xs at a x busy ys zs r q e h k =
-    lines-then xs at _ _ _ _ _ _ (subst (λ (n : ℕ). Wrote xs at (printed (nodeLine current a (x .stored) n ∷ [])) ys r) e h) k
+    (parts : Parts) (xs : List ℕ) (at : ℕ) (a : Locality) (x : Node) (busy : ℕ) (ys zs : List ℕ) (r q : ℕ) → busy ≡ processCount x
+    → Wrote xs at (printed (nodeLine [] a (x .stored) busy ∷ [])) ys r → Wrote ys r (printed (tupleLines parts a x)) zs q
+    → Wrote xs at (printed (nodeLines (unnamed parts) a x)) zs q
+unfolding nodeLines unnamed
+node-lines parts xs at a x busy ys zs r q e h k =
+    lines-then xs at _ _ _ _ _ _ (subst (λ (n : ℕ). Wrote xs at (printed (nodeLine [] a (x .stored) n ∷ [])) ys r) e h) k
 
 -- ---- the total
 module _ (s : Net) where
@@ -66,17 +66,26 @@ module _ (s : Net) where
   unfolding tupleCount
   tuples-all i n k e l m f = let same : i ≡ fewer (s .addresses) 16 = omega arith in e ∙ ap (tuplesBelow s) same
 
-pub closing-line :
+pub counted-line :
     (xs : List ℕ) (at n : ℕ) (s : Net) (ys : List ℕ) (r : ℕ) → n ≡ tupleCount s → Wrote xs at (printed (totalLine n ∷ [])) ys r
-    → Wrote xs at (printed (closingLines current s)) ys r
-unfolding closingLines current choose
-closing-line xs at n s ys r e h = rw (← e) h
+    → Wrote xs at (printed (totalLine (tupleCount s) ∷ [])) ys r
+counted-line xs at n s ys r e h = subst (λ (m : ℕ). Wrote xs at (printed (totalLine m ∷ [])) ys r) e h
+
+-- ---- what may be left out
+module _ {A : Type 0} (g : List A → List ℕ) (none : g [] ≡ []) (xs : List ℕ) (at : ℕ) (t : Bool) (part : List A) where
+  pub part-shown : (ys : List ℕ) (r : ℕ) → t ≡ true → Wrote xs at (g part) ys r → Wrote xs at (g (choose t part [])) ys r
+  part-shown ys r e h = subst (λ (u : List A). Wrote xs at (g u) ys r) (sym (choose-true t part [] e)) h
+
+  pub part-left : t ≡ false → Wrote xs at (g (choose t part [])) xs at
+  part-left e =
+      subst (λ (u : List A). Wrote xs at (g u) xs at) (sym (choose-false t part [] e))
+      (subst (λ (u : List ℕ). Wrote xs at u xs at) (sym none) (wrote-nothing xs at))
 
 pub after-lines :
-    (xs : List ℕ) (at : ℕ) (s : Net) (ys zs : List ℕ) (r q : ℕ) → Wrote xs at (printed (netLines current s)) ys r
-    → Wrote ys r (printed (closingLines current s)) zs q → Wrote xs at (printed (afterLines current s)) zs q
-unfolding afterLines
-after-lines xs at s ys zs r q h k = parts-then printed printed-none printed-both _ _ _ _ _ _ _ _ h k
+    (parts : Parts) (xs : List ℕ) (at : ℕ) (s : Net) (ys zs : List ℕ) (r q : ℕ) → Wrote xs at (printed (netLines (unnamed parts) s)) ys r
+    → Wrote ys r (printed (closingLines parts s)) zs q → Wrote xs at (printed (afterLines (unnamed parts) s)) zs q
+unfolding afterLines unnamed
+after-lines parts xs at s ys zs r q h k = parts-then printed printed-none printed-both _ _ _ _ _ _ _ _ h k
 
 -- ---- a register
 chosen-number : (b : Bool) (n : ℕ) → registeredNumber (choose b (Registered.Written n) Registered.NoRoom) ≡ choose b 0 35
@@ -119,7 +128,7 @@ unfolding over
 over-at xs text i h g =
     ap (λ (ys : List ℕ). getD ys i 0) (sets-eq text xs 0 (omega arith)) ∙ List·getD-append text _ 0 i g
 
-module _ (s : Net) (picks xs ys : List ℕ) (last : Net) (m : Made s picks xs ys last) (room : length picks ≤ length xs) where
+module _ (parts : Parts) (s : Net) (picks xs ys : List ℕ) (last : Net) (m : Made s picks xs ys last) (room : length picks ≤ length xs) where
   numbers-length : length (numbers (ranFrom s picks)) ≡ length picks
   unfolding numbers
   numbers-length = length-map (ranFrom s picks .answers) numberOf ∙ answers-length s picks
@@ -136,52 +145,63 @@ module _ (s : Net) (picks xs ys : List ℕ) (last : Net) (m : Made s picks xs ys
       (out₀ out₁ out₂ out₃ : List ℕ) (p q r : ℕ)
       → Wrote out₀ 0 (printed (netLine (s .addresses) (s .length) ∷ [])) out₁ p
       → Wrote out₁ p (printed (pickLines picks ys)) out₂ q
-      → Wrote out₂ q (printed (afterLines current last)) out₃ r
-      → Wrote out₀ 0 (registerIn s picks (ran (ranFrom s picks))) out₃ r
+      → Wrote out₂ q (printed (afterLines (unnamed parts) last)) out₃ r
+      → Wrote out₀ 0 (registerIn (unnamed parts) s picks (ran (ranFrom s picks))) out₃ r
   unfolding registerIn registerLines
   register-run out₀ out₁ out₂ out₃ p q r a b c =
       lines-then _ _ _ _ _ _ _ _ a
       (parts-then printed printed-none printed-both _ _ _ _ _ _ _ _
       (subst (λ (t : List (List Word)). Wrote out₁ p (printed t) out₂ q) lines-same b)
-      (subst (λ (z : Net). Wrote out₂ q (printed (afterLines current z)) out₃ r) (m .net-is) c))
+      (subst (λ (z : Net). Wrote out₂ q (printed (afterLines (unnamed parts) z)) out₃ r) (m .net-is) c))
 
 -- of the net and the outcome that the image or the text has
 register-as :
-    (picks xs ys : List ℕ) (r : ℕ) (s t : Net) (x y : Outcome) → s ≡ t → x ≡ y → Wrote xs 0 (registerIn s picks x) ys r
-    → Wrote xs 0 (registerIn t picks y) ys r
-register-as picks xs ys r s t x y d e w = rw (← d, ← e) w
+    (shown : Shown) (picks xs ys : List ℕ) (r : ℕ) (s t : Net) (x y : Outcome) → s ≡ t → x ≡ y → Wrote xs 0 (registerIn shown s picks x) ys r
+    → Wrote xs 0 (registerIn shown t picks y) ys r
+register-as shown picks xs ys r s t x y d e w = rw (← d, ← e) w
 
-module _ (image picks : List ℕ) (o : Opened) (read : o ≡ openedOf image) (xs ys : List ℕ) (r : ℕ) where
+module _ (parts : Parts) (image picks : List ℕ) (o : Opened) (read : o ≡ openedOf image) (xs ys : List ℕ) (r : ℕ) where
   pub register-accepted :
       o .answer ≡ Verdict.Accepted
-      → Wrote xs 0 (registerIn (o .net) (take 65536 picks) (ran (ranFrom (o .net) (take 65536 picks)))) ys r
-      → Wrote xs 0 (registerOf image picks) ys r
-  unfolding registerOf
+      → Wrote xs 0 (registerIn (unnamed parts) (o .net) (take 65536 picks) (ran (ranFrom (o .net) (take 65536 picks)))) ys r
+      → Wrote xs 0 (registerAs (unnamed parts) image picks) ys r
+  unfolding registerAs
   register-accepted a w =
-      register-as _ xs ys r _ _ _ _ (ap (λ (z : Opened). z .net) read) (ran-is image o read (take 65536 picks) a) w
+      register-as _ _ xs ys r _ _ _ _ (ap (λ (z : Opened). z .net) read) (ran-is image o read (take 65536 picks) a) w
 
   pub register-refused :
-      (f : Fault) → o .answer ≡ Verdict.Refused f → Wrote xs 0 (printed (refusedLine current f ∷ [])) ys r
-      → Wrote xs 0 (registerOf image picks) ys r
-  unfolding registerOf registerIn registerLines
+      (f : Fault) → o .answer ≡ Verdict.Refused f → Wrote xs 0 (printed (refusedLine parts f ∷ [])) ys r
+      → Wrote xs 0 (registerAs (unnamed parts) image picks) ys r
+  unfolding registerAs registerIn registerLines unnamed
   register-refused f a w =
-      register-as _ xs ys r _ _ _ _ (ap (λ (z : Opened). z .net) read) (refused-is image o read (take 65536 picks) f a) w
+      register-as _ _ xs ys r _ _ _ _ (ap (λ (z : Opened). z .net) read) (refused-is image o read (take 65536 picks) f a) w
 
-module _ (text picks : List ℕ) (o : TextOpened) (read : o ≡ readOf text) (xs ys : List ℕ) (r : ℕ) where
+module _ (parts : Parts) (text picks : List ℕ) (o : TextOpened) (read : o ≡ readOf text) (xs ys : List ℕ) (r : ℕ) where
   pub text-accepted :
       o .answer ≡ TextVerdict.Accepted
-      → Wrote xs 0 (registerIn (o .net) (take 65536 picks) (ran (ranFrom (o .net) (take 65536 picks)))) ys r
-      → Wrote xs 0 (registerTextOf text picks) ys r
-  unfolding registerTextOf
+      → Wrote xs 0 (registerIn (unnamed parts) (o .net) (take 65536 picks) (ran (ranFrom (o .net) (take 65536 picks)))) ys r
+      → Wrote xs 0 (registerTextAs (unnamed parts) text picks) ys r
+  unfolding registerTextAs
   text-accepted a w =
-      register-as _ xs ys r _ _ _ _ (ap (λ (z : TextOpened). z .net) read) (text-ran-is text o read (take 65536 picks) a) w
+      register-as _ _ xs ys r _ _ _ _ (ap (λ (z : TextOpened). z .net) read) (text-ran-is text o read (take 65536 picks) a) w
 
   pub text-refused :
       (n : ℕ) → o .answer ≡ TextVerdict.Refused n → Wrote xs 0 (printed (refusalLine n ∷ [])) ys r
-      → Wrote xs 0 (registerTextOf text picks) ys r
-  unfolding registerTextOf registerIn registerLines
+      → Wrote xs 0 (registerTextAs (unnamed parts) text picks) ys r
+  unfolding registerTextAs registerIn registerLines
   text-refused n a w =
-      register-as _ xs ys r _ _ _ _ (ap (λ (z : TextOpened). z .net) read) (text-refused-is text o read (take 65536 picks) n a) w
+      register-as _ _ xs ys r _ _ _ _ (ap (λ (z : TextOpened). z .net) read) (text-refused-is text o read (take 65536 picks) n a) w
+
+-- ---- all that there is to show
+module _ (parts : Parts) (all : parts ≡ allParts) (source picks xs ys : List ℕ) (r : ℕ) where
+  pub current-as : Wrote xs 0 (registerAs (unnamed parts) source picks) ys r → Wrote xs 0 (registerOf source picks) ys r
+  unfolding registerOf current
+  current-as w = subst (λ (p : Parts). Wrote xs 0 (registerAs (unnamed p) source picks) ys r) all w
+
+  pub current-text-as :
+      Wrote xs 0 (registerTextAs (unnamed parts) source picks) ys r → Wrote xs 0 (registerTextOf source picks) ys r
+  unfolding registerTextOf current
+  current-text-as w = subst (λ (p : Parts). Wrote xs 0 (registerTextAs (unnamed p) source picks) ys r) all w
 
 -- ---- the picks that count
 pub first-all : (picks : List ℕ) → length picks < 65536 → take (length picks) picks ≡ take 65536 picks
@@ -195,7 +215,8 @@ module _ (picks : List ℕ) (n : ℕ) where
   first-few h g = omega (arith, first-count h)
 
   pub register-first :
-      (s : Net) (xs ys : List ℕ) (r : ℕ) → take n picks ≡ take 65536 picks
-      → Wrote xs 0 (registerIn s (take n picks) (ran (ranFrom s (take n picks)))) ys r
-      → Wrote xs 0 (registerIn s (take 65536 picks) (ran (ranFrom s (take 65536 picks)))) ys r
-  register-first s xs ys r e w = subst (λ (p : List ℕ). Wrote xs 0 (registerIn s p (ran (ranFrom s p))) ys r) e w
+      (shown : Shown) (s : Net) (xs ys : List ℕ) (r : ℕ) → take n picks ≡ take 65536 picks
+      → Wrote xs 0 (registerIn shown s (take n picks) (ran (ranFrom s (take n picks)))) ys r
+      → Wrote xs 0 (registerIn shown s (take 65536 picks) (ran (ranFrom s (take 65536 picks)))) ys r
+  register-first shown s xs ys r e w =
+      subst (λ (p : List ℕ). Wrote xs 0 (registerIn shown s p (ran (ranFrom s p))) ys r) e w

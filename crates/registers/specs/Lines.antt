@@ -11,7 +11,7 @@ use Rattle.step.specs.Pick.{hostOf, slotOf}
 use Rattle.run.specs.Run.{Outcome, refused, refused-text, ran, numbers}
 use Rattle.registers.specs.Types.{Locality, Item, Tuple, Node, Net, Fault}
 use Rattle.registers.specs.Words.{Word, name, number, reading, address}
-use Rattle.registers.specs.Shown.{Shown}
+use Rattle.registers.specs.Shown.{Parts, Shown}
 
 -- a count, or the size of its array where the count is larger, which no sound net's is
 unfoldable pub fewer : ℕ → ℕ → ℕ
@@ -21,9 +21,11 @@ fewer count size = choose (ltb count size) count size
 unfoldable pub refusalLine : ℕ → List Word
 refusalLine n = name (bytes "refused") ∷ number n ∷ []
 
-unfoldable pub refusedLine : Shown → Fault → List Word
-refusedLine shown f =
-    name (bytes "refused") ∷ number (f .number) ∷ choose (shown .place) (name (bytes "at") ∷ number (f .place) ∷ []) []
+unfoldable pub placeWords : Parts → Fault → List Word
+placeWords parts f = choose (parts .place) (name (bytes "at") ∷ number (f .place) ∷ []) []
+
+unfoldable pub refusedLine : Parts → Fault → List Word
+refusedLine parts f = name (bytes "refused") ∷ number (f .number) ∷ placeWords parts f
 
 -- net, the image's address count and code length
 unfoldable pub netLine : ℕ → ℕ → List Word
@@ -33,9 +35,14 @@ netLine n k = name (bytes "net") ∷ number n ∷ number k ∷ []
 unfoldable pub pickLine : ℕ → Locality → ℕ → ℕ → List Word
 pickLine i a k x = name (bytes "pick") ∷ number i ∷ number (a .0) ∷ number k ∷ number x ∷ []
 
--- node, address, tuple count and busy slots
-unfoldable pub nodeLine : Shown → Locality → ℕ → ℕ → List Word
-nodeLine shown a stored busy = name (bytes "node") ∷ number (a .0) ∷ number stored ∷ number busy ∷ []
+-- "`node` lines end with the name where there is one" (document 02, slip 14)
+unfoldable pub nameWords : List ℕ → List Word
+nameWords [] = []
+nameWords (b ∷ text) = name (b ∷ text) ∷ []
+
+-- node, address, tuple count and busy slots, and the station's name
+unfoldable pub nodeLine : List ℕ → Locality → ℕ → ℕ → List Word
+nodeLine station a stored busy = name (bytes "node") ∷ number (a .0) ∷ number stored ∷ number busy ∷ nameWords station
 
 -- a field of a tuple
 unfoldable pub itemWord : Item → Word
@@ -46,19 +53,19 @@ unfoldable pub fieldWords : Tuple → List Word
 fieldWords t = joined (fewer (t .count) 4) (λ i. itemWord (fieldAt t i) ∷ [])
 
 -- from, and the address of the node that put the tuple (document 02, slip 8)
-unfoldable pub markWords : Shown → Tuple → List Word
-markWords shown t = choose (shown .mark) (name (bytes "from") ∷ number (t .mark .0) ∷ []) []
+unfoldable pub markWords : Parts → Tuple → List Word
+markWords parts t = choose (parts .mark) (name (bytes "from") ∷ number (t .mark .0) ∷ []) []
 
 -- tuple, address, fields and mark
-unfoldable pub tupleLine : Shown → Locality → Tuple → List Word
-tupleLine shown a t = name (bytes "tuple") ∷ number (a .0) ∷ (fieldWords t ++ markWords shown t)
+unfoldable pub tupleLine : Parts → Locality → Tuple → List Word
+tupleLine parts a t = name (bytes "tuple") ∷ number (a .0) ∷ (fieldWords t ++ markWords parts t)
 
 -- a node's line, followed by its tuples, oldest first
-unfoldable pub tupleLines : Shown → Locality → Node → List (List Word)
-tupleLines shown a x = joined (fewer (x .stored) 16) (λ i. tupleLine shown a (tupleAt x i) ∷ [])
+unfoldable pub tupleLines : Parts → Locality → Node → List (List Word)
+tupleLines parts a x = joined (fewer (x .stored) 16) (λ i. tupleLine parts a (tupleAt x i) ∷ [])
 
 unfoldable pub nodeLines : Shown → Locality → Node → List (List Word)
-nodeLines shown a x = nodeLine shown a (x .stored) (processCount x) ∷ tupleLines shown a x
+nodeLines shown a x = nodeLine (shown .names a) a (x .stored) (processCount x) ∷ tupleLines (shown .parts) a x
 
 -- each address in use, ascending
 unfoldable pub netLines : Shown → Net → List (List Word)
@@ -75,12 +82,12 @@ tupleCount s = tuplesBelow s (fewer (s .addresses) 16)
 unfoldable pub totalLine : ℕ → List Word
 totalLine n = name (bytes "total") ∷ number n ∷ []
 
-unfoldable pub closingLines : Shown → Net → List (List Word)
-closingLines shown s = choose (shown .total) (totalLine (tupleCount s) ∷ []) []
+unfoldable pub closingLines : Parts → Net → List (List Word)
+closingLines parts s = choose (parts .total) (totalLine (tupleCount s) ∷ []) []
 
 -- what a register says of a net: its nodes, and its total
 unfoldable pub afterLines : Shown → Net → List (List Word)
-afterLines shown s = netLines shown s ++ closingLines shown s
+afterLines shown s = netLines shown s ++ closingLines (shown .parts) s
 
 -- each pick, numbered from 1, with its answer
 unfoldable pub madeLine : ℕ → ℕ → ℕ → List Word
@@ -91,7 +98,7 @@ pickLines picks answers = joined (length picks) (λ i. madeLine (i + 1) (getD pi
 
 -- of a net and its picks, by what their run comes to: the one line of a refusal, or the net, its picks and the net after
 unfoldable pub registerLines : Shown → Net → List ℕ → Outcome → List (List Word)
-registerLines shown s picks (refused f) = refusedLine shown f ∷ []
+registerLines shown s picks (refused f) = refusedLine (shown .parts) f ∷ []
 registerLines shown s picks (refused-text n) = refusalLine n ∷ []
 registerLines shown s picks (ran r) =
     netLine (s .addresses) (s .length) ∷ (pickLines picks (numbers r) ++ afterLines shown (r .net))

@@ -2,7 +2,8 @@
 use Prim.Native.Nat.{ℕ, _<_, _≤_}
 use mathlib.Core.List.{List}
 use lib.ListN.{length, getD}
-use Rattle.registers.specs.Register.{registerOf, registerTextOf}
+use Rattle.registers.specs.Shown.{Parts, unnamed}
+use Rattle.registers.specs.Register.{registerAs, registerOf, registerTextOf}
 
 -- so many bytes
 unfoldable pub longest : ℕ
@@ -17,3 +18,8 @@ LongestRegister =
 unfoldable pub LongestTextRegister : Type 0
 LongestTextRegister =
     (text picks : List ℕ) → ((i : ℕ) → getD picks i 0 < 256) → length (registerTextOf text picks) ≤ longest
+
+-- nor is one that shows less
+unfoldable pub LongestShowing : Type 0
+LongestShowing =
+    (parts : Parts) (image picks : List ℕ) → ((i : ℕ) → getD picks i 0 < 256) → length (registerAs (unnamed parts) image picks) ≤ longest

@@ -7,16 +7,23 @@ use Rattle.notation.specs.Text.{readOf}
 use Rattle.run.specs.Run.{Outcome, runOf, runTextOf}
 use Rattle.registers.specs.Types.{Net}
 use Rattle.registers.specs.Words.{printed}
-use Rattle.registers.specs.Shown.{current}
+use Rattle.registers.specs.Shown.{Shown, current}
 use Rattle.registers.specs.Lines.{registerLines}
 
 -- the bytes, by what the run comes to
-unfoldable pub registerIn : Net → List ℕ → Outcome → List ℕ
-registerIn s picks outcome = printed (registerLines current s picks outcome)
+unfoldable pub registerIn : Shown → Net → List ℕ → Outcome → List ℕ
+registerIn shown s picks outcome = printed (registerLines shown s picks outcome)
+
+-- with so much shown
+unfoldable pub registerAs : Shown → List ℕ → List ℕ → List ℕ
+registerAs shown image picks = registerIn shown (openedOf image .net) (take 65536 picks) (runOf image (take 65536 picks))
 
 unfoldable pub registerOf : List ℕ → List ℕ → List ℕ
-registerOf image picks = registerIn (openedOf image .net) (take 65536 picks) (runOf image (take 65536 picks))
+registerOf image picks = registerAs current image picks
 
 -- the same of a text (document 02, slip 3)
+unfoldable pub registerTextAs : Shown → List ℕ → List ℕ → List ℕ
+registerTextAs shown text picks = registerIn shown (readOf text .net) (take 65536 picks) (runTextOf text (take 65536 picks))
+
 unfoldable pub registerTextOf : List ℕ → List ℕ → List ℕ
-registerTextOf text picks = registerIn (readOf text .net) (take 65536 picks) (runTextOf text (take 65536 picks))
+registerTextOf text picks = registerTextAs current text picks

@@ -2,4 +2,5 @@
 mod lines;
 pub mod register;
 pub mod room;
+pub mod shown;
 mod words;

@@ -1,4 +1,5 @@
 // The lines of a register (document 01, "The register"): each is written word by word.
+use crate::shown::Parts;
 use crate::words::put_item;
 use crate::words::put_labelled;
 use crate::words::put_number;
@@ -18,8 +19,8 @@ ghost use mathlib.Core.Path.{_≡_};
 ghost use lib.ListN.{length};
 ghost use Rattle.text.specs.Writing.{Wrote};
 ghost use Rattle.registers.specs.Words.{spaced, printed};
-ghost use Rattle.registers.specs.Shown.{current};
-ghost use Rattle.registers.specs.Lines.{fewer, refusalLine, refusedLine, netLine, pickLine, madeLine, nodeLine};
+ghost use Rattle.registers.specs.Shown.{unnamed};
+ghost use Rattle.registers.specs.Lines.{fewer, refusalLine, placeWords, refusedLine, netLine, pickLine, madeLine, nodeLine};
 ghost use Rattle.registers.specs.Lines.{fieldWords, markWords, tupleLine, tupleLines, nodeLines, netLines, pickLines};
 ghost use Rattle.registers.specs.Lines.{tupleCount, totalLine, closingLines, afterLines};
 
@@ -39,13 +40,24 @@ pub fn put_refusal(out: &mut [u8], at: usize, n: u8) -> usize
     put(out, second, 10)
 }
 
-// A refusal with the bit at which the field at fault begins.
-pub fn put_refused(out: &mut [u8], at: usize, fault: Fault) -> usize
-    ensures { λ r. ⌜ Wrote (now (out .entry)) at (printed (refusedLine current fault ∷ [])) (now (out .exit)) r ⌝ }
+// The bit at which the field at fault begins, where it is shown.
+fn put_place(out: &mut [u8], at: usize, parts: Parts, fault: Fault) -> usize
+    ensures { λ r. ⌜ Wrote (now (out .entry)) at (spaced (placeWords parts fault)) (now (out .exit)) r ⌝ }
+{
+    if parts.place {
+        put_labelled(out, at, b"at", fault.place)
+    } else {
+        at
+    }
+}
+
+// A refusal of an image.
+pub fn put_refused(out: &mut [u8], at: usize, parts: Parts, fault: Fault) -> usize
+    ensures { λ r. ⌜ Wrote (now (out .entry)) at (printed (refusedLine parts fault ∷ [])) (now (out .exit)) r ⌝ }
 {
     let first = put_bytes(out, at, b"refused");
     let second = put_number(out, first, fault.number as usize);
-    let third = put_labelled(out, second, b"at", fault.place);
+    let third = put_place(out, second, parts, fault);
     put(out, third, 10)
 }
 
@@ -92,7 +104,7 @@ pub(crate) fn put_picks(out: &mut [u8], at: usize, picks: &[u8], answers: &[u8])
 }
 
 fn put_node(out: &mut [u8], at: usize, a: Locality, stored: usize, busy: usize) -> usize
-    ensures { λ r. ⌜ Wrote (now (out .entry)) at (printed (nodeLine current a stored busy ∷ [])) (now (out .exit)) r ⌝ }
+    ensures { λ r. ⌜ Wrote (now (out .entry)) at (printed (nodeLine [] a stored busy ∷ [])) (now (out .exit)) r ⌝ }
 {
     let first = put_bytes(out, at, b"node");
     let second = put_number(out, first, a.0 as usize);
@@ -115,57 +127,68 @@ fn put_fields(out: &mut [u8], at: usize, t: Tuple) -> usize
     next
 }
 
-// The fields of a tuple, and who put it there.
-fn put_marked(out: &mut [u8], at: usize, t: Tuple) -> usize
-    ensures { λ r. ⌜ Wrote (now (out .entry)) at (spaced (fieldWords t ++ markWords current t)) (now (out .exit)) r ⌝ }
+// Who put a tuple there, where it is shown.
+fn put_mark(out: &mut [u8], at: usize, parts: Parts, t: Tuple) -> usize
+    ensures { λ r. ⌜ Wrote (now (out .entry)) at (spaced (markWords parts t)) (now (out .exit)) r ⌝ }
 {
     let mark = t.mark;
-    let next = put_fields(out, at, t);
-    put_labelled(out, next, b"from", mark.0 as usize)
+    if parts.mark {
+        put_labelled(out, at, b"from", mark.0 as usize)
+    } else {
+        at
+    }
 }
 
-fn put_tuple(out: &mut [u8], at: usize, a: Locality, t: Tuple) -> usize
-    ensures { λ r. ⌜ Wrote (now (out .entry)) at (printed (tupleLine current a t ∷ [])) (now (out .exit)) r ⌝ }
+// The fields of a tuple, and who put it there.
+fn put_marked(out: &mut [u8], at: usize, parts: Parts, t: Tuple) -> usize
+    ensures { λ r. ⌜ Wrote (now (out .entry)) at (spaced (fieldWords t ++ markWords parts t)) (now (out .exit)) r ⌝ }
+{
+    let next = put_fields(out, at, t);
+    put_mark(out, next, parts, t)
+}
+
+fn put_tuple(out: &mut [u8], at: usize, parts: Parts, a: Locality, t: Tuple) -> usize
+    ensures { λ r. ⌜ Wrote (now (out .entry)) at (printed (tupleLine parts a t ∷ [])) (now (out .exit)) r ⌝ }
 {
     let first = put_bytes(out, at, b"tuple");
     let second = put_number(out, first, a.0 as usize);
-    let third = put_marked(out, second, t);
+    let third = put_marked(out, second, parts, t);
     put(out, third, 10)
 }
 
-fn put_tuples(out: &mut [u8], at: usize, a: Locality, x: Node) -> usize
-    ensures { λ r. ⌜ Wrote (now (out .entry)) at (printed (tupleLines current a x)) (now (out .exit)) r ⌝ }
+fn put_tuples(out: &mut [u8], at: usize, parts: Parts, a: Locality, x: Node) -> usize
+    ensures { λ r. ⌜ Wrote (now (out .entry)) at (printed (tupleLines parts a x)) (now (out .exit)) r ⌝ }
 {
     let n = at_most(x.stored, 16);
     let mut next = at;
     let mut i = 0;
     while i < n {
         let t = x.tuples[i];
-        next = put_tuple(out, next, a, t);
+        next = put_tuple(out, next, parts, a, t);
         i += 1;
     }
     next
 }
 
 // A node's line, and its tuples.
-fn put_node_lines(out: &mut [u8], at: usize, a: Locality, x: Node) -> usize
-    ensures { λ r. ⌜ Wrote (now (out .entry)) at (printed (nodeLines current a x)) (now (out .exit)) r ⌝ }
+fn put_node_lines(out: &mut [u8], at: usize, parts: Parts, a: Locality, x: Node) -> usize
+    ensures { λ r. ⌜ Wrote (now (out .entry)) at (printed (nodeLines (unnamed parts) a x)) (now (out .exit)) r ⌝ }
 {
     let busy = x.process_count();
     let next = put_node(out, at, a, x.stored, busy);
-    put_tuples(out, next, a, x)
+    put_tuples(out, next, parts, a, x)
 }
 
 // The lines of each address in use.
-fn put_nodes(out: &mut [u8], at: usize, net: Net) -> usize
-    ensures { λ r. ⌜ Wrote (now (out .entry)) at (printed (netLines current net)) (now (out .exit)) r ⌝ }
+fn put_nodes(out: &mut [u8], at: usize, parts: Parts, net: Net) -> usize
+    ensures { λ r. ⌜ Wrote (now (out .entry)) at (printed (netLines (unnamed parts) net)) (now (out .exit)) r ⌝ }
 {
     let n = at_most(net.addresses, 16);
     let mut next = at;
     let mut i = 0;
     while i < n {
         let x = net.nodes[i];
-        next = put_node_lines(out, next, Locality(i as u8), x);
+        next = put_node_lines(out, next, parts, Locality(i as u8), x);
         i += 1;
     }
     next
@@ -195,18 +218,28 @@ fn put_total(out: &mut [u8], at: usize, n: usize) -> usize
     put(out, second, 10)
 }
 
-// The last line of a register.
-fn put_closing(out: &mut [u8], at: usize, net: Net) -> usize
-    ensures { λ r. ⌜ Wrote (now (out .entry)) at (printed (closingLines current net)) (now (out .exit)) r ⌝ }
+fn put_counted(out: &mut [u8], at: usize, net: Net) -> usize
+    ensures { λ r. ⌜ Wrote (now (out .entry)) at (printed (totalLine (tupleCount net) ∷ [])) (now (out .exit)) r ⌝ }
 {
     let n = tuple_count(net);
     put_total(out, at, n)
 }
 
-// What a register says of the net after the picks.
-pub fn put_after(out: &mut [u8], at: usize, net: Net) -> usize
-    ensures { λ r. ⌜ Wrote (now (out .entry)) at (printed (afterLines current net)) (now (out .exit)) r ⌝ }
+// The last line of a register, where it is shown.
+fn put_closing(out: &mut [u8], at: usize, parts: Parts, net: Net) -> usize
+    ensures { λ r. ⌜ Wrote (now (out .entry)) at (printed (closingLines parts net)) (now (out .exit)) r ⌝ }
 {
-    let next = put_nodes(out, at, net);
-    put_closing(out, next, net)
+    if parts.total {
+        put_counted(out, at, net)
+    } else {
+        at
+    }
+}
+
+// What a register says of the net after the picks.
+pub fn put_after(out: &mut [u8], at: usize, parts: Parts, net: Net) -> usize
+    ensures { λ r. ⌜ Wrote (now (out .entry)) at (printed (afterLines (unnamed parts) net)) (now (out .exit)) r ⌝ }
+{
+    let next = put_nodes(out, at, parts, net);
+    put_closing(out, next, parts, net)
 }

@@ -9,20 +9,16 @@ use native.Mathlib.Omega.{arith}
 use native.Mathlib.Nat.{mul-suc, mul-le-mul}
 use lib.ListN.{length, take, length-take}
 use Rattle.net.specs.Choice.{choose}
-use Rattle.net.specs.Shape.{Shaped}
 use Rattle.net.proofs.Laws.{both-l}
 use Rattle.net.proofs.Every.{chosen, chosen-lt}
-use Rattle.sound.specs.Soundness.{soundOf}
-use Rattle.sound.proofs.NetFacts.{NetOk, sound-apart}
+use Rattle.sound.proofs.NetFacts.{NetOk}
 use Rattle.sound.proofs.NetChanges.{node-at}
 use Rattle.image.specs.Image.{openedOf}
-use Rattle.step.specs.Pick.{pickOf}
-use Rattle.step.specs.SoundKept.{SoundKept}
-use Rattle.step.proofs.SoundKept.{sound-kept}
-use Rattle.run.specs.Run.{ranFrom, answered, runIn, runOf}
+use Rattle.run.specs.Run.{runIn, runOf}
+use Rattle.run.proofs.SoundRuns.{ran-sound}
 use Rattle.run.proofs.CallLaws.{opened-sound}
 use Rattle.tenant.proofs.OpenedShaped.{opened-shaped}
-use Rattle.season.specs.Types.{Locality, Net, Verdict}
+use Rattle.season.specs.Types.{Locality, Verdict}
 use Rattle.season.specs.Season.{Run, MadeRun, madeIn, madeOf, madeRuns, tallied, counts, performs, picksAt, performedAt}
 use Rattle.season.specs.Season.{leftIn, leftAt, summed, allPicks, allPerformed, allLeft}
 use Rattle.season.specs.SeasonClaims.{CountsFit, SumsFit, SeasonFits}
@@ -58,14 +54,7 @@ tallied-less p q (b ∷ picks) (x ∷ answers) h =
     let rest = tallied-less p q picks answers h in
     omega (arith, first, rest)
 
--- ---- the net after picks is sound, so at most 16 tuples stand at an address
-ends-sound : (s : Net) (picks : List ℕ) → Shaped s → soundOf s ≡ true → NetOk (ranFrom s picks .net)
-unfolding ranFrom answered SoundKept
-ends-sound s [] shaped sound = sound-apart s shaped sound
-ends-sound s (b ∷ bs) shaped sound =
-    let kept = sound-kept s b shaped sound in
-    ends-sound (pickOf s b .net) bs (kept .1) (kept .0)
-
+-- ---- at most 16 tuples stand at an address of a sound net
 left-fits : (l : Locality) (m : MadeRun) → NetOk (m .net) → leftAt l m ≤ 16
 unfolding leftAt leftIn
 left-fits l m ok =
@@ -86,7 +75,7 @@ in-fits :
 unfolding madeIn runIn
 in-fits image picks Verdict.Accepted e few m h =
     subst CountsFit (sym (List·Memᴰ·eq-of-singleton h))
-    (counts-fit _ few (ends-sound (openedOf image .net) picks (opened-shaped image) (opened-sound image (openedOf image) refl e)))
+    (counts-fit _ few (ran-sound (openedOf image .net) picks (opened-shaped image) (opened-sound image (openedOf image) refl e)))
 in-fits image picks (Verdict.Refused f) e few m h = absurd (List·Memᴰ·not-nil h)
 
 pub made-fits : (run : Run) (m : MadeRun) → List·Memᴰ m (madeOf run) → CountsFit m

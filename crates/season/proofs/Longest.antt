@@ -1,35 +1,23 @@
 -- How long the figures can be: no number has more than 20 digits. Assumes nothing.
-use Prim.Native.Nat.{ℕ, zero, suc, _+_, _*_, _/_, _%_, _≤_}
+use Prim.Native.Nat.{ℕ, zero, suc, _+_, _*_, _≤_}
 use mathlib.Core.Path.{_≡_, ap, _∙_}
 use mathlib.Core.List.{List, [], _∷_, _++_}
 use native.Mathlib.Omega.{arith}
 use native.Mathlib.Nat.{suc-mul}
 use lib.ListN.{length, length-append}
-use lib.Dec.{ltb}
 use Rattle.net.specs.Records.{addressOf}
 use Rattle.net.proofs.Every.{chosen}
 use Rattle.text.specs.Bytes.{bytes}
-use Rattle.text.specs.Decimal.{digit, digits, decimal}
+use Rattle.text.specs.Decimal.{decimal}
 use Rattle.text.specs.Joined.{joined}
 use Rattle.registers.specs.Words.{Word, name, number, wordText, spaced, lineText, printed}
 use Rattle.registers.proofs.WordLaws.{printed-both}
+use Rattle.registers.proofs.Longest.{decimal-short}
 use Rattle.season.specs.Types.{Locality}
 use Rattle.season.specs.Fractions.{Fraction, Best}
 use Rattle.season.specs.Season.{fractionWord, shareWord, bestWord}
 use Rattle.season.specs.Sums.{Tally, tallyAt, tallyLine, figuresFrom}
 use Rattle.season.specs.SeasonClaims.{LongestFigures}
-
-digits-short : (k n : ℕ) → length (digits k n) ≤ k
-unfolding digits
-digits-short zero n = omega arith
-digits-short (suc k) n =
-    chosen (λ (t : List ℕ). length t ≤ suc k) (ltb n 10) _ _ (λ _. omega arith)
-    (λ _. let inner = digits-short k (n / 10) in
-    let whole = length-append (digits k (n / 10)) (digit (n % 10) ∷ []) in omega (arith, inner, whole))
-
-decimal-short : (n : ℕ) → length (decimal n) ≤ 20
-unfolding decimal
-decimal-short n = digits-short 20 n
 
 -- ---- words
 fraction-short : (x : Fraction) → length (wordText (fractionWord x)) ≤ 41

@@ -9,8 +9,8 @@ use Rattle.text.specs.Bytes.{bytes}
 use Rattle.run.specs.Run.{Ran, ran, numbers}
 use Rattle.registers.specs.Types.{Locality, Tuple, Node, Net}
 use Rattle.registers.specs.Words.{Word, wordText, spaced, printed}
-use Rattle.registers.specs.Shown.{current}
-use Rattle.registers.specs.Lines.{fewer, netLine, pickLine, madeLine, nodeLine, fieldWords, tupleLine, tupleLines, nodeLines}
+use Rattle.registers.specs.Shown.{unnamed, allParts, current}
+use Rattle.registers.specs.Lines.{fewer, netLine, pickLine, madeLine, nameWords, nodeLine, fieldWords, tupleLine, tupleLines, nodeLines}
 use Rattle.registers.specs.Lines.{netLines, pickLines, tuplesBelow, tupleCount, totalLine, closingLines, afterLines, registerLines}
 use Rattle.registers.specs.Register.{registerIn}
 use Rattle.totals.specs.TextLines.{linesOf, lastOr, opensWith}
@@ -27,11 +27,11 @@ pick-whole : (i b x : ℕ) → Whole (printed (madeLine i b x ∷ [])) 0
 unfolding madeLine pickLine bytes clean both opensWith choose
 pick-whole i b x = whole-line _ _ refl (number-more (number-more (number-more (number-more no-words)))) 0 refl
 
-node-whole : (a : Locality) (n k : ℕ) → Whole (printed (nodeLine current a n k ∷ [])) 0
-unfolding nodeLine bytes clean both opensWith choose
+node-whole : (a : Locality) (n k : ℕ) → Whole (printed (nodeLine [] a n k ∷ [])) 0
+unfolding nodeLine nameWords bytes clean both opensWith choose
 node-whole a n k = whole-line _ _ refl (number-more (number-more (number-more no-words))) 0 refl
 
-tuple-whole : (a : Locality) (t : Tuple) → Whole (printed (tupleLine current a t ∷ [])) 1
+tuple-whole : (a : Locality) (t : Tuple) → Whole (printed (tupleLine allParts a t ∷ [])) 1
 unfolding tupleLine fieldWords bytes clean both opensWith choose spaced
 tuple-whole a t = whole-line _ _ refl (number-more (plain-both _ _ (items-plain (fewer (t .count) 4) (fieldAt t)) (mark-plain t))) 1 refl
 
@@ -40,14 +40,14 @@ picks-whole : (picks answers : List ℕ) → Whole (printed (pickLines picks ans
 unfolding pickLines
 picks-whole picks answers = subst (Whole _) (omega arith) (whole-each _ 0 _ (λ i. pick-whole (i + 1) _ _))
 
-tuples-whole : (a : Locality) (x : Node) → Whole (printed (tupleLines current a x)) (fewer (x .stored) 16)
+tuples-whole : (a : Locality) (x : Node) → Whole (printed (tupleLines allParts a x)) (fewer (x .stored) 16)
 unfolding tupleLines
 tuples-whole a x = subst (Whole _) (omega arith) (whole-each (fewer (x .stored) 16) 1 _ (λ i. tuple-whole a (tupleAt x i)))
 
 node-lines-whole : (a : Locality) (x : Node) → Whole (printed (nodeLines current a x)) (fewer (x .stored) 16)
-unfolding nodeLines
+unfolding nodeLines current unnamed
 node-lines-whole a x =
-    subst (Whole _) (omega arith) (whole-both (nodeLine current a _ _ ∷ []) (tupleLines current a x) 0 _ (node-whole a _ _) (tuples-whole a x))
+    subst (Whole _) (omega arith) (whole-both (nodeLine [] a _ _ ∷ []) (tupleLines allParts a x) 0 _ (node-whole a _ _) (tuples-whole a x))
 
 net-lines-whole : (s : Net) → Whole (printed (netLines current s)) (tupleCount s)
 unfolding netLines tupleCount tuplesBelow
@@ -64,19 +64,19 @@ module _ (s : Net) (picks : List ℕ) (r : Ran) where
       (whole-both (netLine (s .addresses) (s .length) ∷ []) _ 0 _ (net-whole _ _)
       (whole-both (pickLines picks (numbers r)) (netLines current (r .net)) 0 _ (picks-whole _ _) (net-lines-whole (r .net))))
 
-  text-is : registerIn s picks (ran r) ≡ printed (above ++ totalLine (tupleCount (r .net)) ∷ [])
-  unfolding registerIn registerLines afterLines closingLines current choose
+  text-is : registerIn current s picks (ran r) ≡ printed (above ++ totalLine (tupleCount (r .net)) ∷ [])
+  unfolding registerIn registerLines afterLines closingLines current unnamed allParts choose
   text-is =
       ap (λ (ls : List (List Word)). printed (netLine (s .addresses) (s .length) ∷ ls))
       (sym (append-assoc (pickLines picks (numbers r)) (netLines current (r .net)) _))
 
-  pub counted : tupleLinesIn (registerIn s picks (ran r)) ≡ tupleCount (r .net)
+  pub counted : tupleLinesIn (registerIn current s picks (ran r)) ≡ tupleCount (r .net)
   unfolding tupleLinesIn totalLine bytes clean both opensWith
   counted =
       ap tupleLinesIn text-is
       ∙ lines-count above _ above-whole _ _ refl (number-more no-words) refl
 
-  pub last-is-total : TotalIs (registerIn s picks (ran r)) (tupleCount (r .net))
+  pub last-is-total : TotalIs (registerIn current s picks (ran r)) (tupleCount (r .net))
   unfolding TotalIs totalLine bytes clean both spaced wordText
   last-is-total =
       ap (λ (text : List ℕ). lastOr [] (linesOf text)) text-is

@@ -3,7 +3,7 @@
 use Prim.Native.Nat.{ℕ, zero, suc, _+_, _<_, _≤_}
 use mathlib.Core.Path.{_≡_, refl, sym, ap, subst, _∙_}
 use mathlib.Core.Bool.{true}
-use mathlib.Core.List.{List, [], _∷_}
+use mathlib.Core.List.{List}
 use native.Mathlib.Omega.{arith}
 use lib.ListN.{take}
 use Rattle.net.specs.Choice.{fold}
@@ -11,18 +11,17 @@ use Rattle.net.specs.Records.{addressOf}
 use Rattle.net.specs.Shape.{Shaped}
 use Rattle.net.proofs.Every.{chosen-lt}
 use Rattle.sound.specs.Soundness.{soundOf}
-use Rattle.sound.proofs.NetFacts.{NetOk, sound-apart}
+use Rattle.sound.proofs.NetFacts.{NetOk}
 use Rattle.sound.proofs.NetChanges.{node-at}
 use Rattle.image.specs.Image.{openedOf, accepted}
 use Rattle.notation.specs.Text.{readOf}
-use Rattle.step.specs.Pick.{pickOf}
-use Rattle.step.specs.SoundKept.{SoundKept}
-use Rattle.step.proofs.SoundKept.{sound-kept}
-use Rattle.run.specs.Run.{Ran, ran, ranFrom, answered}
+use Rattle.run.specs.Run.{Ran, ran, ranFrom}
+use Rattle.run.proofs.SoundRuns.{ran-sound}
 use Rattle.run.proofs.CallLaws.{opened-sound, ran-is, text-sound, text-ran-is}
 use Rattle.registers.specs.Types.{Opened}
 use Rattle.registers.specs.Lines.{fewer, tuplesBelow, tupleCount}
-use Rattle.registers.specs.Register.{registerIn, registerOf, registerTextOf}
+use Rattle.registers.specs.Shown.{current}
+use Rattle.registers.specs.Register.{registerIn, registerAs, registerOf, registerTextAs, registerTextOf}
 use Rattle.tenant.proofs.OpenedShaped.{opened-shaped}
 use Rattle.text_tenant.specs.TextTenantRule.{TextIsImaged}
 use Rattle.text_tenant.proofs.TextTenantRule.{textIsImaged}
@@ -51,32 +50,24 @@ all-counted s ok =
     ap (tuplesBelow s) (fewer-all (s .addresses) 16 (ok .addresses-most))
     ∙ sums (s .addresses) _ _ (λ a h. fewer-all _ 16 (node-at s ok (addressOf a) h .room))
 
--- ---- the net after picks is sound
-ends-sound : (s : Net) (picks : List ℕ) → Shaped s → soundOf s ≡ true → NetOk (ranFrom s picks .net)
-unfolding ranFrom answered SoundKept
-ends-sound s [] shaped sound = sound-apart s shaped sound
-ends-sound s (b ∷ bs) shaped sound =
-    let kept = sound-kept s b shaped sound in
-    ends-sound (pickOf s b .net) bs (kept .1) (kept .0)
-
 -- ---- the register of a net and its picks
 module _ (s : Net) (picks : List ℕ) where
-  lines-hold : (text : List ℕ) → registerIn s picks (ran (ranFrom s picks)) ≡ text → TotalIs text (tupleLinesIn text)
+  lines-hold : (text : List ℕ) → registerIn current s picks (ran (ranFrom s picks)) ≡ text → TotalIs text (tupleLinesIn text)
   lines-hold text e =
       let r : Ran = ranFrom s picks in
       subst (λ (t : List ℕ). TotalIs t (tupleLinesIn t)) e
-      (subst (TotalIs (registerIn s picks (ran r))) (sym (counted s picks r)) (last-is-total s picks r))
+      (subst (TotalIs (registerIn current s picks (ran r))) (sym (counted s picks r)) (last-is-total s picks r))
 
   balance-holds :
-      (text : List ℕ) → Shaped s → soundOf s ≡ true → registerIn s picks (ran (ranFrom s picks)) ≡ text
+      (text : List ℕ) → Shaped s → soundOf s ≡ true → registerIn current s picks (ran (ranFrom s picks)) ≡ text
       → Balanced s picks text
   unfolding balance
   balance-holds text shaped sound e =
       let r : Ran = ranFrom s picks in
       let whole = run-balance s picks shaped sound in
       let count : tupleCount (r .net) ≡ balance s picks =
-      all-counted (r .net) (ends-sound s picks shaped sound) ∙ omega (arith, whole) in
-      let last = subst (TotalIs (registerIn s picks (ran r))) count (last-is-total s picks r) in
+      all-counted (r .net) (ran-sound s picks shaped sound) ∙ omega (arith, whole) in
+      let last = subst (TotalIs (registerIn current s picks (ran r))) count (last-is-total s picks r) in
       record {
         total = subst (λ (t : List ℕ). TotalIs t (balance s picks)) e last;
         enough = omega (arith, whole);
@@ -84,14 +75,14 @@ module _ (s : Net) (picks : List ℕ) where
 
 -- ---- of images and texts
 module _ (image picks : List ℕ) (a : openedOf image .answer ≡ Verdict.Accepted) where
-  image-register : registerIn (openedOf image .net) (take 65536 picks) (ran (ranFrom (openedOf image .net) (take 65536 picks))) ≡ registerOf image picks
-  unfolding registerOf
-  image-register = ap (registerIn _ _) (ran-is image (openedOf image) refl (take 65536 picks) a)
+  image-register : registerIn current (openedOf image .net) (take 65536 picks) (ran (ranFrom (openedOf image .net) (take 65536 picks))) ≡ registerOf image picks
+  unfolding registerOf registerAs
+  image-register = ap (registerIn current _ _) (ran-is image (openedOf image) refl (take 65536 picks) a)
 
 module _ (text picks : List ℕ) (a : readOf text .answer ≡ TextVerdict.Accepted) where
-  text-register : registerIn (readOf text .net) (take 65536 picks) (ran (ranFrom (readOf text .net) (take 65536 picks))) ≡ registerTextOf text picks
-  unfolding registerTextOf
-  text-register = ap (registerIn _ _) (text-ran-is text (readOf text) refl (take 65536 picks) a)
+  text-register : registerIn current (readOf text .net) (take 65536 picks) (ran (ranFrom (readOf text .net) (take 65536 picks))) ≡ registerTextOf text picks
+  unfolding registerTextOf registerTextAs
+  text-register = ap (registerIn current _ _) (text-ran-is text (readOf text) refl (take 65536 picks) a)
 
   text-shaped : Shaped (readOf text .net)
   unfolding TextIsImaged accepted

@@ -17,7 +17,7 @@ use Rattle.text.specs.Decimal.{digit, digits, decimal, signedDecimal}
 use Rattle.text.specs.Joined.{joined}
 use Rattle.registers.specs.Types.{Item, Tuple}
 use Rattle.registers.specs.Words.{Word, name, number, wordText, spaced, lineText, printed}
-use Rattle.registers.specs.Shown.{current}
+use Rattle.registers.specs.Shown.{allParts}
 use Rattle.registers.specs.Lines.{itemWord, markWords}
 use Rattle.registers.proofs.WordLaws.{spaced-both, printed-both}
 use Rattle.totals.specs.TextLines.{before, linesOf, lastOr, opensWith, opening}
@@ -86,8 +86,8 @@ from-clean : clean (wordText (name (bytes "from"))) ≡ true
 unfolding clean wordText bytes both
 from-clean = refl
 
-pub mark-plain : (t : Tuple) → Plain (markWords current t)
-unfolding markWords current choose
+pub mark-plain : (t : Tuple) → Plain (markWords allParts t)
+unfolding markWords allParts choose
 mark-plain t = word-more from-clean (number-more no-words)
 
 pub items-plain : (n : ℕ) (f : ℕ → Item) → Plain (joined n (λ i. itemWord (f i) ∷ []))

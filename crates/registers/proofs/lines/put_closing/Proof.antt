@@ -1,14 +1,18 @@
 -- `registers::lines::put_closing` meets its contract. Assumes nothing.
-use Rattle.registers.proofs.RegisterLaws.{closing-line}
+use Rattle.registers.specs.Words.{printed}
+use Rattle.registers.specs.Lines.{closingLines}
+use Rattle.registers.proofs.WordLaws.{printed-none}
+use Rattle.registers.proofs.RegisterLaws.{part-shown, part-left}
 use borrow.Author.Needs.{needs}
 use Rattle.registers.proofs.lines.put_closing.Statement.{statement}
 use Rattle.registers.proofs.lines.put_closing.Tie as tie
 
 pub put-closing-spec : {M : Type 1} → statement M
+unfolding closingLines
 put-closing-spec =
     tie.close
     (tie.spec
     (λ c κs. search needs)
-    (λ c κs. search needs)
     (λ c. search needs)
-    (λ c. search (needs, closing-line)))
+    (λ c. search (needs, part-shown printed printed-none))
+    (λ c. search (needs, part-left printed printed-none)))

@@ -1,21 +1,14 @@
 -- `registers::lines::put_marked` meets its contract. Assumes nothing.
-use Rattle.text.specs.Bytes.{bytes}
-use Rattle.net.specs.Choice.{choose}
-use Rattle.registers.specs.Shown.{current}
-use Rattle.registers.specs.Lines.{markWords}
 use Rattle.registers.proofs.WordLaws.{spaced-then}
 use borrow.Author.Needs.{needs}
 use Rattle.registers.proofs.lines.put_marked.Statement.{statement}
 use Rattle.registers.proofs.lines.put_marked.Tie as tie
 
 pub put-marked-spec : {M : Type 1} → statement M
-unfolding markWords current choose bytes
 put-marked-spec =
     tie.close
     (tie.spec
     (λ c κs. search needs)
-    (λ c. search needs)
-    (λ c. search needs)
     (λ c κs. search needs)
     (λ c. search needs)
     (λ c. search (needs, spaced-then)))

@@ -7,16 +7,16 @@ use Rattle.text.specs.Writing.{Wrote}
 use Rattle.text.proofs.WritingLaws.{wrote-length}
 use Rattle.net.specs.Records.{nodeAt, addressOf}
 use Rattle.registers.proofs.WordLaws.{printed-none, printed-both, parts-none, parts-more, parts-upto}
-use Rattle.registers.specs.Shown.{current}
+use Rattle.registers.specs.Shown.{unnamed}
 use borrow.Author.Needs.{needs}
 use Rattle.registers.proofs.lines.put_nodes.Statement.{statement}
 use Rattle.registers.proofs.lines.put_nodes.Tie as tie
 
 abbrev Inv-loop : tie.InvT-loop
-Inv-loop out₀ at net n next₀ i₀ out next i = Wrote out₀ at (printed (joined i (λ j. nodeLines current (addressOf j) (nodeAt net (addressOf j))))) out next × (i ≤ n)
+Inv-loop out₀ at parts net n next₀ i₀ out next i = Wrote out₀ at (printed (joined i (λ j. nodeLines (unnamed parts) (addressOf j) (nodeAt net (addressOf j))))) out next × (i ≤ n)
 
 abbrev μ-loop : tie.MeasureT-loop
-μ-loop out₀ at net n next₀ i₀ out next i = n - i
+μ-loop out₀ at parts net n next₀ i₀ out next i = n - i
 
 pub put-nodes-spec : {M : Type 1} → statement M
 unfolding netLines nodeAt

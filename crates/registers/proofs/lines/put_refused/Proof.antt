@@ -1,7 +1,5 @@
 -- `registers::lines::put_refused` meets its contract. Assumes nothing.
 use Rattle.text.specs.Bytes.{bytes}
-use Rattle.net.specs.Choice.{choose}
-use Rattle.registers.specs.Shown.{current}
 use Rattle.registers.specs.Lines.{refusedLine}
 use Rattle.registers.proofs.WordLaws.{line-word-then}
 use borrow.Author.Needs.{needs}
@@ -9,7 +7,7 @@ use Rattle.registers.proofs.lines.put_refused.Statement.{statement}
 use Rattle.registers.proofs.lines.put_refused.Tie as tie
 
 pub put-refused-spec : {M : Type 1} → statement M
-unfolding refusedLine current choose bytes
+unfolding refusedLine bytes
 put-refused-spec =
     tie.close
     (tie.spec
@@ -17,7 +15,6 @@ put-refused-spec =
     (λ c κs. search needs)
     (λ c. search needs)
     (λ c κs. search needs)
-    (λ c. search needs)
     (λ c κs. search needs)
     (λ c κs. search needs)
     (λ c. search needs)

@@ -8,16 +8,15 @@ use Rattle.text.specs.Writing.{Wrote}
 use Rattle.text.proofs.WritingLaws.{wrote-length}
 use Rattle.net.specs.Records.{tupleAt}
 use Rattle.registers.proofs.WordLaws.{printed-none, printed-both, parts-none, parts-more, parts-upto}
-use Rattle.registers.specs.Shown.{current}
 use borrow.Author.Needs.{needs}
 use Rattle.registers.proofs.lines.put_tuples.Statement.{statement}
 use Rattle.registers.proofs.lines.put_tuples.Tie as tie
 
 abbrev Inv-loop : tie.InvT-loop
-Inv-loop out₀ at a x n next₀ i₀ out next i = Wrote out₀ at (printed (joined i (λ j. tupleLine current a (tupleAt x j) ∷ []))) out next × (i ≤ n)
+Inv-loop out₀ at parts a x n next₀ i₀ out next i = Wrote out₀ at (printed (joined i (λ j. tupleLine parts a (tupleAt x j) ∷ []))) out next × (i ≤ n)
 
 abbrev μ-loop : tie.MeasureT-loop
-μ-loop out₀ at a x n next₀ i₀ out next i = n - i
+μ-loop out₀ at parts a x n next₀ i₀ out next i = n - i
 
 pub put-tuples-spec : {M : Type 1} → statement M
 unfolding tupleLines tupleAt
