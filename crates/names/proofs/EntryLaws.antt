@@ -1,0 +1,139 @@
+-- Laws of the entries of a list of names (`specs/Names.antt`), and of the loops over them: before each turn, the entries
+-- that are left give what all of them give. Assumes nothing.
+use Prim.Native.Nat.{ℕ, zero, suc, _+_, _-_, _/_, _<_, _≤_}
+use mathlib.Core.Path.{_≡_, refl, sym, ap, _∙_}
+use mathlib.Core.Bool.{Bool, true, false}
+use mathlib.Core.List.{List, [], _∷_}
+use native.Mathlib.Omega.{arith}
+use native.Mathlib.Numerals.{add-one}
+use lib.ListN.{length, getD, take, drop, drop-of-length-le, length-drop}
+use lib.Seq.{drop-cons, drop-drop, take-all}
+use lib.Dec.{eqb}
+use borrow.Author.Tests.{eq-eqb, ne-eqb}
+use Rattle.net.specs.Choice.{choose}
+use Rattle.net.proofs.Laws.{choose-true, choose-false, if-lt, if-not-lt, if-eq, if-ne}
+use Rattle.net.specs.declared.locality.Locality.{Locality}
+use Rattle.names.specs.Names.{Found, sizeAt, addressAt, textAt, placesFrom, placesOf, lettersFault, entryFault, firstOf, faultAmong}
+use Rattle.names.specs.Names.{listFault, foundAmong, foundIn}
+use Rattle.names.specs.Lookup.{Sought}
+
+-- ---- the places of entries
+skipped : (at skip : ℕ) (list : List ℕ) → placesFrom at skip list ≡ placesFrom (skip + at) 0 (drop skip list)
+unfolding placesFrom
+skipped at zero list = ap (λ (p : ℕ). placesFrom p 0 list) (omega arith)
+skipped at (suc skip) [] = refl
+skipped at (suc skip) (b ∷ rest) = skipped (suc at) skip rest ∙ ap (λ (p : ℕ). placesFrom p 0 (drop skip rest)) (omega arith)
+
+-- the entry at a place, and those after it
+places-next :
+    (list : List ℕ) (at : ℕ) → at < length list
+    → placesFrom at 0 (drop at list) ≡ at ∷ placesFrom (at + 1 + sizeAt list at) 0 (drop (at + 1 + sizeAt list at) list)
+unfolding placesFrom sizeAt
+places-next list at h =
+    let left : sizeAt list at + suc at ≡ at + 1 + sizeAt list at = omega arith in
+    let right : suc at + sizeAt list at ≡ at + 1 + sizeAt list at = omega arith in
+    ap (placesFrom at 0) (drop-cons list at 0 h)
+    ∙ ap (λ (ps : List ℕ). at ∷ ps)
+    (skipped (suc at) (sizeAt list at) (drop (suc at) list)
+    ∙ ap (placesFrom (sizeAt list at + suc at) 0) (drop-drop (sizeAt list at) (suc at) list)
+    ∙ ap (λ (p : ℕ). placesFrom p 0 (drop (suc at + sizeAt list at) list)) left
+    ∙ ap (λ (p : ℕ). placesFrom (at + 1 + sizeAt list at) 0 (drop p list)) right)
+
+-- past the list's end
+places-none : (list : List ℕ) (at : ℕ) → length list ≤ at → placesFrom at 0 (drop at list) ≡ []
+unfolding placesFrom
+places-none list at h = ap (placesFrom at 0) (drop-of-length-le list h)
+
+-- ---- the loops: f is what they look for among entries
+pub record Left {A : Type 0} (list : List ℕ) (f : List ℕ → A) (at : ℕ) : Type 0 where
+  pub same : f (placesFrom at 0 (drop at list)) ≡ f (placesOf list)
+
+module _ {A : Type 0} (list : List ℕ) (f : List ℕ → A) where
+  pub left-all : Left list f 0
+  unfolding placesOf
+  left-all = record { same = refl }
+
+module _ (list : List ℕ) (at : ℕ) (h : at < length list) where
+  -- the first fault
+  among : faultAmong list (placesFrom at 0 (drop at list)) ≡ firstOf (entryFault list at) (faultAmong list (placesFrom (at + 1 + sizeAt list at) 0 (drop (at + 1 + sizeAt list at) list)))
+  unfolding faultAmong
+  among = ap (faultAmong list) (places-next list at h)
+
+  pub fault-again :
+      (n next : ℕ) → Left list (faultAmong list) at → n ≡ entryFault list at → n ≡ 0 → next ≡ at + 1 + sizeAt list at
+      → Left list (faultAmong list) next
+  unfolding firstOf
+  fault-again n next l e z p = record {
+    same = ap (λ (q : ℕ). faultAmong list (placesFrom q 0 (drop q list))) p
+        ∙ sym (among ∙ choose-true _ _ _ (eq-eqb _ 0 (sym e ∙ z))) ∙ l .same;
+  }
+
+  pub fault-here :
+      (n : ℕ) → Left list (faultAmong list) at → n ≡ entryFault list at → (n ≡ 0 → ⊥) → n ≡ listFault list
+  unfolding firstOf listFault
+  fault-here n l e z = e ∙ sym (among ∙ choose-false _ _ _ (ne-eqb _ 0 (λ q. z (e ∙ q)))) ∙ l .same
+
+  -- the first entry for an address
+  module _ (a : Locality) where
+    sought : foundAmong list a (placesFrom at 0 (drop at list)) ≡ choose (eqb (addressAt list at) (a .0)) (Found.At at) (foundAmong list a (placesFrom (at + 1 + sizeAt list at) 0 (drop (at + 1 + sizeAt list at) list)))
+    unfolding foundAmong
+    sought = ap (foundAmong list a) (places-next list at h)
+
+    pub found-again :
+        (next : ℕ) → Left list (foundAmong list a) at → (getD list at 0 / 16 ≡ a .0 → ⊥) → next ≡ at + 1 + sizeAt list at
+        → Left list (foundAmong list a) next
+    unfolding addressAt
+    found-again next l z p = record {
+      same = ap (λ (q : ℕ). foundAmong list a (placesFrom q 0 (drop q list))) p
+          ∙ sym (sought ∙ choose-false _ _ _ (ne-eqb _ _ z)) ∙ l .same;
+    }
+
+    pub found-here : Left list (foundAmong list a) at → getD list at 0 / 16 ≡ a .0 → Sought list a (Found.At at)
+    unfolding addressAt foundIn
+    found-here l e = record {
+      first = sym (sought ∙ choose-true _ _ _ (eq-eqb _ _ e)) ∙ l .same;
+      inside = λ p q. let same : at ≡ p = cc in omega arith;
+    }
+
+module _ (list : List ℕ) (at : ℕ) (h : length list ≤ at) where
+  pub fault-none : Left list (faultAmong list) at → 0 ≡ listFault list
+  unfolding faultAmong listFault
+  fault-none l = sym (ap (faultAmong list) (places-none list at h)) ∙ l .same
+
+  pub found-none : (a : Locality) → Left list (foundAmong list a) at → Sought list a Found.Nothing
+  unfolding foundAmong foundIn
+  found-none a l = record {
+    first = sym (ap (foundAmong list a) (places-none list at h)) ∙ l .same;
+    inside = λ p q. let z : _≡_ {A = ℕ} 0 1 = cc in absurd (omega arith);
+  }
+
+-- ---- the text of an entry, up to its end or, where it is cut short, the list's
+module _ (list : List ℕ) (at end : ℕ) (e : end ≡ at + 1 + sizeAt list at) where
+  pub text-whole : take (end - (at + 1)) (drop (at + 1) list) ≡ take (sizeAt list at) (drop (at + 1) list)
+  text-whole = let n : end - (at + 1) ≡ sizeAt list at = omega arith in rw n
+
+  pub text-cut : length list < end → take (length list - (at + 1)) (drop (at + 1) list) ≡ take (sizeAt list at) (drop (at + 1) list)
+  text-cut h =
+      let long = length-drop (at + 1) list in
+      take-all (length list - (at + 1)) _ (omega arith) ∙ sym (take-all (sizeAt list at) _ (omega arith))
+
+-- ---- the fault of an entry, in the order of the tests
+module _ (list : List ℕ) (at end : ℕ) (e : end ≡ at + 1 + sizeAt list at) where
+  pub fault-51 : end ≡ at + 1 → 51 ≡ entryFault list at
+  unfolding entryFault
+  fault-51 h = let none : sizeAt list at ≡ 0 = omega arith in if-eq _ _ _ _ _ none refl
+
+  some : (end ≡ at + 1 → ⊥) → sizeAt list at ≡ 0 → ⊥
+  some h z = h (omega arith)
+
+  pub fault-52 : (end ≡ at + 1 → ⊥) → length list < end → 52 ≡ entryFault list at
+  unfolding entryFault
+  fault-52 h l = let cut : length list < at + 1 + sizeAt list at = omega arith in if-ne _ _ _ _ _ (some h) (if-lt _ _ _ _ _ cut refl)
+
+  pub fault-53 :
+      (end ≡ at + 1 → ⊥) → end ≤ length list → (text : List ℕ) (n : ℕ) → text ≡ take (sizeAt list at) (drop (at + 1) list)
+      → n ≡ lettersFault text → n ≡ entryFault list at
+  unfolding entryFault textAt
+  fault-53 h l text n t f =
+      let whole : at + 1 + sizeAt list at ≤ length list = omega arith in
+      if-ne _ _ _ _ _ (some h) (if-not-lt _ _ _ _ _ whole (f ∙ ap lettersFault t))

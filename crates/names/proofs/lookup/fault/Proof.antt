@@ -1,0 +1,14 @@
+-- `names::lookup::fault` meets its contract. Assumes nothing.
+use Rattle.names.proofs.LookupLaws.{fault-of-site, fault-of-office}
+use borrow.Author.Needs.{needs}
+use Rattle.names.proofs.lookup.fault.Statement.{statement}
+use Rattle.names.proofs.lookup.fault.Tie as tie
+
+pub fault-spec : {M : Type 1} → statement M
+fault-spec =
+    tie.close
+    (tie.spec
+    (λ c κs. search needs)
+    (λ c κs. search needs)
+    (λ c. search (needs, fault-of-office))
+    (λ c. search (needs, fault-of-site)))
