@@ -2,7 +2,10 @@
 // declares them for C.
 use image::reader::place_of;
 use image::reader::read_image;
+use names::lookup::fault;
 use registers::register::Registered;
+use registers::register::named_register;
+use registers::register::named_register_text;
 use registers::register::register;
 use registers::register::register_text;
 use run::run::Finish;
@@ -13,7 +16,8 @@ ghost use lib.ListN.{length};
 ghost use Rattle.text.specs.Buffer.{over};
 ghost use Rattle.run.specs.Calls.{finishedOf, finishNumber, answersIn};
 ghost use Rattle.registers.specs.Calls.{registeredOf, registeredLength};
-ghost use Rattle.registers.specs.Register.{registerOf, registerTextOf};
+ghost use Rattle.registers.specs.Register.{registerOf, registerTextOf, namedRegisterOf, namedRegisterTextOf};
+ghost use Rattle.names.specs.Names.{namesFault};
 ghost use Rattle.run.specs.Run.{runOf, runTextOf};
 ghost use Rattle.image.specs.Image.{openedOf, placeOfFault};
 
@@ -89,4 +93,45 @@ pub extern "C" fn cavindorum_register_text(text: &[u8], picks: &[u8], out: &mut 
 {
     let written = register_text(text, picks, out);
     length_of(written)
+}
+
+// Writes a register with the station names that a site's list and the office's give, and gives its length, or 0 where the buffer is
+// too short for it.
+#[no_mangle]
+pub extern "C" fn cavindorum_named_register<'a>(
+    image: &[u8],
+    picks: &[u8],
+    site: &'a [u8],
+    office: &'a [u8],
+    out: &mut [u8],
+) -> usize
+    ensures { λ r. ⌜ r ≡ registeredLength (registeredOf (namedRegisterOf (now (site .entry)) (now (office .entry)) (now (image .entry)) (now (picks .entry))) (length (now (out .entry)))) ⌝ }
+    ensures { λ _. ⌜ now (out .exit) ≡ over (now (out .entry)) 0 (namedRegisterOf (now (site .entry)) (now (office .entry)) (now (image .entry)) (now (picks .entry))) ⌝ }
+{
+    let written = named_register(image, picks, site, office, out);
+    length_of(written)
+}
+
+// The same for a text.
+#[no_mangle]
+pub extern "C" fn cavindorum_named_register_text<'a>(
+    text: &[u8],
+    picks: &[u8],
+    site: &'a [u8],
+    office: &'a [u8],
+    out: &mut [u8],
+) -> usize
+    ensures { λ r. ⌜ r ≡ registeredLength (registeredOf (namedRegisterTextOf (now (site .entry)) (now (office .entry)) (now (text .entry)) (now (picks .entry))) (length (now (out .entry)))) ⌝ }
+    ensures { λ _. ⌜ now (out .exit) ≡ over (now (out .entry)) 0 (namedRegisterTextOf (now (site .entry)) (now (office .entry)) (now (text .entry)) (now (picks .entry))) ⌝ }
+{
+    let written = named_register_text(text, picks, site, office, out);
+    length_of(written)
+}
+
+// The number that the test of both lists of names gives: 0, 51, 52 or 53.
+#[no_mangle]
+pub extern "C" fn cavindorum_names_fault(site: &[u8], office: &[u8]) -> u8
+    ensures { λ r. ⌜ r ≡ namesFault (now (site .entry)) (now (office .entry)) ⌝ }
+{
+    fault(site, office)
 }

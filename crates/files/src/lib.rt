@@ -18,6 +18,13 @@ pub fn say(text: &[u8]) {
     io::write_all(STDERR_FILENO, text);
 }
 
+// Writes the first n bytes of a buffer to standard error, where it has so many.
+pub fn say_first(buffer: &[u8], n: usize) {
+    if n <= buffer.len() {
+        say(&buffer[..n]);
+    }
+}
+
 // Writes a line to standard error: what cannot be done, with which file, and errno's text.
 fn complain(what: &[u8], name: &[u8]) {
     say(what);

@@ -16,7 +16,7 @@ use Rattle.net.proofs.Every.{chosen}
 use Rattle.text.specs.Decimal.{decimal, signedDecimal}
 use Rattle.text.specs.Joined.{joined}
 use Rattle.lexemes.specs.Lexemes.{isDigit}
-use Rattle.registers.specs.Words.{Word, name, number, reading, address, wordText, spaced, lineText, printed}
+use Rattle.lines.specs.Words.{Word, name, number, reading, address, wordText, spaced, lineText, printed}
 use Rattle.listing.specs.Listing.{Checked, atFront, listed, carries, checkedFrom}
 use Rattle.listing.specs.ListingClaims.{PaddedNumber, padded, PaddedWord, as-it-is, a-number, above, below, an-address}
 use Rattle.listing.specs.ListingClaims.{PaddedWords, no-words, word-then, PaddedLine, empty-line, line-of}

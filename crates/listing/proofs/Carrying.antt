@@ -12,7 +12,7 @@ use borrow.Author.Tests.{lt-leb, eq-eqb, eqb-true}
 use Rattle.net.specs.Choice.{both}
 use Rattle.net.proofs.Laws.{both-l, both-r}
 use Rattle.lexemes.specs.Lexemes.{isDigit}
-use Rattle.registers.specs.Words.{Word, name, number, reading, address}
+use Rattle.lines.specs.Words.{Word, name, number, reading, address}
 use Rattle.listing.specs.Listing.{byteThen, textThen, digitsOf, afterDigits, writes, numberThen, wordThen, wordsThen}
 use Rattle.listing.specs.Listing.{nothingLeft, lineEnds, carries}
 use Rattle.listing.specs.ListingClaims.{PaddedNumber, PaddedWord, as-it-is, a-number, above, below, an-address}

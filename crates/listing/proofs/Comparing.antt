@@ -13,7 +13,7 @@ use Rattle.net.proofs.Laws.{both-l, both-r, choose-true, choose-false}
 use Rattle.net.proofs.Every.{chosen}
 use Rattle.text.specs.Decimal.{decimal, signedDecimal}
 use Rattle.lexemes.specs.Lexemes.{isDigit}
-use Rattle.registers.specs.Words.{Word, number, wordText, spaced, lineText, printed}
+use Rattle.lines.specs.Words.{Word, number, wordText, spaced, lineText, printed}
 use Rattle.listing.specs.Listing.{Checked, atFront, listed, byteThen, textThen, digitsOf, afterDigits, valueFrom, writes, numberThen}
 use Rattle.listing.specs.Listing.{wordThen, wordsThen, nothingLeft, lineEnds, carries, checkedFrom}
 use Rattle.listing.specs.Comparing.{standsFirst, partedAt, comparing}

@@ -13,7 +13,7 @@ use borrow.Author.Tests.{eqb-true, not-true}
 use Rattle.net.specs.Choice.{choose}
 use Rattle.net.proofs.Laws.{both-i, both-l, both-r, choose-false}
 use Rattle.net.proofs.Every.{chosen}
-use Rattle.registers.specs.Words.{Word, name, number, reading, address}
+use Rattle.lines.specs.Words.{Word, name, number, reading, address}
 use Rattle.listing.specs.Listing.{Checked, atFront, listed, carries, checkedFrom}
 use Rattle.listing.specs.ListingClaims.{PaddedWord, as-it-is, a-number, above, below, an-address}
 use Rattle.listing.specs.ListingClaims.{PaddedWords, no-words, word-then, PaddedLine, empty-line, line-of}

@@ -6,7 +6,7 @@ use mathlib.Core.List.{List, [], _∷_}
 use native.Mathlib.Omega.{arith}
 use lib.ListN.{length}
 use Rattle.net.specs.Choice.{choose}
-use Rattle.registers.specs.Words.{Word}
+use Rattle.lines.specs.Words.{Word}
 use Rattle.listing.specs.Listing.{Checked, carries, checkedFrom}
 use Rattle.listing.specs.ListingClaims.{PaddedLine, PaddedBelow, FirstFault, no-fault, line-differs, lines-wanting, lines-left}
 use Rattle.listing.proofs.Carrying.{line-carried, carried-line}

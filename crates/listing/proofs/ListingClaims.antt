@@ -7,8 +7,8 @@ use native.Mathlib.Nat.{le-trans}
 use lib.ListN.{getD, take, length-take}
 use Rattle.image.specs.Image.{openedOf}
 use Rattle.run.specs.Run.{runOf}
-use Rattle.registers.specs.Words.{printed}
-use Rattle.registers.specs.Shown.{current}
+use Rattle.lines.specs.Words.{printed}
+use Rattle.lines.specs.Shown.{current}
 use Rattle.registers.specs.Register.{registerIn, registerAs, registerOf}
 use Rattle.listing.specs.Listing.{Age, partsFor, wantedLines, listed, checkedOf, listingOf}
 use Rattle.listing.specs.ListingClaims.{PlainAgrees, PaddedAgrees, AgreesOnly, FaultIsFirst, longestListing, LongestListing, FirstBytesDecide}

@@ -12,12 +12,13 @@ use Rattle.net.specs.Records.{fieldAt, tupleAt, addressOf}
 use Rattle.net.proofs.Every.{chosen}
 use Rattle.run.specs.Run.{Outcome, refused, refused-text, ran, numbers}
 use Rattle.registers.specs.Types.{Locality, Item, Tuple, Node, Net, Fault}
-use Rattle.registers.specs.Words.{Word}
-use Rattle.registers.specs.declared.shown.Parts.{Parts}
-use Rattle.registers.specs.Shown.{unnamed}
-use Rattle.registers.specs.Lines.{fewer, refusalLine, placeWords, refusedLine, netLine, pickLine, madeLine, nameWords, nodeLine, itemWord, fieldWords, markWords}
-use Rattle.registers.specs.Lines.{tupleLine, tupleLines, nodeLines, netLines, totalLine, closingLines, afterLines}
-use Rattle.registers.specs.Lines.{pickLines, registerLines}
+use Rattle.lines.specs.Words.{Word}
+use Rattle.lines.specs.declared.shown.Parts.{Parts}
+use Rattle.lines.specs.Shown.{unnamed}
+use Rattle.lines.specs.Lines.{fewer, refusalLine, placeWords, refusedLine, netLine, pickLine, madeLine, nameWords, nodeLine, itemWord, fieldWords, markWords}
+use Rattle.lines.specs.Lines.{tupleLine, tupleLines, nodeLines, addressLines, netLines, totalLine, closingLines, afterLines}
+use Rattle.lines.specs.Lines.{pickLines}
+use Rattle.registers.specs.Register.{registerLines}
 use Rattle.registers.proofs.Longest.{fewer-below}
 use Rattle.listing.specs.ListingClaims.{longestListing}
 use Rattle.listing.proofs.FirstBytes.{wordRoom, wordsRoom, lineRoom, linesRoom}
@@ -87,15 +88,15 @@ module _ (parts : Parts) where
   unfolding tupleLine linesRoom lineRoom wordsRoom wordRoom bytes
   tuple-room a t = omega (arith, words-both (fieldWords t) (markWords parts t), fields-room t, mark-room t)
 
-  node-room : (a : Locality) (x : Node) → linesRoom (nodeLines (unnamed parts) a x) ≤ 1334
-  unfolding nodeLines nodeLine nameWords unnamed tupleLines linesRoom lineRoom wordsRoom wordRoom bytes
+  node-room : (a : Locality) (x : Node) → linesRoom (nodeLines parts [] a x) ≤ 1334
+  unfolding nodeLines nodeLine nameWords tupleLines linesRoom lineRoom wordsRoom wordRoom bytes
   node-room a x =
       let tuples = parts-most linesRoom no-lines lines-both (fewer (x .stored) 16) 16 81
       (λ i. tupleLine parts a (tupleAt x i) ∷ []) (fewer-below (x .stored) 16) (λ i. tuple-room a (tupleAt x i)) in
       omega (arith, tuples)
 
   nodes-room : (s : Net) → linesRoom (netLines (unnamed parts) s) ≤ 16 * 1334
-  unfolding netLines
+  unfolding netLines addressLines unnamed
   nodes-room s =
       parts-most linesRoom no-lines lines-both (fewer (s .addresses) 16) 16 1334 _ (fewer-below (s .addresses) 16)
       (λ a. node-room (addressOf a) _)

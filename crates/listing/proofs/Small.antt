@@ -29,7 +29,7 @@ use Rattle.run.specs.Run.{Ran, ran, numbers, ranFrom, runIn, runOf}
 use Rattle.run.proofs.SoundRuns.{ran-sound}
 use Rattle.registers.specs.Types.{Item, Tuple, Node, Net, Fault, Opened, Verdict}
 use Rattle.registers.proofs.Longest.{digits-below, fewer-below, answers-small, take-small}
-use Rattle.registers.specs.Lines.{fewer, itemWord, tuplesBelow, tupleCount}
+use Rattle.lines.specs.Lines.{fewer, itemWord, tuplesBelow, tupleCount}
 use Rattle.tenant.proofs.OpenedShaped.{opened-shaped}
 use Rattle.listing.proofs.Agreeing.{Fine, upward, downward, located, Short}
 use Rattle.listing.proofs.Wanted.{TupleHas, NodeHas, NetHas, PickHas, OutcomeHas, of-refused, of-run}

@@ -3,7 +3,7 @@
 -- Assumes nothing.
 use Prim.Native.Nat.{ℕ, _+_, _<_}
 use mathlib.Core.Path.{refl}
-use mathlib.Core.List.{List}
+use mathlib.Core.List.{List, []}
 use lib.ListN.{length, getD}
 use lib.IntN.{ℤ}
 use Rattle.text.specs.Bytes.{bytes}
@@ -14,12 +14,13 @@ use Rattle.lexemes.specs.Lexemes.{isDigit}
 use Rattle.step.specs.Pick.{hostOf, slotOf}
 use Rattle.run.specs.Run.{Ran, Outcome, refused, refused-text, ran, numbers}
 use Rattle.registers.specs.Types.{Locality, Item, Tuple, Node, Net, Fault}
-use Rattle.registers.specs.Words.{number}
-use Rattle.registers.specs.declared.shown.Parts.{Parts}
-use Rattle.registers.specs.Shown.{unnamed}
-use Rattle.registers.specs.Lines.{fewer, refusalLine, placeWords, refusedLine, netLine, pickLine, madeLine, nameWords, nodeLine, itemWord, fieldWords, markWords}
-use Rattle.registers.specs.Lines.{tupleLine, tupleLines, nodeLines, netLines, tupleCount, totalLine, closingLines, afterLines}
-use Rattle.registers.specs.Lines.{pickLines, registerLines}
+use Rattle.lines.specs.Words.{number}
+use Rattle.lines.specs.declared.shown.Parts.{Parts}
+use Rattle.lines.specs.Shown.{unnamed}
+use Rattle.lines.specs.Lines.{fewer, refusalLine, placeWords, refusedLine, netLine, pickLine, madeLine, nameWords, nodeLine, itemWord, fieldWords, markWords}
+use Rattle.lines.specs.Lines.{tupleLine, tupleLines, nodeLines, addressLines, netLines, tupleCount, totalLine, closingLines, afterLines}
+use Rattle.lines.specs.Lines.{pickLines}
+use Rattle.registers.specs.Register.{registerLines}
 use Rattle.listing.proofs.Agreeing.{Each, nil, cons, each-both, each-joined, plain, Fine, label, value, FineLines}
 
 -- ---- the numbers of a register
@@ -70,14 +71,14 @@ module _ {Q : ℕ → Type 0} (parts : Parts) where
       cons (label refl) (cons (value h)
       (each-both (each-joined (fewer (t .count) 4) _ (λ i l. cons (g .fields i l) nil)) (mark-fine t (g .mark))))
 
-  node-fine : (a : ℕ) (x : Node) → NodeHas Q a x → FineLines Q (nodeLines (unnamed parts) (addressOf a) x)
-  unfolding nodeLines nodeLine nameWords unnamed tupleLines bytes plain both isDigit
+  node-fine : (a : ℕ) (x : Node) → NodeHas Q a x → FineLines Q (nodeLines parts [] (addressOf a) x)
+  unfolding nodeLines nodeLine nameWords tupleLines bytes plain both isDigit
   node-fine a x h =
       cons (cons (label refl) (cons (value (h .at)) (cons (value (h .stored)) (cons (value (h .busy)) nil))))
       (each-joined (fewer (x .stored) 16) _ (λ i l. cons (tuple-fine (addressOf a) _ (h .at) (h .tuples i l)) nil))
 
   after-fine : (s : Net) → NetHas Q s → FineLines Q (afterLines (unnamed parts) s)
-  unfolding afterLines unnamed netLines closingLines totalLine bytes plain both isDigit
+  unfolding afterLines unnamed netLines addressLines closingLines totalLine bytes plain both isDigit
   after-fine s h =
       each-both (each-joined (fewer (s .addresses) 16) _ (λ a l. node-fine a _ (h .nodes a l)))
       (chosen (FineLines Q) (parts .total) _ _ (λ _. cons (cons (label refl) (cons (value (h .total)) nil)) nil) (λ _. nil))

@@ -12,10 +12,10 @@ use Rattle.net.specs.Choice.{choose, both, inRange}
 use Rattle.image.specs.Image.{openedOf}
 use Rattle.lexemes.specs.Lexemes.{isDigit}
 use Rattle.run.specs.Run.{runOf}
-use Rattle.registers.specs.Words.{Word, name, number, reading, address}
-use Rattle.registers.specs.declared.shown.Parts.{Parts}
-use Rattle.registers.specs.Shown.{unnamed, allParts}
-use Rattle.registers.specs.Lines.{registerLines}
+use Rattle.lines.specs.Words.{Word, name, number, reading, address}
+use Rattle.lines.specs.declared.shown.Parts.{Parts}
+use Rattle.lines.specs.Shown.{unnamed, allParts}
+use Rattle.registers.specs.Register.{registerLines}
 
 -- ---- what is wanted
 

@@ -7,7 +7,7 @@ use lib.ListN.{length, getD, take, replicate}
 use lib.IntN.{ℤ}
 use Rattle.net.specs.declared.locality.Locality.{Locality}
 use Rattle.text.specs.Decimal.{decimal}
-use Rattle.registers.specs.Words.{Word, name, number, reading, address, printed}
+use Rattle.lines.specs.Words.{Word, name, number, reading, address, printed}
 use Rattle.registers.specs.Register.{registerOf}
 use Rattle.listing.specs.Listing.{Age, Checked, wantedLines, listed, listingOf}
 

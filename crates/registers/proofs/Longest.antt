@@ -18,15 +18,17 @@ use Rattle.net.proofs.Every.{chosen, chosen-lt}
 use Rattle.plans.specs.Answer.{numberOf}
 use Rattle.step.specs.Pick.{hostOf, slotOf}
 use Rattle.run.specs.Run.{Ran, Outcome, refused, refused-text, ran, numbers}
-use Rattle.registers.specs.Types.{Locality, Item, Tuple, Node, Net, Answer, Fault}
-use Rattle.registers.specs.Words.{Word, name, number, wordText, spaced, lineText, printed}
-use Rattle.registers.specs.Shown.{Parts, Shown, unnamed, allParts, current}
-use Rattle.registers.specs.Lines.{fewer, refusalLine, placeWords, refusedLine, netLine, pickLine, madeLine, nameWords, nodeLine}
-use Rattle.registers.specs.Lines.{itemWord, fieldWords, markWords, tupleLine, tupleLines, nodeLines, netLines, pickLines, registerLines}
-use Rattle.registers.specs.Lines.{tupleCount, totalLine, closingLines, afterLines}
-use Rattle.registers.specs.Register.{registerIn, registerAs, registerOf, registerTextAs, registerTextOf}
-use Rattle.registers.specs.Longest.{longest, LongestShowing, LongestRegister, LongestTextRegister}
-use Rattle.registers.proofs.WordLaws.{spaced-none, spaced-both, printed-none, printed-both}
+use Rattle.registers.specs.Types.{Parts, Locality, Item, Tuple, Node, Net, Answer, Fault}
+use Rattle.lines.specs.Words.{Word, name, number, wordText, spaced, lineText, printed}
+use Rattle.lines.specs.Shown.{Shown, unnamed, named, allParts, current}
+use Rattle.lines.specs.Lines.{fewer, refusalLine, placeWords, refusedLine, netLine, pickLine, madeLine, nameWords, nodeLine}
+use Rattle.lines.specs.Lines.{itemWord, fieldWords, markWords, tupleLine, tupleLines, nodeLines, addressLines, netLines, pickLines}
+use Rattle.registers.specs.Register.{registerLines, registerIn, registerAs, registerOf, registerTextAs, registerTextOf}
+use Rattle.lines.specs.Lines.{tupleCount, totalLine, closingLines, afterLines}
+use Rattle.names.proofs.NameClaims.{nameIsShort}
+use Rattle.registers.specs.Register.{namedRegisterOf, namedRegisterTextOf}
+use Rattle.registers.specs.Longest.{longest, LongestShowing, LongestNamed, LongestRegister, LongestTextRegister}
+use Rattle.lines.proofs.WordLaws.{spaced-none, spaced-both, printed-none, printed-both}
 
 -- ---- numbers
 digits-short : (k n : ℕ) → length (digits k n) ≤ k
@@ -192,15 +194,16 @@ tuples-short parts a x =
 
 -- of names that are no longer than an entry's
 module _ (shown : Shown) (short : (l : Locality) → length (shown .names l) ≤ 15) where
-  node-lines-short : (a : Locality) (x : Node) → length (printed (nodeLines shown a x)) ≤ 2340
-  unfolding nodeLines
-  node-lines-short a x = lines-short _ _ 84 2256 (node-short (shown .names a) a _ _ (short a)) (tuples-short (shown .parts) a x)
+  address-short : (s : Net) (a : Locality) → length (printed (addressLines shown s a)) ≤ 2340
+  unfolding addressLines nodeLines
+  address-short s a =
+      lines-short _ _ 84 2256 (node-short (shown .names a) a _ _ (short a)) (tuples-short (shown .parts) a (nodeAt s a))
 
   net-lines-short : (s : Net) → length (printed (netLines shown s)) ≤ 37440
   unfolding netLines
   net-lines-short s =
       some-short printed printed-none printed-both (s .addresses) 16 2340 _
-      (λ a _. node-lines-short (addressOf a) (nodeAt s (addressOf a)))
+      (λ a _. address-short s (addressOf a))
 
 total-short : (n : ℕ) → length (printed (totalLine n ∷ [])) ≤ 27
 unfolding totalLine bytes
@@ -278,6 +281,18 @@ no-names-short parts l = omega arith
 pub longestShowing : LongestShowing
 unfolding LongestShowing registerAs
 longestShowing parts image picks h = first-short (unnamed parts) (no-names-short parts) _ picks _ h
+
+-- no name is longer than an entry's
+named-short : (parts : Parts) (site office : List ℕ) (l : Locality) → length (named parts site office .names l) ≤ 15
+unfolding named
+named-short parts site office l = nameIsShort .few site office l
+
+pub longestNamed : LongestNamed
+unfolding namedRegisterOf registerAs namedRegisterTextOf registerTextAs
+longestNamed = record {
+  of-image = λ site office image picks h. first-short (named allParts site office) (named-short allParts site office) _ picks _ h;
+  of-text = λ site office text picks h. first-short (named allParts site office) (named-short allParts site office) _ picks _ h;
+}
 
 pub longestRegister : LongestRegister
 unfolding LongestRegister LongestShowing registerOf current

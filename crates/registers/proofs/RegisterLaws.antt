@@ -11,81 +11,27 @@ use lib.Seq.{sets-eq, take-all, take-length, length-take-le}
 use lib.Dec.{leb}
 use borrow.Author.Tests.{lt-leb}
 use Rattle.net.specs.Choice.{choose}
-use Rattle.net.specs.Records.{processCount, nodeAt, addressOf}
-use Rattle.net.proofs.Laws.{choose-true, choose-false}
-use Rattle.net.proofs.FoldLaws.{fold-none, fold-more}
+use Rattle.net.proofs.Laws.{choose-false}
 use Rattle.text.specs.Buffer.{over}
 use Rattle.text.specs.Writing.{Wrote}
-use Rattle.text.proofs.WritingLaws.{wrote-nothing, wrote-length, joined-same}
+use Rattle.text.proofs.WritingLaws.{wrote-length, joined-same}
 use Rattle.image.specs.Image.{openedOf}
 use Rattle.notation.specs.Text.{readOf}
 use Rattle.plans.specs.Answer.{numberOf}
-use Rattle.step.specs.Pick.{hostOf, slotOf}
 use Rattle.run.specs.Run.{Outcome, ran, ranFrom, numbers}
 use Rattle.run.specs.Making.{Made}
 use Rattle.run.proofs.CallLaws.{ran-is, refused-is, text-ran-is, text-refused-is, answers-length}
-use Rattle.registers.specs.Types.{Locality, Node, Net, Fault, Opened, Verdict, TextOpened, TextVerdict}
-use Rattle.registers.specs.Words.{Word, printed}
-use Rattle.registers.specs.Shown.{Parts, Shown, unnamed, allParts, current}
-use Rattle.registers.specs.Lines.{fewer, refusalLine, refusedLine, netLine, pickLine, madeLine, nodeLine}
-use Rattle.registers.specs.Lines.{tupleLines, nodeLines, netLines, pickLines, registerLines}
-use Rattle.registers.specs.Lines.{tuplesBelow, tupleCount, totalLine, closingLines, afterLines}
-use Rattle.registers.specs.Register.{registerIn, registerAs, registerOf, registerTextAs, registerTextOf}
+use Rattle.registers.specs.Types.{Parts, Net, Fault, Opened, Verdict, TextOpened, TextVerdict}
+use Rattle.lines.specs.Words.{Word, printed}
+use Rattle.lines.specs.Shown.{Shown, unnamed, named, allParts, current}
+use Rattle.lines.specs.Lines.{refusalLine, refusedLine, netLine, madeLine}
+use Rattle.lines.specs.Lines.{pickLines}
+use Rattle.registers.specs.Register.{registerLines, registerIn, registerAs, registerOf, registerTextAs, registerTextOf}
+use Rattle.registers.specs.Register.{namedRegisterOf, namedRegisterTextOf}
+use Rattle.lines.specs.Lines.{afterLines}
 use Rattle.registers.specs.Calls.{Registered, writtenIn, registeredOf, registeredNumber, roomNumber}
-use Rattle.registers.proofs.WordLaws.{printed-none, printed-both, parts-then, lines-then}
-
--- ---- lines whose numbers a callee gave
-pub made-line :
-    (xs : List ℕ) (at i b x : ℕ) (a : Locality) (k : ℕ) (ys : List ℕ) (r : ℕ) → a ≡ hostOf b → k ≡ slotOf b
-    → Wrote xs at (printed (pickLine i a k x ∷ [])) ys r → Wrote xs at (printed (madeLine i b x ∷ [])) ys r
-unfolding madeLine
-made-line xs at i b x a k ys r d e h = rw (← d, ← e) h
-
-pub node-lines :
-    (parts : Parts) (xs : List ℕ) (at : ℕ) (a : Locality) (x : Node) (busy : ℕ) (ys zs : List ℕ) (r q : ℕ) → busy ≡ processCount x
-    → Wrote xs at (printed (nodeLine [] a (x .stored) busy ∷ [])) ys r → Wrote ys r (printed (tupleLines parts a x)) zs q
-    → Wrote xs at (printed (nodeLines (unnamed parts) a x)) zs q
-unfolding nodeLines unnamed
-node-lines parts xs at a x busy ys zs r q e h k =
-    lines-then xs at _ _ _ _ _ _ (subst (λ (n : ℕ). Wrote xs at (printed (nodeLine [] a (x .stored) n ∷ [])) ys r) e h) k
-
--- ---- the total
-module _ (s : Net) where
-  pub tuples-none : 0 ≡ tuplesBelow s 0
-  unfolding tuplesBelow
-  tuples-none = fold-none _ 0 0 refl
-
-  -- one address more is counted
-  pub tuples-more :
-      (i n k : ℕ) → n ≡ tuplesBelow s i → k ≡ fewer (nodeAt s (addressOf i) .stored) 16 → n + k ≡ tuplesBelow s (i + 1)
-  unfolding tuplesBelow
-  tuples-more i n k e f = fold-more _ 0 i n (n + k) e (ap (λ (m : ℕ). n + m) f)
-
-  pub tuples-all :
-      (i n k : ℕ) → k ≡ tuplesBelow s i → i ≤ n → n ≤ i → n ≡ fewer (s .addresses) 16 → k ≡ tupleCount s
-  unfolding tupleCount
-  tuples-all i n k e l m f = let same : i ≡ fewer (s .addresses) 16 = omega arith in e ∙ ap (tuplesBelow s) same
-
-pub counted-line :
-    (xs : List ℕ) (at n : ℕ) (s : Net) (ys : List ℕ) (r : ℕ) → n ≡ tupleCount s → Wrote xs at (printed (totalLine n ∷ [])) ys r
-    → Wrote xs at (printed (totalLine (tupleCount s) ∷ [])) ys r
-counted-line xs at n s ys r e h = subst (λ (m : ℕ). Wrote xs at (printed (totalLine m ∷ [])) ys r) e h
-
--- ---- what may be left out
-module _ {A : Type 0} (g : List A → List ℕ) (none : g [] ≡ []) (xs : List ℕ) (at : ℕ) (t : Bool) (part : List A) where
-  pub part-shown : (ys : List ℕ) (r : ℕ) → t ≡ true → Wrote xs at (g part) ys r → Wrote xs at (g (choose t part [])) ys r
-  part-shown ys r e h = subst (λ (u : List A). Wrote xs at (g u) ys r) (sym (choose-true t part [] e)) h
-
-  pub part-left : t ≡ false → Wrote xs at (g (choose t part [])) xs at
-  part-left e =
-      subst (λ (u : List A). Wrote xs at (g u) xs at) (sym (choose-false t part [] e))
-      (subst (λ (u : List ℕ). Wrote xs at u xs at) (sym none) (wrote-nothing xs at))
-
-pub after-lines :
-    (parts : Parts) (xs : List ℕ) (at : ℕ) (s : Net) (ys zs : List ℕ) (r q : ℕ) → Wrote xs at (printed (netLines (unnamed parts) s)) ys r
-    → Wrote ys r (printed (closingLines parts s)) zs q → Wrote xs at (printed (afterLines (unnamed parts) s)) zs q
-unfolding afterLines unnamed
-after-lines parts xs at s ys zs r q h k = parts-then printed printed-none printed-both _ _ _ _ _ _ _ _ h k
+use Rattle.lines.proofs.LineLaws.{named-none}
+use Rattle.lines.proofs.WordLaws.{printed-none, printed-both, parts-then, lines-then}
 
 -- ---- a register
 chosen-number : (b : Bool) (n : ℕ) → registeredNumber (choose b (Registered.Written n) Registered.NoRoom) ≡ choose b 0 35
@@ -128,7 +74,7 @@ unfolding over
 over-at xs text i h g =
     ap (λ (ys : List ℕ). getD ys i 0) (sets-eq text xs 0 (omega arith)) ∙ List·getD-append text _ 0 i g
 
-module _ (parts : Parts) (s : Net) (picks xs ys : List ℕ) (last : Net) (m : Made s picks xs ys last) (room : length picks ≤ length xs) where
+module _ (shown : Shown) (s : Net) (picks xs ys : List ℕ) (last : Net) (m : Made s picks xs ys last) (room : length picks ≤ length xs) where
   numbers-length : length (numbers (ranFrom s picks)) ≡ length picks
   unfolding numbers
   numbers-length = length-map (ranFrom s picks .answers) numberOf ∙ answers-length s picks
@@ -145,14 +91,14 @@ module _ (parts : Parts) (s : Net) (picks xs ys : List ℕ) (last : Net) (m : Ma
       (out₀ out₁ out₂ out₃ : List ℕ) (p q r : ℕ)
       → Wrote out₀ 0 (printed (netLine (s .addresses) (s .length) ∷ [])) out₁ p
       → Wrote out₁ p (printed (pickLines picks ys)) out₂ q
-      → Wrote out₂ q (printed (afterLines (unnamed parts) last)) out₃ r
-      → Wrote out₀ 0 (registerIn (unnamed parts) s picks (ran (ranFrom s picks))) out₃ r
+      → Wrote out₂ q (printed (afterLines shown last)) out₃ r
+      → Wrote out₀ 0 (registerIn shown s picks (ran (ranFrom s picks))) out₃ r
   unfolding registerIn registerLines
   register-run out₀ out₁ out₂ out₃ p q r a b c =
       lines-then _ _ _ _ _ _ _ _ a
       (parts-then printed printed-none printed-both _ _ _ _ _ _ _ _
       (subst (λ (t : List (List Word)). Wrote out₁ p (printed t) out₂ q) lines-same b)
-      (subst (λ (z : Net). Wrote out₂ q (printed (afterLines (unnamed parts) z)) out₃ r) (m .net-is) c))
+      (subst (λ (z : Net). Wrote out₂ q (printed (afterLines shown z)) out₃ r) (m .net-is) c))
 
 -- of the net and the outcome that the image or the text has
 register-as :
@@ -160,37 +106,47 @@ register-as :
     → Wrote xs 0 (registerIn shown t picks y) ys r
 register-as shown picks xs ys r s t x y d e w = rw (← d, ← e) w
 
-module _ (parts : Parts) (image picks : List ℕ) (o : Opened) (read : o ≡ openedOf image) (xs ys : List ℕ) (r : ℕ) where
+module _ (parts : Parts) (site office image picks : List ℕ) (o : Opened) (read : o ≡ openedOf image) (xs ys : List ℕ) (r : ℕ) where
   pub register-accepted :
       o .answer ≡ Verdict.Accepted
-      → Wrote xs 0 (registerIn (unnamed parts) (o .net) (take 65536 picks) (ran (ranFrom (o .net) (take 65536 picks)))) ys r
-      → Wrote xs 0 (registerAs (unnamed parts) image picks) ys r
+      → Wrote xs 0 (registerIn (named parts site office) (o .net) (take 65536 picks) (ran (ranFrom (o .net) (take 65536 picks)))) ys r
+      → Wrote xs 0 (registerAs (named parts site office) image picks) ys r
   unfolding registerAs
   register-accepted a w =
       register-as _ _ xs ys r _ _ _ _ (ap (λ (z : Opened). z .net) read) (ran-is image o read (take 65536 picks) a) w
 
   pub register-refused :
       (f : Fault) → o .answer ≡ Verdict.Refused f → Wrote xs 0 (printed (refusedLine parts f ∷ [])) ys r
-      → Wrote xs 0 (registerAs (unnamed parts) image picks) ys r
-  unfolding registerAs registerIn registerLines unnamed
+      → Wrote xs 0 (registerAs (named parts site office) image picks) ys r
+  unfolding registerAs registerIn registerLines named
   register-refused f a w =
       register-as _ _ xs ys r _ _ _ _ (ap (λ (z : Opened). z .net) read) (refused-is image o read (take 65536 picks) f a) w
 
-module _ (parts : Parts) (text picks : List ℕ) (o : TextOpened) (read : o ≡ readOf text) (xs ys : List ℕ) (r : ℕ) where
+module _ (parts : Parts) (site office text picks : List ℕ) (o : TextOpened) (read : o ≡ readOf text) (xs ys : List ℕ) (r : ℕ) where
   pub text-accepted :
       o .answer ≡ TextVerdict.Accepted
-      → Wrote xs 0 (registerIn (unnamed parts) (o .net) (take 65536 picks) (ran (ranFrom (o .net) (take 65536 picks)))) ys r
-      → Wrote xs 0 (registerTextAs (unnamed parts) text picks) ys r
+      → Wrote xs 0 (registerIn (named parts site office) (o .net) (take 65536 picks) (ran (ranFrom (o .net) (take 65536 picks)))) ys r
+      → Wrote xs 0 (registerTextAs (named parts site office) text picks) ys r
   unfolding registerTextAs
   text-accepted a w =
       register-as _ _ xs ys r _ _ _ _ (ap (λ (z : TextOpened). z .net) read) (text-ran-is text o read (take 65536 picks) a) w
 
   pub text-refused :
       (n : ℕ) → o .answer ≡ TextVerdict.Refused n → Wrote xs 0 (printed (refusalLine n ∷ [])) ys r
-      → Wrote xs 0 (registerTextAs (unnamed parts) text picks) ys r
+      → Wrote xs 0 (registerTextAs (named parts site office) text picks) ys r
   unfolding registerTextAs registerIn registerLines
   text-refused n a w =
       register-as _ _ xs ys r _ _ _ _ (ap (λ (z : TextOpened). z .net) read) (text-refused-is text o read (take 65536 picks) n a) w
+
+-- ---- without names
+module _ (parts : Parts) (source picks xs ys : List ℕ) (r : ℕ) where
+  pub unnamed-as : Wrote xs 0 (registerAs (named parts [] []) source picks) ys r → Wrote xs 0 (registerAs (unnamed parts) source picks) ys r
+  unnamed-as w = subst (λ (shown : Shown). Wrote xs 0 (registerAs shown source picks) ys r) (named-none parts) w
+
+  pub unnamed-text-as :
+      Wrote xs 0 (registerTextAs (named parts [] []) source picks) ys r
+      → Wrote xs 0 (registerTextAs (unnamed parts) source picks) ys r
+  unnamed-text-as w = subst (λ (shown : Shown). Wrote xs 0 (registerTextAs shown source picks) ys r) (named-none parts) w
 
 -- ---- all that there is to show
 module _ (parts : Parts) (all : parts ≡ allParts) (source picks xs ys : List ℕ) (r : ℕ) where
@@ -202,6 +158,18 @@ module _ (parts : Parts) (all : parts ≡ allParts) (source picks xs ys : List �
       Wrote xs 0 (registerTextAs (unnamed parts) source picks) ys r → Wrote xs 0 (registerTextOf source picks) ys r
   unfolding registerTextOf current
   current-text-as w = subst (λ (p : Parts). Wrote xs 0 (registerTextAs (unnamed p) source picks) ys r) all w
+
+  pub named-as :
+      (site office : List ℕ) → Wrote xs 0 (registerAs (named parts site office) source picks) ys r
+      → Wrote xs 0 (namedRegisterOf site office source picks) ys r
+  unfolding namedRegisterOf
+  named-as site office w = subst (λ (p : Parts). Wrote xs 0 (registerAs (named p site office) source picks) ys r) all w
+
+  pub named-text-as :
+      (site office : List ℕ) → Wrote xs 0 (registerTextAs (named parts site office) source picks) ys r
+      → Wrote xs 0 (namedRegisterTextOf site office source picks) ys r
+  unfolding namedRegisterTextOf
+  named-text-as site office w = subst (λ (p : Parts). Wrote xs 0 (registerTextAs (named p site office) source picks) ys r) all w
 
 -- ---- the picks that count
 pub first-all : (picks : List ℕ) → length picks < 65536 → take (length picks) picks ≡ take 65536 picks

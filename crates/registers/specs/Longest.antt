@@ -2,8 +2,9 @@
 use Prim.Native.Nat.{ℕ, _<_, _≤_}
 use mathlib.Core.List.{List}
 use lib.ListN.{length, getD}
-use Rattle.registers.specs.Shown.{Parts, unnamed}
-use Rattle.registers.specs.Register.{registerAs, registerOf, registerTextOf}
+use Rattle.lines.specs.Shown.{unnamed}
+use Rattle.registers.specs.Types.{Parts}
+use Rattle.registers.specs.Register.{registerAs, registerOf, registerTextOf, namedRegisterOf, namedRegisterTextOf}
 
 -- so many bytes
 unfoldable pub longest : ℕ
@@ -23,3 +24,12 @@ LongestTextRegister =
 unfoldable pub LongestShowing : Type 0
 LongestShowing =
     (parts : Parts) (image picks : List ℕ) → ((i : ℕ) → getD picks i 0 < 256) → length (registerAs (unnamed parts) image picks) ≤ longest
+
+-- nor is one with names (document 02, slip 14)
+pub record LongestNamed : Type 0 where
+  pub of-image :
+      (site office image picks : List ℕ) → ((i : ℕ) → getD picks i 0 < 256)
+      → length (namedRegisterOf site office image picks) ≤ longest
+  pub of-text :
+      (site office text picks : List ℕ) → ((i : ℕ) → getD picks i 0 < 256)
+      → length (namedRegisterTextOf site office text picks) ≤ longest

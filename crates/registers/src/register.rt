@@ -1,13 +1,13 @@
 // The register of an image or a text and its picks (document 01, "The register").
-use crate::lines::put_after;
-use crate::lines::put_net;
-use crate::lines::put_picks;
-use crate::lines::put_refusal;
-use crate::lines::put_refused;
-use crate::shown::Parts;
-use crate::shown::all_parts;
 use image::reader::Verdict;
 use image::reader::read_image;
+use lines::lines::put_after;
+use lines::lines::put_net;
+use lines::lines::put_picks;
+use lines::lines::put_refusal;
+use lines::lines::put_refused;
+use lines::shown::Parts;
+use lines::shown::all_parts;
 use net::network::Net;
 use notation::reading::Verdict as TextVerdict;
 use notation::reading::read_text;
@@ -21,8 +21,8 @@ ghost use Rattle.text.specs.Writing.{Wrote};
 ghost use Rattle.sound.specs.Soundness.{soundOf};
 ghost use Rattle.run.specs.Run.{ran, ranFrom};
 ghost use Rattle.registers.specs.Calls.{writtenIn, registeredOf, registeredNumber, roomNumber};
-ghost use Rattle.registers.specs.Shown.{unnamed};
-ghost use Rattle.registers.specs.Register.{registerIn, registerAs, registerOf, registerTextAs, registerTextOf};
+ghost use Rattle.lines.specs.Shown.{unnamed, named};
+ghost use Rattle.registers.specs.Register.{registerIn, registerAs, registerOf, registerTextAs, registerTextOf, namedRegisterOf, namedRegisterTextOf};
 
 // A register was written whole, with its length, or the buffer is too short.
 pub enum Registered {
@@ -31,15 +31,22 @@ pub enum Registered {
 }
 
 // The register of a sound net and at most 65,536 picks.
-fn put_run(net: Net, picks: &[u8], parts: Parts, out: &mut [u8]) -> usize
+fn put_run<'a>(
+    net: Net,
+    picks: &[u8],
+    parts: Parts,
+    site: &'a [u8],
+    office: &'a [u8],
+    out: &mut [u8],
+) -> usize
     requires { ⌜ (soundOf net ≡ true) × (length (now picks) ≤ 65536) ⌝ }
-    ensures { λ r. ⌜ Wrote (now (out .entry)) 0 (registerIn (unnamed parts) net (now (picks .entry)) (ran (ranFrom net (now (picks .entry))))) (now (out .exit)) r ⌝ }
+    ensures { λ r. ⌜ Wrote (now (out .entry)) 0 (registerIn (named parts (now (site .entry)) (now (office .entry))) net (now (picks .entry)) (ran (ranFrom net (now (picks .entry))))) (now (out .exit)) r ⌝ }
 {
     let mut answers = [0u8; 65536];
     let last = make(net, picks, &mut answers);
     let first = put_net(out, 0, net.addresses, net.length);
     let second = put_picks(out, first, picks, &answers);
-    put_after(out, second, parts, last)
+    put_after(out, second, parts, site, office, last)
 }
 
 // How many picks count.
@@ -54,53 +61,114 @@ fn first_picks(picks: &[u8]) -> usize
 }
 
 // The register of a sound net and the picks that count.
-fn put_first(net: Net, picks: &[u8], parts: Parts, out: &mut [u8]) -> usize
+fn put_first<'a>(
+    net: Net,
+    picks: &[u8],
+    parts: Parts,
+    site: &'a [u8],
+    office: &'a [u8],
+    out: &mut [u8],
+) -> usize
     requires { ⌜ soundOf net ≡ true ⌝ }
-    ensures { λ r. ⌜ Wrote (now (out .entry)) 0 (registerIn (unnamed parts) net (take 65536 (now (picks .entry))) (ran (ranFrom net (take 65536 (now (picks .entry)))))) (now (out .exit)) r ⌝ }
+    ensures { λ r. ⌜ Wrote (now (out .entry)) 0 (registerIn (named parts (now (site .entry)) (now (office .entry))) net (take 65536 (now (picks .entry))) (ran (ranFrom net (take 65536 (now (picks .entry)))))) (now (out .exit)) r ⌝ }
 {
     let n = first_picks(picks);
-    put_run(net, &picks[..n], parts, out)
+    put_run(net, &picks[..n], parts, site, office, out)
 }
 
 // The register of an image and its picks, from the buffer's start.
-fn put_register(image: &[u8], picks: &[u8], parts: Parts, out: &mut [u8]) -> usize
-    ensures { λ r. ⌜ Wrote (now (out .entry)) 0 (registerAs (unnamed parts) (now (image .entry)) (now (picks .entry))) (now (out .exit)) r ⌝ }
+fn put_register<'a>(
+    image: &[u8],
+    picks: &[u8],
+    parts: Parts,
+    site: &'a [u8],
+    office: &'a [u8],
+    out: &mut [u8],
+) -> usize
+    ensures { λ r. ⌜ Wrote (now (out .entry)) 0 (registerAs (named parts (now (site .entry)) (now (office .entry))) (now (image .entry)) (now (picks .entry))) (now (out .exit)) r ⌝ }
 {
     let opened = read_image(image);
     let answer = opened.answer;
     let net = opened.net;
     match answer {
-        Verdict::Accepted => put_first(net, picks, parts, out),
+        Verdict::Accepted => put_first(net, picks, parts, site, office, out),
         Verdict::Refused(fault) => put_refused(out, 0, parts, fault),
     }
 }
 
 // The register of a text and its picks, from the buffer's start.
-fn put_text_register(text: &[u8], picks: &[u8], parts: Parts, out: &mut [u8]) -> usize
-    ensures { λ r. ⌜ Wrote (now (out .entry)) 0 (registerTextAs (unnamed parts) (now (text .entry)) (now (picks .entry))) (now (out .exit)) r ⌝ }
+fn put_text_register<'a>(
+    text: &[u8],
+    picks: &[u8],
+    parts: Parts,
+    site: &'a [u8],
+    office: &'a [u8],
+    out: &mut [u8],
+) -> usize
+    ensures { λ r. ⌜ Wrote (now (out .entry)) 0 (registerTextAs (named parts (now (site .entry)) (now (office .entry))) (now (text .entry)) (now (picks .entry))) (now (out .exit)) r ⌝ }
 {
     let opened = read_text(text);
     let answer = opened.answer;
     let net = opened.net;
     match answer {
-        TextVerdict::Accepted => put_first(net, picks, parts, out),
+        TextVerdict::Accepted => put_first(net, picks, parts, site, office, out),
         TextVerdict::Refused(n) => put_refusal(out, 0, n),
     }
 }
 
-// The registers that show all there is to show.
+// The registers without names.
+fn put_unnamed(image: &[u8], picks: &[u8], parts: Parts, out: &mut [u8]) -> usize
+    ensures { λ r. ⌜ Wrote (now (out .entry)) 0 (registerAs (unnamed parts) (now (image .entry)) (now (picks .entry))) (now (out .exit)) r ⌝ }
+{
+    put_register(image, picks, parts, b"", b"", out)
+}
+
+fn put_unnamed_text(text: &[u8], picks: &[u8], parts: Parts, out: &mut [u8]) -> usize
+    ensures { λ r. ⌜ Wrote (now (out .entry)) 0 (registerTextAs (unnamed parts) (now (text .entry)) (now (picks .entry))) (now (out .exit)) r ⌝ }
+{
+    put_text_register(text, picks, parts, b"", b"", out)
+}
+
+// Those that show all there is to show.
 fn put_current(image: &[u8], picks: &[u8], out: &mut [u8]) -> usize
     ensures { λ r. ⌜ Wrote (now (out .entry)) 0 (registerOf (now (image .entry)) (now (picks .entry))) (now (out .exit)) r ⌝ }
 {
     let parts = all_parts();
-    put_register(image, picks, parts, out)
+    put_unnamed(image, picks, parts, out)
 }
 
 fn put_current_text(text: &[u8], picks: &[u8], out: &mut [u8]) -> usize
     ensures { λ r. ⌜ Wrote (now (out .entry)) 0 (registerTextOf (now (text .entry)) (now (picks .entry))) (now (out .exit)) r ⌝ }
 {
     let parts = all_parts();
-    put_text_register(text, picks, parts, out)
+    put_unnamed_text(text, picks, parts, out)
+}
+
+// And with the names that the lists give.
+fn put_named<'a>(
+    image: &[u8],
+    picks: &[u8],
+    site: &'a [u8],
+    office: &'a [u8],
+    out: &mut [u8],
+) -> usize
+    ensures { λ r. ⌜ Wrote (now (out .entry)) 0 (namedRegisterOf (now (site .entry)) (now (office .entry)) (now (image .entry)) (now (picks .entry))) (now (out .exit)) r ⌝ }
+{
+    let parts = all_parts();
+    put_register(image, picks, parts, site, office, out)
+}
+
+fn put_named_text<'a>(
+    text: &[u8],
+    picks: &[u8],
+    site: &'a [u8],
+    office: &'a [u8],
+    out: &mut [u8],
+) -> usize
+    ensures { λ r. ⌜ Wrote (now (out .entry)) 0 (namedRegisterTextOf (now (site .entry)) (now (office .entry)) (now (text .entry)) (now (picks .entry))) (now (out .exit)) r ⌝ }
+{
+    let parts = all_parts();
+    put_text_register(text, picks, parts, site, office, out)
 }
 
 // What is answered where a register ends at a place, in a buffer of so many bytes.
@@ -114,13 +182,13 @@ fn answer_at(end: usize, room: usize) -> Registered
     }
 }
 
-// Writes the register of an image and its picks with so much shown.
+// Writes the register of an image and its picks into the buffer, with so much shown and without names.
 pub fn register_showing(image: &[u8], picks: &[u8], parts: Parts, out: &mut [u8]) -> Registered
     ensures { λ r. ⌜ r ≡ registeredOf (registerAs (unnamed parts) (now (image .entry)) (now (picks .entry))) (length (now (out .entry))) ⌝ }
     ensures { λ r. ⌜ registeredNumber r ≡ roomNumber (length (registerAs (unnamed parts) (now (image .entry)) (now (picks .entry)))) (length (now (out .entry))) ⌝ }
     ensures { λ _. ⌜ now (out .exit) ≡ over (now (out .entry)) 0 (registerAs (unnamed parts) (now (image .entry)) (now (picks .entry))) ⌝ }
 {
-    let end = put_register(image, picks, parts, out);
+    let end = put_unnamed(image, picks, parts, out);
     answer_at(end, out.len())
 }
 
@@ -141,5 +209,37 @@ pub fn register_text(text: &[u8], picks: &[u8], out: &mut [u8]) -> Registered
     ensures { λ _. ⌜ now (out .exit) ≡ over (now (out .entry)) 0 (registerTextOf (now (text .entry)) (now (picks .entry))) ⌝ }
 {
     let end = put_current_text(text, picks, out);
+    answer_at(end, out.len())
+}
+
+// The same with the station names that a site's list and the office's give.
+pub fn named_register<'a>(
+    image: &[u8],
+    picks: &[u8],
+    site: &'a [u8],
+    office: &'a [u8],
+    out: &mut [u8],
+) -> Registered
+    ensures { λ r. ⌜ r ≡ registeredOf (namedRegisterOf (now (site .entry)) (now (office .entry)) (now (image .entry)) (now (picks .entry))) (length (now (out .entry))) ⌝ }
+    ensures { λ r. ⌜ registeredNumber r ≡ roomNumber (length (namedRegisterOf (now (site .entry)) (now (office .entry)) (now (image .entry)) (now (picks .entry)))) (length (now (out .entry))) ⌝ }
+    ensures { λ _. ⌜ now (out .exit) ≡ over (now (out .entry)) 0 (namedRegisterOf (now (site .entry)) (now (office .entry)) (now (image .entry)) (now (picks .entry))) ⌝ }
+{
+    let end = put_named(image, picks, site, office, out);
+    answer_at(end, out.len())
+}
+
+// The same of a text.
+pub fn named_register_text<'a>(
+    text: &[u8],
+    picks: &[u8],
+    site: &'a [u8],
+    office: &'a [u8],
+    out: &mut [u8],
+) -> Registered
+    ensures { λ r. ⌜ r ≡ registeredOf (namedRegisterTextOf (now (site .entry)) (now (office .entry)) (now (text .entry)) (now (picks .entry))) (length (now (out .entry))) ⌝ }
+    ensures { λ r. ⌜ registeredNumber r ≡ roomNumber (length (namedRegisterTextOf (now (site .entry)) (now (office .entry)) (now (text .entry)) (now (picks .entry)))) (length (now (out .entry))) ⌝ }
+    ensures { λ _. ⌜ now (out .exit) ≡ over (now (out .entry)) 0 (namedRegisterTextOf (now (site .entry)) (now (office .entry)) (now (text .entry)) (now (picks .entry))) ⌝ }
+{
+    let end = put_named_text(text, picks, site, office, out);
     answer_at(end, out.len())
 }

@@ -6,7 +6,7 @@ use Rattle.text.specs.Bytes.{bytes}
 use Rattle.text.specs.Decimal.{digit, digits, decimal}
 use Rattle.text.specs.Joined.{joined}
 use Rattle.step.specs.Pick.{hostOf}
-use Rattle.registers.specs.Words.{wordText, spaced, lineText, printed}
+use Rattle.lines.specs.Words.{wordText, spaced, lineText, printed}
 use Rattle.season.specs.Fractions.{fraction, euclid, greatestDivisor, dividedBy, lowest, larger, against, considered}
 use Rattle.season.specs.Fractions.{fractionAt, bestOf}
 use Rattle.season.specs.Season.{tallied, counts, performs, picksAt, performedAt, shareAt, leftIn, leftAt, summed, allPicks}

@@ -13,7 +13,7 @@ use Rattle.net.proofs.Laws.{choose-true, choose-false}
 use Rattle.net.proofs.Every.{Every, every-replicate, every-set, every-weaken}
 use Rattle.net.proofs.FoldLaws.{fold-keeps}
 use Rattle.text.specs.Joined.{joined}
-use Rattle.registers.specs.Words.{Word, printed}
+use Rattle.lines.specs.Words.{Word, printed}
 use Rattle.season.specs.Types.{Locality}
 use Rattle.season.specs.Fractions.{bestOf}
 use Rattle.season.specs.Season.{Run, MadeRun, madeOf, madeRuns, performedAt, picksAt, leftAt, shareAt, summed, sharesAt}

@@ -11,7 +11,7 @@ use Rattle.text.specs.Decimal.{decimal}
 use Rattle.text.specs.Joined.{joined}
 use Rattle.step.specs.Pick.{hostOf}
 use Rattle.run.specs.Run.{Outcome, refused, refused-text, ran, numbers, runOf}
-use Rattle.registers.specs.Words.{Word, name, number, printed}
+use Rattle.lines.specs.Words.{Word, name, number, printed}
 use Rattle.season.specs.Types.{Locality, Net}
 use Rattle.season.specs.Fractions.{Fraction, fraction, lowest, Best, bestOf}
 

@@ -9,7 +9,7 @@ use Rattle.net.specs.Choice.{choose, fold}
 use Rattle.net.specs.Records.{addressOf}
 use Rattle.text.specs.Bytes.{bytes}
 use Rattle.text.specs.Joined.{joined}
-use Rattle.registers.specs.Words.{Word, name, number, printed}
+use Rattle.lines.specs.Words.{Word, name, number, printed}
 use Rattle.season.specs.Types.{Locality}
 use Rattle.season.specs.Fractions.{fraction, lowest, Best, considered}
 use Rattle.season.specs.Season.{Run, MadeRun, madeOf, performedAt, picksAt, leftAt, fractionWord, shareWord, bestWord}

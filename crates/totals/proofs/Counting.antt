@@ -8,11 +8,11 @@ use Rattle.net.specs.Records.{fieldAt, tupleAt, nodeAt, addressOf}
 use Rattle.text.specs.Bytes.{bytes}
 use Rattle.run.specs.Run.{Ran, ran, numbers}
 use Rattle.registers.specs.Types.{Locality, Tuple, Node, Net}
-use Rattle.registers.specs.Words.{Word, wordText, spaced, printed}
-use Rattle.registers.specs.Shown.{unnamed, allParts, current}
-use Rattle.registers.specs.Lines.{fewer, netLine, pickLine, madeLine, nameWords, nodeLine, fieldWords, tupleLine, tupleLines, nodeLines}
-use Rattle.registers.specs.Lines.{netLines, pickLines, tuplesBelow, tupleCount, totalLine, closingLines, afterLines, registerLines}
-use Rattle.registers.specs.Register.{registerIn}
+use Rattle.lines.specs.Words.{Word, wordText, spaced, printed}
+use Rattle.lines.specs.Shown.{unnamed, allParts, current}
+use Rattle.lines.specs.Lines.{fewer, netLine, pickLine, madeLine, nameWords, nodeLine, fieldWords, tupleLine, tupleLines, nodeLines}
+use Rattle.lines.specs.Lines.{addressLines, netLines, pickLines, tuplesBelow, tupleCount, totalLine, closingLines, afterLines}
+use Rattle.registers.specs.Register.{registerLines, registerIn}
 use Rattle.totals.specs.TextLines.{linesOf, lastOr, opensWith}
 use Rattle.totals.specs.TotalClaims.{TotalIs, tupleLinesIn}
 use Rattle.totals.proofs.Whole.{clean, no-words, number-more, plain-both, mark-plain, items-plain, Whole, whole-both, whole-line}
@@ -44,15 +44,15 @@ tuples-whole : (a : Locality) (x : Node) → Whole (printed (tupleLines allParts
 unfolding tupleLines
 tuples-whole a x = subst (Whole _) (omega arith) (whole-each (fewer (x .stored) 16) 1 _ (λ i. tuple-whole a (tupleAt x i)))
 
-node-lines-whole : (a : Locality) (x : Node) → Whole (printed (nodeLines current a x)) (fewer (x .stored) 16)
-unfolding nodeLines current unnamed
+node-lines-whole : (a : Locality) (x : Node) → Whole (printed (nodeLines allParts [] a x)) (fewer (x .stored) 16)
+unfolding nodeLines
 node-lines-whole a x =
     subst (Whole _) (omega arith) (whole-both (nodeLine [] a _ _ ∷ []) (tupleLines allParts a x) 0 _ (node-whole a _ _) (tuples-whole a x))
 
 net-lines-whole : (s : Net) → Whole (printed (netLines current s)) (tupleCount s)
-unfolding netLines tupleCount tuplesBelow
+unfolding netLines addressLines current unnamed tupleCount tuplesBelow
 net-lines-whole s =
-    whole-parts (fewer (s .addresses) 16) _ (λ a. fewer (nodeAt s (addressOf a) .stored) 16) (λ a. node-lines-whole _ _)
+    whole-parts (fewer (s .addresses) 16) _ (λ a. fewer (nodeAt s (addressOf a) .stored) 16) (λ a. node-lines-whole (addressOf a) _)
 
 module _ (s : Net) (picks : List ℕ) (r : Ran) where
   abbrev above : List (List Word)

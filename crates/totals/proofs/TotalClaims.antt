@@ -19,8 +19,8 @@ use Rattle.run.specs.Run.{Ran, ran, ranFrom}
 use Rattle.run.proofs.SoundRuns.{ran-sound}
 use Rattle.run.proofs.CallLaws.{opened-sound, ran-is, text-sound, text-ran-is}
 use Rattle.registers.specs.Types.{Opened}
-use Rattle.registers.specs.Lines.{fewer, tuplesBelow, tupleCount}
-use Rattle.registers.specs.Shown.{current}
+use Rattle.lines.specs.Lines.{fewer, tuplesBelow, tupleCount}
+use Rattle.lines.specs.Shown.{current}
 use Rattle.registers.specs.Register.{registerIn, registerAs, registerOf, registerTextAs, registerTextOf}
 use Rattle.tenant.proofs.OpenedShaped.{opened-shaped}
 use Rattle.text_tenant.specs.TextTenantRule.{TextIsImaged}

@@ -16,10 +16,10 @@ use Rattle.text.specs.Bytes.{bytes}
 use Rattle.text.specs.Decimal.{digit, digits, decimal, signedDecimal}
 use Rattle.text.specs.Joined.{joined}
 use Rattle.registers.specs.Types.{Item, Tuple}
-use Rattle.registers.specs.Words.{Word, name, number, wordText, spaced, lineText, printed}
-use Rattle.registers.specs.Shown.{allParts}
-use Rattle.registers.specs.Lines.{itemWord, markWords}
-use Rattle.registers.proofs.WordLaws.{spaced-both, printed-both}
+use Rattle.lines.specs.Words.{Word, name, number, wordText, spaced, lineText, printed}
+use Rattle.lines.specs.Shown.{allParts}
+use Rattle.lines.specs.Lines.{itemWord, markWords}
+use Rattle.lines.proofs.WordLaws.{spaced-both, printed-both}
 use Rattle.totals.specs.TextLines.{before, linesOf, lastOr, opensWith, opening}
 
 -- ---- bytes without a newline
