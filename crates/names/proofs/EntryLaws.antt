@@ -24,91 +24,109 @@ skipped at zero list = ap (λ (p : ℕ). placesFrom p 0 list) (omega arith)
 skipped at (suc skip) [] = refl
 skipped at (suc skip) (b ∷ rest) = skipped (suc at) skip rest ∙ ap (λ (p : ℕ). placesFrom p 0 (drop skip rest)) (omega arith)
 
--- the entry at a place, and those after it
-places-next :
-    (list : List ℕ) (at : ℕ) → at < length list
-    → placesFrom at 0 (drop at list) ≡ at ∷ placesFrom (at + 1 + sizeAt list at) 0 (drop (at + 1 + sizeAt list at) list)
+-- those from a place on
+abbrev pub placesAfter : List ℕ → ℕ → List ℕ
+placesAfter list at = placesFrom at 0 (drop at list)
+
+-- the place after an entry
+abbrev pub entryEnd : List ℕ → ℕ → ℕ
+entryEnd list at = at + 1 + sizeAt list at
+
+places-next : (list : List ℕ) (at : ℕ) → at < length list → placesAfter list at ≡ at ∷ placesAfter list (entryEnd list at)
 unfolding placesFrom sizeAt
 places-next list at h =
-    let left : sizeAt list at + suc at ≡ at + 1 + sizeAt list at = omega arith in
-    let right : suc at + sizeAt list at ≡ at + 1 + sizeAt list at = omega arith in
+    let left : sizeAt list at + suc at ≡ entryEnd list at = omega arith in
+    let right : suc at + sizeAt list at ≡ entryEnd list at = omega arith in
     ap (placesFrom at 0) (drop-cons list at 0 h)
     ∙ ap (λ (ps : List ℕ). at ∷ ps)
     (skipped (suc at) (sizeAt list at) (drop (suc at) list)
     ∙ ap (placesFrom (sizeAt list at + suc at) 0) (drop-drop (sizeAt list at) (suc at) list)
     ∙ ap (λ (p : ℕ). placesFrom p 0 (drop (suc at + sizeAt list at) list)) left
-    ∙ ap (λ (p : ℕ). placesFrom (at + 1 + sizeAt list at) 0 (drop p list)) right)
+    ∙ ap (λ (p : ℕ). placesFrom (entryEnd list at) 0 (drop p list)) right)
 
 -- past the list's end
-places-none : (list : List ℕ) (at : ℕ) → length list ≤ at → placesFrom at 0 (drop at list) ≡ []
+places-none : (list : List ℕ) (at : ℕ) → length list ≤ at → placesAfter list at ≡ []
 unfolding placesFrom
 places-none list at h = ap (placesFrom at 0) (drop-of-length-le list h)
 
 -- ---- the loops: f is what they look for among entries
 pub record Left {A : Type 0} (list : List ℕ) (f : List ℕ → A) (at : ℕ) : Type 0 where
-  pub same : f (placesFrom at 0 (drop at list)) ≡ f (placesOf list)
+  pub same : f (placesAfter list at) ≡ f (placesOf list)
 
 module _ {A : Type 0} (list : List ℕ) (f : List ℕ → A) where
   pub left-all : Left list f 0
   unfolding placesOf
   left-all = record { same = refl }
 
+-- what is found at a place, and else after it
 module _ (list : List ℕ) (at : ℕ) (h : at < length list) where
-  -- the first fault
-  among : faultAmong list (placesFrom at 0 (drop at list)) ≡ firstOf (entryFault list at) (faultAmong list (placesFrom (at + 1 + sizeAt list at) 0 (drop (at + 1 + sizeAt list at) list)))
+  pub fault-next : faultAmong list (placesAfter list at) ≡ firstOf (entryFault list at) (faultAmong list (placesAfter list (entryEnd list at)))
   unfolding faultAmong
-  among = ap (faultAmong list) (places-next list at h)
+  fault-next = ap (faultAmong list) (places-next list at h)
 
+  pub found-next :
+      (a : Locality)
+      → foundAmong list a (placesAfter list at)
+      ≡ choose (eqb (addressAt list at) (a .0)) (Found.At at) (foundAmong list a (placesAfter list (entryEnd list at)))
+  unfolding foundAmong
+  found-next a = ap (foundAmong list a) (places-next list at h)
+
+  -- the first fault
   pub fault-again :
-      (n next : ℕ) → Left list (faultAmong list) at → n ≡ entryFault list at → n ≡ 0 → next ≡ at + 1 + sizeAt list at
+      (n next : ℕ) → Left list (faultAmong list) at → n ≡ entryFault list at → n ≡ 0 → next ≡ entryEnd list at
       → Left list (faultAmong list) next
   unfolding firstOf
   fault-again n next l e z p = record {
-    same = ap (λ (q : ℕ). faultAmong list (placesFrom q 0 (drop q list))) p
-        ∙ sym (among ∙ choose-true _ _ _ (eq-eqb _ 0 (sym e ∙ z))) ∙ l .same;
+    same = ap (λ (q : ℕ). faultAmong list (placesAfter list q)) p
+        ∙ sym (fault-next ∙ choose-true _ _ _ (eq-eqb _ 0 (sym e ∙ z))) ∙ l .same;
   }
 
   pub fault-here :
       (n : ℕ) → Left list (faultAmong list) at → n ≡ entryFault list at → (n ≡ 0 → ⊥) → n ≡ listFault list
   unfolding firstOf listFault
-  fault-here n l e z = e ∙ sym (among ∙ choose-false _ _ _ (ne-eqb _ 0 (λ q. z (e ∙ q)))) ∙ l .same
+  fault-here n l e z = e ∙ sym (fault-next ∙ choose-false _ _ _ (ne-eqb _ 0 (λ q. z (e ∙ q)))) ∙ l .same
 
   -- the first entry for an address
   module _ (a : Locality) where
-    sought : foundAmong list a (placesFrom at 0 (drop at list)) ≡ choose (eqb (addressAt list at) (a .0)) (Found.At at) (foundAmong list a (placesFrom (at + 1 + sizeAt list at) 0 (drop (at + 1 + sizeAt list at) list)))
-    unfolding foundAmong
-    sought = ap (foundAmong list a) (places-next list at h)
-
     pub found-again :
-        (next : ℕ) → Left list (foundAmong list a) at → (getD list at 0 / 16 ≡ a .0 → ⊥) → next ≡ at + 1 + sizeAt list at
+        (next : ℕ) → Left list (foundAmong list a) at → (getD list at 0 / 16 ≡ a .0 → ⊥) → next ≡ entryEnd list at
         → Left list (foundAmong list a) next
     unfolding addressAt
     found-again next l z p = record {
-      same = ap (λ (q : ℕ). foundAmong list a (placesFrom q 0 (drop q list))) p
-          ∙ sym (sought ∙ choose-false _ _ _ (ne-eqb _ _ z)) ∙ l .same;
+      same = ap (λ (q : ℕ). foundAmong list a (placesAfter list q)) p
+          ∙ sym (found-next a ∙ choose-false _ _ _ (ne-eqb _ _ z)) ∙ l .same;
     }
 
     pub found-here : Left list (foundAmong list a) at → getD list at 0 / 16 ≡ a .0 → Sought list a (Found.At at)
     unfolding addressAt foundIn
     found-here l e = record {
-      first = sym (sought ∙ choose-true _ _ _ (eq-eqb _ _ e)) ∙ l .same;
+      first = sym (found-next a ∙ choose-true _ _ _ (eq-eqb _ _ e)) ∙ l .same;
       inside = λ p q. let same : at ≡ p = cc in omega arith;
     }
 
+-- past the list's end
 module _ (list : List ℕ) (at : ℕ) (h : length list ≤ at) where
+  pub fault-past : faultAmong list (placesAfter list at) ≡ 0
+  unfolding faultAmong
+  fault-past = ap (faultAmong list) (places-none list at h)
+
+  pub found-past : (a : Locality) → foundAmong list a (placesAfter list at) ≡ Found.Nothing
+  unfolding foundAmong
+  found-past a = ap (foundAmong list a) (places-none list at h)
+
   pub fault-none : Left list (faultAmong list) at → 0 ≡ listFault list
-  unfolding faultAmong listFault
-  fault-none l = sym (ap (faultAmong list) (places-none list at h)) ∙ l .same
+  unfolding listFault
+  fault-none l = sym fault-past ∙ l .same
 
   pub found-none : (a : Locality) → Left list (foundAmong list a) at → Sought list a Found.Nothing
-  unfolding foundAmong foundIn
+  unfolding foundIn
   found-none a l = record {
-    first = sym (ap (foundAmong list a) (places-none list at h)) ∙ l .same;
+    first = sym (found-past a) ∙ l .same;
     inside = λ p q. let z : _≡_ {A = ℕ} 0 1 = cc in absurd (omega arith);
   }
 
 -- ---- the text of an entry, up to its end or, where it is cut short, the list's
-module _ (list : List ℕ) (at end : ℕ) (e : end ≡ at + 1 + sizeAt list at) where
+module _ (list : List ℕ) (at end : ℕ) (e : end ≡ entryEnd list at) where
   pub text-whole : take (end - (at + 1)) (drop (at + 1) list) ≡ take (sizeAt list at) (drop (at + 1) list)
   text-whole = let n : end - (at + 1) ≡ sizeAt list at = omega arith in rw n
 
@@ -118,7 +136,7 @@ module _ (list : List ℕ) (at end : ℕ) (e : end ≡ at + 1 + sizeAt list at) 
       take-all (length list - (at + 1)) _ (omega arith) ∙ sym (take-all (sizeAt list at) _ (omega arith))
 
 -- ---- the fault of an entry, in the order of the tests
-module _ (list : List ℕ) (at end : ℕ) (e : end ≡ at + 1 + sizeAt list at) where
+module _ (list : List ℕ) (at end : ℕ) (e : end ≡ entryEnd list at) where
   pub fault-51 : end ≡ at + 1 → 51 ≡ entryFault list at
   unfolding entryFault
   fault-51 h = let none : sizeAt list at ≡ 0 = omega arith in if-eq _ _ _ _ _ none refl
@@ -126,14 +144,18 @@ module _ (list : List ℕ) (at end : ℕ) (e : end ≡ at + 1 + sizeAt list at) 
   some : (end ≡ at + 1 → ⊥) → sizeAt list at ≡ 0 → ⊥
   some h z = h (omega arith)
 
-  pub fault-52 : (end ≡ at + 1 → ⊥) → length list < end → 52 ≡ entryFault list at
+  pub fault-52 : (end ≡ at + 1 → ⊥) → length list < end → at < length list → 52 ≡ entryFault list at
   unfolding entryFault
-  fault-52 h l = let cut : length list < at + 1 + sizeAt list at = omega arith in if-ne _ _ _ _ _ (some h) (if-lt _ _ _ _ _ cut refl)
+  fault-52 h l i =
+      let long = length-drop (at + 1) list in
+      let cut : length (drop (at + 1) list) < sizeAt list at = omega arith in
+      if-ne _ _ _ _ _ (some h) (if-lt _ _ _ _ _ cut refl)
 
   pub fault-53 :
       (end ≡ at + 1 → ⊥) → end ≤ length list → (text : List ℕ) (n : ℕ) → text ≡ take (sizeAt list at) (drop (at + 1) list)
       → n ≡ lettersFault text → n ≡ entryFault list at
   unfolding entryFault textAt
   fault-53 h l text n t f =
-      let whole : at + 1 + sizeAt list at ≤ length list = omega arith in
+      let long = length-drop (at + 1) list in
+      let whole : sizeAt list at ≤ length (drop (at + 1) list) = omega arith in
       if-ne _ _ _ _ _ (some h) (if-not-lt _ _ _ _ _ whole (f ∙ ap lettersFault t))

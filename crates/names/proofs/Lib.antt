@@ -1,2 +1,4 @@
 pub mod EntryLaws
+pub mod FirstFault
 pub mod LookupLaws
+pub mod Standing

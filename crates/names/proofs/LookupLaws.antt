@@ -25,14 +25,14 @@ pub there : (list : List ℕ) (a : Locality) (found : Found) (p : ℕ) → Sough
 there list a found p s e = s .inside p e
 
 module _ (list r : RefT (List ℕ)) (a : Locality) (found : Found) (s : Sought (now list) a found) where
-  pub text-there :
+  pub text-found :
       (p : ℕ) → found ≡ Found.At p → PartOf list (p + 1) (sizeAt (now list) p) r → TextFound list (foundIn (now list) a) r
   unfolding TextFound
-  text-there p e h = subst (λ (f : Found). TextFound list f r) (sym e ∙ s .first) h
+  text-found p e h = subst (λ (f : Found). TextFound list f r) (sym e ∙ s .first) h
 
-  pub text-nowhere : found ≡ Found.Nothing → PartOf list 0 0 r → TextFound list (foundIn (now list) a) r
+  pub text-missing : found ≡ Found.Nothing → PartOf list 0 0 r → TextFound list (foundIn (now list) a) r
   unfolding TextFound
-  text-nowhere e h = subst (λ (f : Found). TextFound list f r) (sym e ∙ s .first) h
+  text-missing e h = subst (λ (f : Found). TextFound list f r) (sym e ∙ s .first) h
 
 office-text : (site office r : RefT (List ℕ)) (found : Found) → TextFound office found r → Picked site office Found.Nothing found r
 unfolding TextFound Picked PartOfOne stretchFor noName

@@ -1,2 +1,3 @@
-pub mod Names
 pub mod Lookup
+pub mod NameClaims
+pub mod Names

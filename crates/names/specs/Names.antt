@@ -46,7 +46,7 @@ lettersFault text = choose (allLetters text) 0 53
 unfoldable pub entryFault : List ℕ → ℕ → ℕ
 entryFault list p =
     choose (eqb (sizeAt list p) 0) 51
-    (choose (ltb (length list) (p + 1 + sizeAt list p)) 52
+    (choose (ltb (length (drop (p + 1) list)) (sizeAt list p)) 52
     (lettersFault (textAt list p)))
 
 -- the first of two numbers that is a fault

@@ -1,5 +1,5 @@
 -- `names::lookup::name_in` meets its contract. Assumes nothing.
-use Rattle.names.proofs.LookupLaws.{there, text-there, text-nowhere}
+use Rattle.names.proofs.LookupLaws.{there, text-found, text-missing}
 use borrow.Author.Needs.{needs}
 use Rattle.names.proofs.lookup.name_in.Statement.{statement}
 use Rattle.names.proofs.lookup.name_in.Tie as tie
@@ -13,5 +13,5 @@ name-in-spec =
     (λ c κs. search (needs, there))
     (λ c. search needs)
     (λ c κs. search needs)
-    (λ c. search (needs, text-there))
-    (λ c. search (needs, text-nowhere)))
+    (λ c. search (needs, text-found))
+    (λ c. search (needs, text-missing)))

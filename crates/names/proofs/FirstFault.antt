@@ -1,0 +1,192 @@
+-- The number of two lists is that of the first fault (`FirstFaultOfNames` of `specs/NameClaims.antt`). Assumes nothing.
+use Prim.Native.Nat.{ℕ, zero, suc, _+_, _*_, _/_, _%_, _<_, _≤_}
+use mathlib.Core.Path.{_≡_, refl, sym, ap, subst, _∙_}
+use mathlib.Core.Bool.{Bool, true, false}
+use mathlib.Core.List.{List, [], _∷_, _++_}
+use native.Mathlib.Omega.{arith}
+use native.Mathlib.Nat.{not-suc-le-zero}
+use lib.ListN.{length, getD, take, drop, length-drop, length-append}
+use lib.Seq.{take-at, drop-at}
+use lib.Dec.{eqb, ltb}
+use borrow.Author.Tests.{eqb-true, eqb-false, ltb-true, ltb-false, eq-eqb, ne-eqb, lt-ltb, le-ltb}
+use Rattle.net.specs.Choice.{choose, both, all}
+use Rattle.net.proofs.Laws.{choose-true, choose-false, all-i, all-e, in-range, in-range-low, in-range-high}
+use Rattle.net.proofs.Every.{chosen}
+use Rattle.names.specs.Names.{letterAt, allLetters, lettersFault, entryFault, firstOf, placesOf, faultAmong, listFault, namesFault}
+use Rattle.names.specs.NameClaims.{Letter, Letters, Text, firstByte, FirstFault, no-fault, past-entry, length-of-nought, cut-short, out-of-range}
+use Rattle.names.specs.NameClaims.{FirstOfTwo, in-site, past-site, FirstFaultOfNames}
+use Rattle.names.proofs.EntryLaws.{entryEnd, placesAfter, fault-past}
+use Rattle.names.proofs.Standing.{Stands, stands, ended, headFault, faults-there, after-there, byte-apart, text-long, entry-apart}
+
+-- ---- letters
+letter-known : (text : List ℕ) (i : ℕ) → letterAt text i ≡ true → Letter (getD text i 0)
+unfolding letterAt
+letter-known text i e = record { low = in-range-low 33 _ 126 e; high = in-range-high 33 _ 126 e }
+
+known-letter : (text : List ℕ) (i : ℕ) → Letter (getD text i 0) → letterAt text i ≡ true
+unfolding letterAt
+known-letter text i l = in-range 33 _ 126 (l .low) (l .high)
+
+pub letters-known : (text : List ℕ) → allLetters text ≡ true → Letters text
+unfolding allLetters
+letters-known text e = record { each = λ i h. letter-known text i (all-e (length text) (letterAt text) e i h) }
+
+known-letters : (text : List ℕ) → Letters text → allLetters text ≡ true
+unfolding allLetters
+known-letters text l = all-i (length text) (letterAt text) (λ i h. known-letter text i (l .each i h))
+
+-- a test that fails somewhere below n
+data Fails (n : ℕ) (test : ℕ → Bool) : Type 0 where
+  fails-at : (i : ℕ) → i < n → test i ≡ false → Fails n test
+
+fails : (n : ℕ) (test : ℕ → Bool) → all n test ≡ false → Fails n test
+unfolding all both
+fails zero test e = let z : _≡_ {A = ℕ} 0 1 = cc in absurd (omega arith)
+fails (suc n) test e = go (all n test) (fails n test) e
+  where
+    sooner : Fails n test → Fails (suc n) test
+    sooner (fails-at i h p) = fails-at i (omega arith) p
+    go : (b : Bool) → (b ≡ false → Fails n test) → both b (test n) ≡ false → Fails (suc n) test
+    go true f q = fails-at n (omega arith) q
+    go false f q = sooner (f refl)
+
+no-letter : (text : List ℕ) (i : ℕ) → letterAt text i ≡ false → Letter (getD text i 0) → ⊥
+no-letter text i e l = let t = known-letter text i l in let z : _≡_ {A = ℕ} 0 1 = cc in omega arith
+
+-- ---- the number that is given is that of the first fault; m is what the entries after this one give
+module _ (b : ℕ) (rest : List ℕ) (m : ℕ) where
+  nought : b % 16 ≡ 0 → FirstFault (b ∷ rest) 51
+  nought z = subst (λ (x : ℕ). FirstFault (x ∷ rest) 51) (ap (firstByte (b / 16)) (sym z) ∙ byte-apart b) (length-of-nought (b / 16))
+
+  cut : (b % 16 ≡ 0 → ⊥) → length rest < b % 16 → FirstFault (b ∷ rest) 52
+  cut z l =
+      subst (λ (x : ℕ). FirstFault (x ∷ rest) 52) (byte-apart b) (cut-short (b / 16) (b % 16) (omega arith) (omega arith) l)
+
+  module _ (z : b % 16 ≡ 0 → ⊥) (h : b % 16 ≤ length rest) where
+    passed : allLetters (take (b % 16) rest) ≡ true → FirstFault (drop (b % 16) rest) m → FirstFault (b ∷ rest) m
+    passed e f =
+        let long = text-long b rest h in
+        subst (λ (l : List ℕ). FirstFault l m) (entry-apart b rest h)
+        (past-entry (b / 16) (record { some = omega arith; few = omega arith; letters = letters-known _ e }) f)
+
+    ranged : Fails (length (take (b % 16) rest)) (letterAt (take (b % 16) rest)) → FirstFault (b ∷ rest) 53
+    ranged (fails-at i l p) =
+        let long = text-long b rest h in
+        subst (λ (l : List ℕ). FirstFault l 53) (entry-apart b rest h)
+        (out-of-range (b / 16) (take (b % 16) rest) (drop (b % 16) rest) i (omega arith) (omega arith) l (no-letter _ i p))
+
+  head-is : FirstFault (drop (b % 16) rest) m → FirstFault (b ∷ rest) (firstOf (headFault b rest) m)
+  unfolding headFault lettersFault allLetters firstOf choose
+  head-is f =
+      chosen (λ n. FirstFault (b ∷ rest) (firstOf n m)) (eqb (b % 16) 0) 51 _ (λ e. nought (eqb-true _ 0 e))
+      (λ e. chosen (λ n. FirstFault (b ∷ rest) (firstOf n m)) (ltb (length rest) (b % 16)) 52 _
+      (λ l. cut (eqb-false _ 0 e) (ltb-true _ _ l))
+      (λ l. chosen (λ n. FirstFault (b ∷ rest) (firstOf n m)) (allLetters (take (b % 16) rest)) 0 53
+      (λ t. passed (eqb-false _ 0 e) (ltb-false _ _ l) t f)
+      (λ t. ranged (eqb-false _ 0 e) (ltb-false _ _ l) (fails _ _ t))))
+
+-- what a list gives from a place on, where it is so from every later one on
+module _ (list : List ℕ) where
+  from-place :
+      (at : ℕ) (tail : List ℕ) → drop at list ≡ tail
+      → ((p : ℕ) → length (drop p list) < length tail → FirstFault (drop p list) (faultAmong list (placesAfter list p)))
+      → FirstFault tail (faultAmong list (placesAfter list at))
+  from-place at [] e f = subst (FirstFault []) (sym (fault-past list at (ended list at e))) no-fault
+  from-place at (b ∷ rest) e f =
+      let s = stands list at b rest e in
+      let long = length-drop (b % 16) rest in
+      let there = after-there list at b rest s in
+      let less : length (drop (entryEnd list at) list) < suc (length rest) = rw there (omega arith) in
+      let m = faultAmong list (placesAfter list (entryEnd list at)) in
+      subst (FirstFault (b ∷ rest)) (sym (faults-there list at b rest s))
+      (head-is b rest m (subst (λ (l : List ℕ). FirstFault l m) there (f (entryEnd list at) less)))
+
+  -- at most k bytes stand there
+  fault-is : (k at : ℕ) → length (drop at list) ≤ k → FirstFault (drop at list) (faultAmong list (placesAfter list at))
+  fault-is zero at h = from-place at (drop at list) refl (λ p l. absurd (omega arith))
+  fault-is (suc k) at h = from-place at (drop at list) refl (λ p l. fault-is k p (omega arith))
+
+  pub list-fault-is : FirstFault list (listFault list)
+  unfolding listFault placesOf
+  list-fault-is = fault-is (length list) 0 (omega arith)
+
+-- ---- no other number is
+module _ (a : ℕ) (text rest : List ℕ) (h : length text ≤ 15) where
+  size-is : firstByte a (length text) % 16 ≡ length text
+  size-is = omega arith
+
+  text-is : take (firstByte a (length text) % 16) (text ++ rest) ≡ text
+  text-is = take-at text rest _ (sym size-is)
+
+  rest-is : drop (firstByte a (length text) % 16) (text ++ rest) ≡ rest
+  rest-is = drop-at text rest _ (sym size-is)
+
+  letters-head : 1 ≤ length text → headFault (firstByte a (length text)) (text ++ rest) ≡ lettersFault text
+  unfolding headFault
+  letters-head s =
+      let long = length-append text rest in
+      let size = size-is in
+      choose-false _ _ _ (ne-eqb (firstByte a (length text) % 16) 0 (λ z. omega arith))
+      ∙ choose-false _ _ _ (le-ltb (length (text ++ rest)) (firstByte a (length text) % 16) (omega arith))
+      ∙ ap lettersFault text-is
+
+letters-none : (text : List ℕ) → Letters text → lettersFault text ≡ 0
+unfolding lettersFault
+letters-none text l = choose-true _ _ _ (known-letters text l)
+
+letters-some : (text : List ℕ) (i : ℕ) → i < length text → (Letter (getD text i 0) → ⊥) → lettersFault text ≡ 53
+unfolding lettersFault
+letters-some text i h n =
+    chosen (λ (m : ℕ). m ≡ 53) (allLetters text) 0 53 (λ e. absurd (n (letters-known text e .each i h))) (λ e. refl)
+
+module _ (list : List ℕ) where
+  only-from :
+      (at : ℕ) (tail : List ℕ) (n : ℕ) → drop at list ≡ tail → FirstFault tail n → faultAmong list (placesAfter list at) ≡ n
+  unfolding headFault firstOf choose
+  only-from at _ n e no-fault = fault-past list at (ended list at e)
+  only-from at _ n e (past-entry a {text} {rest} t f) =
+      let s = stands list at _ _ e in
+      let m = faultAmong list (placesAfter list (entryEnd list at)) in
+      faults-there list at _ _ s
+      ∙ ap (λ (x : ℕ). firstOf x m) (letters-head a text rest (t .few) (t .some) ∙ letters-none text (t .letters))
+      ∙ only-from (entryEnd list at) rest n (after-there list at _ _ s ∙ rest-is a text rest (t .few)) f
+  only-from at _ n e (length-of-nought a {rest}) =
+      let s = stands list at _ _ e in
+      let m = faultAmong list (placesAfter list (entryEnd list at)) in
+      let none : firstByte a 0 % 16 ≡ 0 = omega arith in
+      faults-there list at _ _ s ∙ ap (λ (x : ℕ). firstOf x m) (choose-true _ _ _ (eq-eqb _ 0 none))
+  only-from at _ n e (cut-short a size {rest} l u c) =
+      let s = stands list at _ _ e in
+      let m = faultAmong list (placesAfter list (entryEnd list at)) in
+      let same : firstByte a size % 16 ≡ size = omega arith in
+      let short : length rest < firstByte a size % 16 = omega arith in
+      faults-there list at _ _ s
+      ∙ ap (λ (x : ℕ). firstOf x m)
+      (choose-false _ _ _ (ne-eqb (firstByte a size % 16) 0 (λ z. omega arith)) ∙ choose-true _ _ _ (lt-ltb _ _ short))
+  only-from at _ n e (out-of-range a text rest i l u h w) =
+      let s = stands list at _ _ e in
+      let m = faultAmong list (placesAfter list (entryEnd list at)) in
+      faults-there list at _ _ s ∙ ap (λ (x : ℕ). firstOf x m) (letters-head a text rest u l ∙ letters-some text i h w)
+
+  list-fault-only : (n : ℕ) → FirstFault list n → listFault list ≡ n
+  unfolding listFault placesOf
+  list-fault-only n f = only-from 0 list n refl f
+
+-- ---- of two lists
+of-two : (site office : List ℕ) (n : ℕ) → FirstOfTwo site office n → namesFault site office ≡ n
+unfolding namesFault firstOf
+of-two site office n (in-site f z) =
+    let e = list-fault-only site n f in
+    choose-false _ _ _ (ne-eqb _ 0 (λ q. z (sym e ∙ q))) ∙ e
+of-two site office n (past-site f g) =
+    choose-true _ _ _ (eq-eqb _ 0 (list-fault-only site 0 f)) ∙ list-fault-only office n g
+
+pub first-fault-of-names : FirstFaultOfNames
+unfolding namesFault firstOf
+first-fault-of-names = record {
+  is = λ site office.
+      chosen (FirstOfTwo site office) (eqb (listFault site) 0) (listFault office) (listFault site)
+      (λ e. past-site (subst (FirstFault site) (eqb-true _ 0 e) (list-fault-is site)) (list-fault-is office))
+      (λ e. in-site (list-fault-is site) (eqb-false _ 0 e));
+  only = of-two;
+}
