@@ -5,15 +5,15 @@ use mathlib.Core.Path.{_≡_, refl, sym, ap, _∙_}
 use mathlib.Core.Bool.{Bool, true, false}
 use mathlib.Core.List.{List, [], _∷_}
 use native.Mathlib.Omega.{arith}
-use native.Mathlib.Numerals.{add-one}
 use lib.ListN.{length, getD, take, drop, drop-of-length-le, length-drop}
 use lib.Seq.{drop-cons, drop-drop, take-all}
 use lib.Dec.{eqb}
 use borrow.Author.Tests.{eq-eqb, ne-eqb}
 use Rattle.net.specs.Choice.{choose}
-use Rattle.net.proofs.Laws.{choose-true, choose-false, if-lt, if-not-lt, if-eq, if-ne}
+use Rattle.net.proofs.Laws.{choose-true, choose-false, if-true, if-false, if-lt, if-not-lt}
 use Rattle.net.specs.declared.locality.Locality.{Locality}
-use Rattle.names.specs.Names.{Found, sizeAt, addressAt, textAt, placesFrom, placesOf, lettersFault, entryFault, firstOf, faultAmong}
+use Rattle.names.specs.Names.{Found, sizeAt, addressAt, textAt, placesFrom, placesOf, lengthFault, cutFault, allLetters}
+use Rattle.names.specs.Names.{letterFault, entryFault, firstOf, faultAmong}
 use Rattle.names.specs.Names.{listFault, foundAmong, foundIn}
 use Rattle.names.specs.Lookup.{Sought}
 
@@ -135,27 +135,35 @@ module _ (list : List ℕ) (at end : ℕ) (e : end ≡ entryEnd list at) where
       let long = length-drop (at + 1) list in
       take-all (length list - (at + 1)) _ (omega arith) ∙ sym (take-all (sizeAt list at) _ (omega arith))
 
--- ---- the fault of an entry, in the order of the tests
-module _ (list : List ℕ) (at end : ℕ) (e : end ≡ entryEnd list at) where
-  pub fault-51 : end ≡ at + 1 → 51 ≡ entryFault list at
-  unfolding entryFault
-  fault-51 h = let none : sizeAt list at ≡ 0 = omega arith in if-eq _ _ _ _ _ none refl
-
-  some : (end ≡ at + 1 → ⊥) → sizeAt list at ≡ 0 → ⊥
-  some h z = h (omega arith)
-
-  pub fault-52 : (end ≡ at + 1 → ⊥) → length list < end → at < length list → 52 ≡ entryFault list at
-  unfolding entryFault
-  fault-52 h l i =
+-- ---- an entry cut short
+module _ (list : List ℕ) (at end : ℕ) (e : end ≡ entryEnd list at) (h : at < length list) where
+  pub cut-there : length list < end → 52 ≡ cutFault list at
+  unfolding cutFault
+  cut-there l =
       let long = length-drop (at + 1) list in
-      let cut : length (drop (at + 1) list) < sizeAt list at = omega arith in
-      if-ne _ _ _ _ _ (some h) (if-lt _ _ _ _ _ cut refl)
+      let short : length (drop (at + 1) list) < sizeAt list at = omega arith in
+      if-lt _ _ _ _ _ short refl
 
-  pub fault-53 :
-      (end ≡ at + 1 → ⊥) → end ≤ length list → (text : List ℕ) (n : ℕ) → text ≡ take (sizeAt list at) (drop (at + 1) list)
-      → n ≡ lettersFault text → n ≡ entryFault list at
-  unfolding entryFault textAt
-  fault-53 h l text n t f =
+  pub not-cut : end ≤ length list → 0 ≡ cutFault list at
+  unfolding cutFault
+  not-cut l =
       let long = length-drop (at + 1) list in
-      let whole : sizeAt list at ≤ length (drop (at + 1) list) = omega arith in
-      if-ne _ _ _ _ _ (some h) (if-not-lt _ _ _ _ _ whole (f ∙ ap lettersFault t))
+      let enough : sizeAt list at ≤ length (drop (at + 1) list) = omega arith in
+      if-not-lt _ _ _ _ _ enough refl
+
+-- ---- letters in the text of an entry
+module _ (list text : List ℕ) (at : ℕ) (ok : Bool) (t : text ≡ take (sizeAt list at) (drop (at + 1) list)) (e : ok ≡ allLetters text) where
+  pub in-letters : ok ≡ true → 0 ≡ letterFault list at
+  unfolding letterFault textAt
+  in-letters h = if-true _ _ _ _ (ap allLetters (sym t) ∙ sym e ∙ h) refl
+
+  pub not-letters : ok ≡ false → 53 ≡ letterFault list at
+  unfolding letterFault textAt
+  not-letters h = if-false _ _ _ _ (ap allLetters (sym t) ∙ sym e ∙ h) refl
+
+-- ---- the faults of an entry, in their order
+pub entry-tested :
+    (list : List ℕ) (at size cut letter later n : ℕ) → size ≡ lengthFault list at → cut ≡ cutFault list at
+    → letter ≡ letterFault list at → later ≡ firstOf cut letter → n ≡ firstOf size later → n ≡ entryFault list at
+unfolding entryFault
+entry-tested list at size cut letter later n s c l m e = cc

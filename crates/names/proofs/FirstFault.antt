@@ -1,22 +1,23 @@
 -- The number of two lists is that of the first fault (`FirstFaultOfNames` of `specs/NameClaims.antt`). Assumes nothing.
-use Prim.Native.Nat.{ℕ, zero, suc, _+_, _*_, _/_, _%_, _<_, _≤_}
+use Prim.Native.Nat.{ℕ, zero, suc, _+_, _/_, _%_, _<_, _≤_}
 use mathlib.Core.Path.{_≡_, refl, sym, ap, subst, _∙_}
 use mathlib.Core.Bool.{Bool, true, false}
 use mathlib.Core.List.{List, [], _∷_, _++_}
 use native.Mathlib.Omega.{arith}
-use native.Mathlib.Nat.{not-suc-le-zero}
 use lib.ListN.{length, getD, take, drop, length-drop, length-append}
-use lib.Seq.{take-at, drop-at}
 use lib.Dec.{eqb, ltb}
-use borrow.Author.Tests.{eqb-true, eqb-false, ltb-true, ltb-false, eq-eqb, ne-eqb, lt-ltb, le-ltb}
+use borrow.Author.Tests.{eqb-true, eqb-false, ltb-true, ltb-false, eq-eqb, ne-eqb}
 use Rattle.net.specs.Choice.{choose, both, all}
 use Rattle.net.proofs.Laws.{choose-true, choose-false, all-i, all-e, in-range, in-range-low, in-range-high}
 use Rattle.net.proofs.Every.{chosen}
-use Rattle.names.specs.Names.{letterAt, allLetters, lettersFault, entryFault, firstOf, placesOf, faultAmong, listFault, namesFault}
-use Rattle.names.specs.NameClaims.{Letter, Letters, Text, firstByte, FirstFault, no-fault, past-entry, length-of-nought, cut-short, out-of-range}
+use Rattle.net.proofs.ReadingLaws.{never}
+use Rattle.names.specs.Names.{letterAt, allLetters, firstOf, placesOf, faultAmong, listFault, namesFault}
+use Rattle.names.specs.NameClaims.{Letter, Letters, firstByte, FirstFault, no-fault, past-entry, length-of-nought, cut-short}
+use Rattle.names.specs.NameClaims.{out-of-range}
 use Rattle.names.specs.NameClaims.{FirstOfTwo, in-site, past-site, FirstFaultOfNames}
 use Rattle.names.proofs.EntryLaws.{entryEnd, placesAfter, fault-past}
-use Rattle.names.proofs.Standing.{Stands, stands, ended, headFault, faults-there, after-there, byte-apart, text-long, entry-apart}
+use Rattle.names.proofs.Standing.{stands, ended, by-tests, headFault, faults-there, after-there, byte-apart, text-long}
+use Rattle.names.proofs.Standing.{entry-apart, text-is, rest-is}
 
 -- ---- letters
 letter-known : (text : List ℕ) (i : ℕ) → letterAt text i ≡ true → Letter (getD text i 0)
@@ -46,12 +47,13 @@ fails (suc n) test e = go (all n test) (fails n test) e
   where
     sooner : Fails n test → Fails (suc n) test
     sooner (fails-at i h p) = fails-at i (omega arith) p
+
     go : (b : Bool) → (b ≡ false → Fails n test) → both b (test n) ≡ false → Fails (suc n) test
     go true f q = fails-at n (omega arith) q
     go false f q = sooner (f refl)
 
 no-letter : (text : List ℕ) (i : ℕ) → letterAt text i ≡ false → Letter (getD text i 0) → ⊥
-no-letter text i e l = let t = known-letter text i l in let z : _≡_ {A = ℕ} 0 1 = cc in omega arith
+no-letter text i e l = never (sym e ∙ known-letter text i l)
 
 -- ---- the number that is given is that of the first fault; m is what the entries after this one give
 module _ (b : ℕ) (rest : List ℕ) (m : ℕ) where
@@ -76,14 +78,12 @@ module _ (b : ℕ) (rest : List ℕ) (m : ℕ) where
         (out-of-range (b / 16) (take (b % 16) rest) (drop (b % 16) rest) i (omega arith) (omega arith) l (no-letter _ i p))
 
   head-is : FirstFault (drop (b % 16) rest) m → FirstFault (b ∷ rest) (firstOf (headFault b rest) m)
-  unfolding headFault lettersFault allLetters firstOf choose
+  unfolding headFault allLetters firstOf choose
   head-is f =
-      chosen (λ n. FirstFault (b ∷ rest) (firstOf n m)) (eqb (b % 16) 0) 51 _ (λ e. nought (eqb-true _ 0 e))
-      (λ e. chosen (λ n. FirstFault (b ∷ rest) (firstOf n m)) (ltb (length rest) (b % 16)) 52 _
-      (λ l. cut (eqb-false _ 0 e) (ltb-true _ _ l))
-      (λ l. chosen (λ n. FirstFault (b ∷ rest) (firstOf n m)) (allLetters (take (b % 16) rest)) 0 53
-      (λ t. passed (eqb-false _ 0 e) (ltb-false _ _ l) t f)
-      (λ t. ranged (eqb-false _ 0 e) (ltb-false _ _ l) (fails _ _ t))))
+      by-tests (λ n. FirstFault (b ∷ rest) (firstOf n m)) _ _ _ (λ e. nought (eqb-true _ 0 e))
+      (λ e l. cut (eqb-false _ 0 e) (ltb-true _ _ l))
+      (λ e l t. passed (eqb-false _ 0 e) (ltb-false _ _ l) t f)
+      (λ e l t. ranged (eqb-false _ 0 e) (ltb-false _ _ l) (fails _ _ t))
 
 -- what a list gives from a place on, where it is so from every later one on
 module _ (list : List ℕ) where
@@ -111,62 +111,69 @@ module _ (list : List ℕ) where
   list-fault-is = fault-is (length list) 0 (omega arith)
 
 -- ---- no other number is
-module _ (a : ℕ) (text rest : List ℕ) (h : length text ≤ 15) where
-  size-is : firstByte a (length text) % 16 ≡ length text
-  size-is = omega arith
+nought-head : (a : ℕ) (rest : List ℕ) → headFault (firstByte a 0) rest ≡ 51
+unfolding headFault
+nought-head a rest =
+    by-tests (λ (n : ℕ). n ≡ 51) _ _ _ (λ e. refl) (λ e l. absurd (some e)) (λ e l t. absurd (some e)) (λ e l t. absurd (some e))
+  where
+    some : eqb (firstByte a 0 % 16) 0 ≡ false → ⊥
+    some e = eqb-false (firstByte a 0 % 16) 0 e (omega arith)
 
-  text-is : take (firstByte a (length text) % 16) (text ++ rest) ≡ text
-  text-is = take-at text rest _ (sym size-is)
+cut-head : (a size : ℕ) (rest : List ℕ) → 1 ≤ size → size ≤ 15 → length rest < size → headFault (firstByte a size) rest ≡ 52
+unfolding headFault
+cut-head a size rest s f c =
+    by-tests (λ (n : ℕ). n ≡ 52) _ _ _ (λ e. absurd (none e)) (λ e l. refl) (λ e l t. absurd (enough l)) (λ e l t. absurd (enough l))
+  where
+    none : eqb (firstByte a size % 16) 0 ≡ true → ⊥
+    none e = let z = eqb-true (firstByte a size % 16) 0 e in omega arith
 
-  rest-is : drop (firstByte a (length text) % 16) (text ++ rest) ≡ rest
-  rest-is = drop-at text rest _ (sym size-is)
+    enough : ltb (length rest) (firstByte a size % 16) ≡ false → ⊥
+    enough l = let z = ltb-false (length rest) (firstByte a size % 16) l in omega arith
 
-  letters-head : 1 ≤ length text → headFault (firstByte a (length text)) (text ++ rest) ≡ lettersFault text
-  unfolding headFault
-  letters-head s =
+module _ (a : ℕ) (text rest : List ℕ) (s : 1 ≤ length text) (f : length text ≤ 15) where
+  none : eqb (firstByte a (length text) % 16) 0 ≡ true → ⊥
+  none e = let z = eqb-true (firstByte a (length text) % 16) 0 e in omega arith
+
+  short : ltb (length (text ++ rest)) (firstByte a (length text) % 16) ≡ true → ⊥
+  short l =
+      let z = ltb-true (length (text ++ rest)) (firstByte a (length text) % 16) l in
       let long = length-append text rest in
-      let size = size-is in
-      choose-false _ _ _ (ne-eqb (firstByte a (length text) % 16) 0 (λ z. omega arith))
-      ∙ choose-false _ _ _ (le-ltb (length (text ++ rest)) (firstByte a (length text) % 16) (omega arith))
-      ∙ ap lettersFault text-is
+      omega arith
 
-letters-none : (text : List ℕ) → Letters text → lettersFault text ≡ 0
-unfolding lettersFault
-letters-none text l = choose-true _ _ _ (known-letters text l)
+  known : (t : Bool) → allLetters (take (firstByte a (length text) % 16) (text ++ rest)) ≡ t → allLetters text ≡ t
+  known t e = ap allLetters (sym (text-is a text rest f)) ∙ e
 
-letters-some : (text : List ℕ) (i : ℕ) → i < length text → (Letter (getD text i 0) → ⊥) → lettersFault text ≡ 53
-unfolding lettersFault
-letters-some text i h n =
-    chosen (λ (m : ℕ). m ≡ 53) (allLetters text) 0 53 (λ e. absurd (n (letters-known text e .each i h))) (λ e. refl)
+  good-head : Letters text → headFault (firstByte a (length text)) (text ++ rest) ≡ 0
+  unfolding headFault
+  good-head l =
+      by-tests (λ (n : ℕ). n ≡ 0) _ _ _ (λ e. absurd (none e)) (λ e c. absurd (short c)) (λ e c t. refl)
+      (λ e c t. never (sym (known false t) ∙ known-letters text l))
+
+  bad-head : (i : ℕ) → i < length text → (Letter (getD text i 0) → ⊥) → headFault (firstByte a (length text)) (text ++ rest) ≡ 53
+  unfolding headFault
+  bad-head i h w =
+      by-tests (λ (n : ℕ). n ≡ 53) _ _ _ (λ e. absurd (none e)) (λ e c. absurd (short c))
+      (λ e c t. absurd (w (letters-known text (known true t) .each i h))) (λ e c t. refl)
 
 module _ (list : List ℕ) where
+  -- what the entry at a place gives, before those after it
+  head-first :
+      (at b : ℕ) (rest : List ℕ) (n : ℕ) → drop at list ≡ b ∷ rest → headFault b rest ≡ n
+      → faultAmong list (placesAfter list at) ≡ firstOf n (faultAmong list (placesAfter list (entryEnd list at)))
+  head-first at b rest n e h =
+      faults-there list at b rest (stands list at b rest e)
+      ∙ ap (λ (x : ℕ). firstOf x (faultAmong list (placesAfter list (entryEnd list at)))) h
+
   only-from :
       (at : ℕ) (tail : List ℕ) (n : ℕ) → drop at list ≡ tail → FirstFault tail n → faultAmong list (placesAfter list at) ≡ n
-  unfolding headFault firstOf choose
+  unfolding firstOf choose
   only-from at _ n e no-fault = fault-past list at (ended list at e)
   only-from at _ n e (past-entry a {text} {rest} t f) =
-      let s = stands list at _ _ e in
-      let m = faultAmong list (placesAfter list (entryEnd list at)) in
-      faults-there list at _ _ s
-      ∙ ap (λ (x : ℕ). firstOf x m) (letters-head a text rest (t .few) (t .some) ∙ letters-none text (t .letters))
-      ∙ only-from (entryEnd list at) rest n (after-there list at _ _ s ∙ rest-is a text rest (t .few)) f
-  only-from at _ n e (length-of-nought a {rest}) =
-      let s = stands list at _ _ e in
-      let m = faultAmong list (placesAfter list (entryEnd list at)) in
-      let none : firstByte a 0 % 16 ≡ 0 = omega arith in
-      faults-there list at _ _ s ∙ ap (λ (x : ℕ). firstOf x m) (choose-true _ _ _ (eq-eqb _ 0 none))
-  only-from at _ n e (cut-short a size {rest} l u c) =
-      let s = stands list at _ _ e in
-      let m = faultAmong list (placesAfter list (entryEnd list at)) in
-      let same : firstByte a size % 16 ≡ size = omega arith in
-      let short : length rest < firstByte a size % 16 = omega arith in
-      faults-there list at _ _ s
-      ∙ ap (λ (x : ℕ). firstOf x m)
-      (choose-false _ _ _ (ne-eqb (firstByte a size % 16) 0 (λ z. omega arith)) ∙ choose-true _ _ _ (lt-ltb _ _ short))
-  only-from at _ n e (out-of-range a text rest i l u h w) =
-      let s = stands list at _ _ e in
-      let m = faultAmong list (placesAfter list (entryEnd list at)) in
-      faults-there list at _ _ s ∙ ap (λ (x : ℕ). firstOf x m) (letters-head a text rest u l ∙ letters-some text i h w)
+      head-first at _ _ 0 e (good-head a text rest (t .some) (t .few) (t .letters))
+      ∙ only-from (entryEnd list at) rest n (after-there list at _ _ (stands list at _ _ e) ∙ rest-is a text rest (t .few)) f
+  only-from at _ n e (length-of-nought a {rest}) = head-first at _ _ 51 e (nought-head a rest)
+  only-from at _ n e (cut-short a size {rest} l u c) = head-first at _ _ 52 e (cut-head a size rest l u c)
+  only-from at _ n e (out-of-range a text rest i l u h w) = head-first at _ _ 53 e (bad-head a text rest l u i h w)
 
   list-fault-only : (n : ℕ) → FirstFault list n → listFault list ≡ n
   unfolding listFault placesOf

@@ -1,4 +1,5 @@
 pub mod EntryLaws
 pub mod FirstFault
 pub mod LookupLaws
+pub mod NameClaims
 pub mod Standing

@@ -11,14 +11,10 @@ use Rattle.names.specs.Names.{stretchAfter, bytesOf, nameAfter, stretchO
 use Rattle.names.specs.Lookup.{PartOf, PartOfOne, NamedAfter, Named, Sought, TextFound, Picked}
 
 -- ---- the number of two lists
-module _ (site office : List ℕ) (n : ℕ) (e : n ≡ listFault site) where
-  pub fault-of-site : (n ≡ 0 → ⊥) → n ≡ namesFault site office
-  unfolding namesFault firstOf
-  fault-of-site h = if-ne _ _ _ _ _ (λ z. h (e ∙ z)) e
-
-  pub fault-of-office : (m : ℕ) → n ≡ 0 → m ≡ listFault office → m ≡ namesFault site office
-  unfolding namesFault firstOf
-  fault-of-office m h p = if-eq _ _ _ _ _ (sym e ∙ h) p
+pub both-tested :
+    (site office : List ℕ) (n m r : ℕ) → n ≡ listFault site → m ≡ listFault office → r ≡ firstOf n m → r ≡ namesFault site office
+unfolding namesFault
+both-tested site office n m r p q e = cc
 
 -- ---- the stretch for what was found
 pub there : (list : List ℕ) (a : Locality) (found : Found) (p : ℕ) → Sought list a found → found ≡ Found.At p → p < length list

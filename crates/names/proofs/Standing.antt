@@ -1,14 +1,16 @@
 -- What stands at a place of a list of names: an entry's first byte b, and the bytes after it. Assumes nothing.
 use Prim.Native.Nat.{ℕ, suc, _+_, _-_, _/_, _%_, _<_, _≤_}
 use mathlib.Core.Path.{_≡_, refl, sym, ap, _∙_}
+use mathlib.Core.Bool.{Bool, true, false}
 use mathlib.Core.List.{List, [], _∷_, _++_}
 use native.Mathlib.Omega.{arith}
 use native.Mathlib.Numerals.{add-one}
 use lib.ListN.{length, getD, take, drop, length-drop, take-append-drop}
-use lib.Seq.{drop-cons, drop-drop, length-take-le}
+use lib.Seq.{drop-cons, drop-drop, length-take-le, take-at, drop-at}
 use lib.Dec.{eqb, ltb}
 use Rattle.net.specs.Choice.{choose}
-use Rattle.names.specs.Names.{addressAt, sizeAt, textAt, lettersFault, entryFault, firstOf, faultAmong}
+use Rattle.names.specs.Names.{addressAt, sizeAt, textAt, lengthFault, cutFault, allLetters, letterFault, entryFault, firstOf}
+use Rattle.names.specs.Names.{faultAmong}
 use Rattle.names.specs.NameClaims.{firstByte}
 use Rattle.names.proofs.EntryLaws.{placesAfter, entryEnd, fault-next}
 
@@ -28,10 +30,23 @@ stands list at b rest e =
 pub ended : (list : List ℕ) (at : ℕ) → drop at list ≡ [] → length list ≤ at
 ended list at e = let long : length list - at ≡ 0 = sym (length-drop at list) ∙ ap length e in omega arith
 
--- the fault of an entry by its bytes
+-- ---- the fault of an entry by its three tests, and by its bytes
+pub testedFault : Bool → Bool → Bool → ℕ
+testedFault nought cut letters = firstOf (choose nought 51 0) (firstOf (choose cut 52 0) (choose letters 0 53))
+
+module _ (P : ℕ → Type 0) where
+  pub by-tests :
+      (nought cut letters : Bool) → (nought ≡ true → P 51) → (nought ≡ false → cut ≡ true → P 52)
+      → (nought ≡ false → cut ≡ false → letters ≡ true → P 0) → (nought ≡ false → cut ≡ false → letters ≡ false → P 53)
+      → P (testedFault nought cut letters)
+  unfolding testedFault firstOf choose
+  by-tests true cut letters p q r s = p refl
+  by-tests false true letters p q r s = q refl refl
+  by-tests false false true p q r s = r refl refl refl
+  by-tests false false false p q r s = s refl refl refl
+
 unfoldable pub headFault : ℕ → List ℕ → ℕ
-headFault b rest =
-    choose (eqb (b % 16) 0) 51 (choose (ltb (length rest) (b % 16)) 52 (lettersFault (take (b % 16) rest)))
+headFault b rest = testedFault (eqb (b % 16) 0) (ltb (length rest) (b % 16)) (allLetters (take (b % 16) rest))
 
 module _ (list : List ℕ) (at b : ℕ) (rest : List ℕ) (s : Stands list at b rest) where
   pub size-there : sizeAt list at ≡ b % 16
@@ -47,7 +62,7 @@ module _ (list : List ℕ) (at b : ℕ) (rest : List ℕ) (s : Stands list at b 
   text-there = ap (λ (n : ℕ). take n (drop (at + 1) list)) size-there ∙ ap (take (b % 16)) (s .after)
 
   fault-there : entryFault list at ≡ headFault b rest
-  unfolding entryFault headFault textAt sizeAt
+  unfolding entryFault lengthFault cutFault letterFault testedFault headFault textAt sizeAt
   fault-there = ap (λ (x : ℕ). headFault x (drop (at + 1) list)) (s .first) ∙ ap (headFault b) (s .after)
 
   pub faults-there :
@@ -73,3 +88,17 @@ module _ (b : ℕ) (rest : List ℕ) (h : b % 16 ≤ length rest) where
       ap (λ (n : ℕ). firstByte (b / 16) n ∷ (take (b % 16) rest ++ drop (b % 16) rest)) text-long
       ∙ ap (λ (n : ℕ). n ∷ (take (b % 16) rest ++ drop (b % 16) rest)) (byte-apart b)
       ∙ ap (λ (l : List ℕ). b ∷ l) (take-append-drop (b % 16) rest)
+
+-- ---- and as it is written
+module _ (a : ℕ) (text rest : List ℕ) (h : length text ≤ 15) where
+  pub size-is : firstByte a (length text) % 16 ≡ length text
+  size-is = omega arith
+
+  pub address-is : firstByte a (length text) / 16 ≡ a
+  address-is = omega arith
+
+  pub text-is : take (firstByte a (length text) % 16) (text ++ rest) ≡ text
+  text-is = take-at text rest _ (sym size-is)
+
+  pub rest-is : drop (firstByte a (length text) % 16) (text ++ rest) ≡ rest
+  rest-is = drop-at text rest _ (sym size-is)

@@ -5,7 +5,8 @@ use mathlib.Core.List.{List}
 use lib.ListN.{length, take, drop}
 use denote.Ref.{RefT, now, ptr}
 use Rattle.net.specs.declared.locality.Locality.{Locality}
-use Rattle.names.specs.Names.{Found, Stretch, ofSite, ofOffice, sizeAt, foundIn, stretchFor, stretchAfter, nameAfter, stretchOf, nameOf}
+use Rattle.names.specs.Names.{Found, Stretch, ofSite, ofOffice, sizeAt, foundIn, stretchFor, stretchAfter, nameAfter}
+use Rattle.names.specs.Names.{stretchOf, nameOf}
 
 -- r points to a place of a lent list, and reaches over so many bytes from there
 pub record PartOf (list : RefT (List ℕ)) (from size : ℕ) (r : RefT (List ℕ)) : Type 0 where

@@ -89,7 +89,7 @@ pub data FirstFor (a : ℕ) : List Entry → List ℕ → Type 0 where
 
 -- no entry is for it
 pub data NoneFor (a : ℕ) : List Entry → Type 0 where
-  none : NoneFor a []
+  nothing-left : NoneFor a []
   other : {e : Entry} {entries : List Entry} → (e .address ≡ a → ⊥) → NoneFor a entries → NoneFor a (e ∷ entries)
 
 pub data EntryFor (site office : List ℕ) (a : Locality) (name : List ℕ) : Type 0 where

@@ -30,7 +30,12 @@ placesFrom at (suc skip) (b ∷ rest) = placesFrom (suc at) skip rest
 unfoldable pub placesOf : List ℕ → List ℕ
 placesOf list = placesFrom 0 0 list
 
--- ---- "51 a length of 0, 52 an entry cut short, 53 a byte out of range"; 0 is no fault
+-- ---- the faults of an entry: "51 a length of 0, 52 an entry cut short, 53 a byte out of range"; 0 is none
+unfoldable pub lengthFault : List ℕ → ℕ → ℕ
+lengthFault list p = choose (eqb (sizeAt list p) 0) 51 0
+
+unfoldable pub cutFault : List ℕ → ℕ → ℕ
+cutFault list p = choose (ltb (length (drop (p + 1) list)) (sizeAt list p)) 52 0
 
 -- "bytes from 33 to 126"
 unfoldable pub letterAt : List ℕ → ℕ → Bool
@@ -39,20 +44,18 @@ letterAt text i = inRange 33 (getD text i 0) 126
 unfoldable pub allLetters : List ℕ → Bool
 allLetters text = all (length text) (letterAt text)
 
-unfoldable pub lettersFault : List ℕ → ℕ
-lettersFault text = choose (allLetters text) 0 53
-
--- "51 before 52 before 53 within one"
-unfoldable pub entryFault : List ℕ → ℕ → ℕ
-entryFault list p =
-    choose (eqb (sizeAt list p) 0) 51
-    (choose (ltb (length (drop (p + 1) list)) (sizeAt list p)) 52
-    (lettersFault (textAt list p)))
+unfoldable pub letterFault : List ℕ → ℕ → ℕ
+letterFault list p = choose (allLetters (textAt list p)) 0 53
 
 -- the first of two numbers that is a fault
 unfoldable pub firstOf : ℕ → ℕ → ℕ
 firstOf n m = choose (eqb n 0) m n
 
+-- "51 before 52 before 53 within one"
+unfoldable pub entryFault : List ℕ → ℕ → ℕ
+entryFault list p = firstOf (lengthFault list p) (firstOf (cutFault list p) (letterFault list p))
+
+-- ---- the fault of two lists: "both lists are tested whole before a name is given, the site's first, entry by entry"
 unfoldable pub faultAmong : List ℕ → List ℕ → ℕ
 faultAmong list [] = 0
 faultAmong list (p ∷ places) = firstOf (entryFault list p) (faultAmong list places)
@@ -60,7 +63,6 @@ faultAmong list (p ∷ places) = firstOf (entryFault list p) (faultAmong list pl
 unfoldable pub listFault : List ℕ → ℕ
 listFault list = faultAmong list (placesOf list)
 
--- "both lists are tested whole before a name is given, the site's first, entry by entry"
 unfoldable pub namesFault : List ℕ → List ℕ → ℕ
 namesFault site office = firstOf (listFault site) (listFault office)
 

@@ -4,7 +4,7 @@ ghost use mathlib.Core.Path.{_≡_};
 ghost use Prim.Native.Nat.{_+_, _<_};
 ghost use lib.ListN.{length};
 ghost use Rattle.net.specs.Choice.{inRange};
-ghost use Rattle.names.specs.Names.{sizeAt, allLetters, lettersFault, entryFault, listFault};
+ghost use Rattle.names.specs.Names.{sizeAt, lengthFault, cutFault, allLetters, letterFault, firstOf, entryFault, listFault};
 ghost use Rattle.names.specs.Lookup.{PartOf, Sought};
 
 // The place of the first entry for an address.
@@ -38,6 +38,22 @@ pub fn text_at(list: &[u8], at: usize) -> &[u8]
 
 // ---- the test of a list
 
+// 51, where the length is 0.
+fn length_fault(list: &[u8], at: usize) -> u8
+    requires { ⌜ at < length (now list) ⌝ }
+    ensures { λ r. ⌜ r ≡ lengthFault (now (list .entry)) at ⌝ }
+{
+    if list[at] % 16 == 0 { 51 } else { 0 }
+}
+
+// 52, where the list ends before the entry does.
+fn cut_fault(list: &[u8], at: usize) -> u8
+    requires { ⌜ at < length (now list) ⌝ }
+    ensures { λ r. ⌜ r ≡ cutFault (now (list .entry)) at ⌝ }
+{
+    if list.len() < end_of(list, at) { 52 } else { 0 }
+}
+
 // Whether a byte may stand in a name.
 fn is_letter(b: u8) -> bool
     ensures { λ r. ⌜ r ≡ inRange 33 b 126 ⌝ }
@@ -45,6 +61,7 @@ fn is_letter(b: u8) -> bool
     (33 <= b) & (b <= 126)
 }
 
+// Whether each byte of a text may.
 fn all_letters(text: &[u8]) -> bool
     ensures { λ r. ⌜ r ≡ allLetters (now (text .entry)) ⌝ }
 {
@@ -58,11 +75,23 @@ fn all_letters(text: &[u8]) -> bool
     ok
 }
 
-// 53, where a byte is out of range.
-fn letters_fault(text: &[u8]) -> u8
-    ensures { λ r. ⌜ r ≡ lettersFault (now (text .entry)) ⌝ }
+// 53, where a byte of the text is out of range.
+fn letter_fault(list: &[u8], at: usize) -> u8
+    requires { ⌜ at < length (now list) ⌝ }
+    ensures { λ r. ⌜ r ≡ letterFault (now (list .entry)) at ⌝ }
 {
-    if all_letters(text) { 0 } else { 53 }
+    if all_letters(text_at(list, at)) {
+        0
+    } else {
+        53
+    }
+}
+
+// The first of two numbers that is a fault.
+pub fn first_of(n: u8, m: u8) -> u8
+    ensures { λ r. ⌜ r ≡ firstOf n m ⌝ }
+{
+    if n == 0 { m } else { n }
 }
 
 // The fault of an entry.
@@ -70,14 +99,11 @@ fn entry_fault(list: &[u8], at: usize) -> u8
     requires { ⌜ at < length (now list) ⌝ }
     ensures { λ r. ⌜ r ≡ entryFault (now (list .entry)) at ⌝ }
 {
-    let end = end_of(list, at);
-    if end == at + 1 {
-        51
-    } else if list.len() < end {
-        52
-    } else {
-        letters_fault(text_at(list, at))
-    }
+    let size = length_fault(list, at);
+    let cut = cut_fault(list, at);
+    let letter = letter_fault(list, at);
+    let later = first_of(cut, letter);
+    first_of(size, later)
 }
 
 // The first fault of a list.

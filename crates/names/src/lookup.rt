@@ -2,6 +2,7 @@
 // (document 02, slip 14).
 use crate::entries::Found;
 use crate::entries::find;
+use crate::entries::first_of;
 use crate::entries::list_fault;
 use crate::entries::text_at;
 use net::locality::Locality;
@@ -13,12 +14,9 @@ ghost use Rattle.names.specs.Lookup.{PartOf, TextFound, Picked, NamedAft
 pub fn fault(site: &[u8], office: &[u8]) -> u8
     ensures { λ r. ⌜ r ≡ namesFault (now (site .entry)) (now (office .entry)) ⌝ }
 {
-    let number = list_fault(site);
-    if number == 0 {
-        list_fault(office)
-    } else {
-        number
-    }
+    let of_site = list_fault(site);
+    let of_office = list_fault(office);
+    first_of(of_site, of_office)
 }
 
 // No bytes of a list.

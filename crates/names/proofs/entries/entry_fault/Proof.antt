@@ -1,5 +1,5 @@
 -- `names::entries::entry_fault` meets its contract. Assumes nothing.
-use Rattle.names.proofs.EntryLaws.{fault-51, fault-52, fault-53}
+use Rattle.names.proofs.EntryLaws.{entry-tested}
 use borrow.Author.Needs.{needs}
 use Rattle.names.proofs.entries.entry_fault.Statement.{statement}
 use Rattle.names.proofs.entries.entry_fault.Tie as tie
@@ -9,9 +9,8 @@ entry-fault-spec =
     tie.close
     (tie.spec
     (λ c κs. search needs)
-    (λ c. search needs)
     (λ c κs. search needs)
     (λ c κs. search needs)
-    (λ c. search (needs, fault-51))
-    (λ c. search (needs, fault-52))
-    (λ c. search (needs, fault-53)))
+    (λ c κs. search needs)
+    (λ c κs. search needs)
+    (λ c. search (needs, entry-tested)))

@@ -1,5 +1,5 @@
 -- `names::entries::find` meets its contract. Assumes nothing.
-use Prim.Native.Nat.{_-_, _≤_}
+use Prim.Native.Nat.{_-_}
 use lib.ListN.{length}
 use Rattle.net.specs.Records.{addressOf}
 use Rattle.names.specs.Names.{foundAmong}

@@ -1,5 +1,5 @@
 -- `names::lookup::fault` meets its contract. Assumes nothing.
-use Rattle.names.proofs.LookupLaws.{fault-of-site, fault-of-office}
+use Rattle.names.proofs.LookupLaws.{both-tested}
 use borrow.Author.Needs.{needs}
 use Rattle.names.proofs.lookup.fault.Statement.{statement}
 use Rattle.names.proofs.lookup.fault.Tie as tie
@@ -10,5 +10,5 @@ fault-spec =
     (tie.spec
     (λ c κs. search needs)
     (λ c κs. search needs)
-    (λ c. search (needs, fault-of-office))
-    (λ c. search (needs, fault-of-site)))
+    (λ c κs. search needs)
+    (λ c. search (needs, both-tested)))
