@@ -25,7 +25,7 @@ use Rattle.lines.specs.Lines.{fewer, refusalLine, placeWords, refusedLine, netL
 use Rattle.lines.specs.Lines.{itemWord, fieldWords, markWords, tupleLine, tupleLines, nodeLines, addressLines, netLines, pickLines}
 use Rattle.registers.specs.Register.{registerLines, registerIn, registerAs, registerOf, registerTextAs, registerTextOf}
 use Rattle.lines.specs.Lines.{tupleCount, totalLine, closingLines, afterLines}
-use Rattle.names.proofs.NameClaims.{nameIsShort}
+use Rattle.names.proofs.NameClaims.{name-is-short}
 use Rattle.registers.specs.Register.{namedRegisterOf, namedRegisterTextOf}
 use Rattle.registers.specs.Longest.{longest, LongestShowing, LongestNamed, LongestRegister, LongestTextRegister}
 use Rattle.lines.proofs.WordLaws.{spaced-none, spaced-both, printed-none, printed-both}
@@ -285,7 +285,7 @@ longestShowing parts image picks h = first-short (unnamed parts) (no-names-short
 -- no name is longer than an entry's
 named-short : (parts : Parts) (site office : List ℕ) (l : Locality) → length (named parts site office .names l) ≤ 15
 unfolding named
-named-short parts site office l = nameIsShort .few site office l
+named-short parts site office l = name-is-short .few site office l
 
 pub longestNamed : LongestNamed
 unfolding namedRegisterOf registerAs namedRegisterTextOf registerTextAs
