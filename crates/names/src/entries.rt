@@ -23,7 +23,7 @@ fn end_of(list: &[u8], at: usize) -> usize
 }
 
 // The text of an entry, as far as the list reaches.
-pub fn text_at(list: &[u8], at: usize) -> &[u8]
+pub(crate) fn text_at(list: &[u8], at: usize) -> &[u8]
     requires { ⌜ at < length (now list) ⌝ }
     ensures { λ r. ⌜ PartOf (list .entry) (at + 1) (sizeAt (now (list .entry)) at) r ⌝ }
 {
@@ -88,7 +88,7 @@ fn letter_fault(list: &[u8], at: usize) -> u8
 }
 
 // The first of two numbers that is a fault.
-pub fn first_of(n: u8, m: u8) -> u8
+pub(crate) fn first_of(n: u8, m: u8) -> u8
     ensures { λ r. ⌜ r ≡ firstOf n m ⌝ }
 {
     if n == 0 { m } else { n }
@@ -107,7 +107,7 @@ fn entry_fault(list: &[u8], at: usize) -> u8
 }
 
 // The first fault of a list.
-pub fn list_fault(list: &[u8]) -> u8
+pub(crate) fn list_fault(list: &[u8]) -> u8
     ensures { λ r. ⌜ r ≡ listFault (now (list .entry)) ⌝ }
 {
     let mut at = 0;
@@ -123,7 +123,7 @@ pub fn list_fault(list: &[u8]) -> u8
 
 // ---- the first entry for an address
 
-pub fn find(list: &[u8], address: Locality) -> Found
+pub(crate) fn find(list: &[u8], address: Locality) -> Found
     ensures { λ r. ⌜ Sought (now (list .entry)) address r ⌝ }
 {
     let wanted = address.0;
