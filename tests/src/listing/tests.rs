@@ -1,7 +1,7 @@
 //! Listings by hand, and the checker beside another definition of it.
 
 use super::by_hand::{long, short, Stated, LINES, LONGEST};
-use super::generate::{agreeing, damaged, misnamed};
+use super::generate::{agreeing, damaged, misnamed, Listing};
 use super::*;
 use crate::by_hand::PAPER_IMAGE;
 use crate::random::Random;
@@ -71,9 +71,21 @@ fn stated_answers() {
 #[test]
 fn the_longest_listing() {
     let Stated { case, .. } = long();
-    let full = &case.listings[0].bytes;
-    assert_eq!((full.len(), lines(full).count()), (LONGEST, LINES));
-    assert_eq!((LONGEST, LINES), (3_232_651, 65_810));
+    let agrees = |listing: &&Listing| {
+        let (bytes, called) = (&listing.bytes, listing.called);
+        check_listing(&case.image, &case.picks, bytes, called) == AGREES
+    };
+    let longest: Vec<_> = case.listings.iter().filter(agrees).collect();
+    assert_eq!(longest.len(), Age::BOTH.len());
+    let [old, new] = Age::BOTH.map(|age| {
+        let listing = longest.iter().find(|listing| listing.called == age);
+        let bytes = &listing.expect("one of each age").bytes;
+        (bytes.len(), lines(bytes).count())
+    });
+    assert_eq!(new, (LONGEST, LINES));
+    assert_eq!(new, (3_232_651, 65_810));
+    // Neither marks nor a total.
+    assert_eq!(old, (LONGEST - 256 * 16 - 17, LINES - 1));
 }
 
 #[test]

@@ -4,7 +4,7 @@ use super::Stated;
 use crate::by_hand::{fill, longest, readings};
 use crate::image::write_image;
 use crate::listing::generate::{fully_padded, Case, Listing};
-use crate::listing::{wanted_lines, Age};
+use crate::listing::{lines, wanted_lines, Age};
 use crate::net::{ADDRESSES, TUPLES};
 use crate::register::MOST_PICKS;
 
@@ -28,38 +28,46 @@ fn run() -> (Vec<u8>, Vec<u8>) {
     (write_image(&net), vec![0x03; MOST_PICKS])
 }
 
-/// The longest listing of all, others that are not cut where a shorter one
-/// ends, and some that are longer than any that agrees.
+/// In each age the longest listing of all, others that are not cut where a
+/// shorter one ends, and some that are longer than any that agrees.
 pub fn long() -> Stated {
     let (image, picks) = run();
-    let full = fully_padded(&wanted_lines(&image, &picks, Age::New));
-    let with = |end: &[u8]| [&full[..], end].concat();
-    let without = |end: &str| full[..full.len() - end.len()].to_vec();
-    let (agrees, differs) = ("0".to_string(), format!("41 {LINES}"));
-    let (wanting, left_over) = (format!("42 {LINES}"), format!("43 {}", LINES + 1));
-    let all = [
-        (full.clone(), agrees),
-        (with(b"0"), left_over.clone()),
-        (with(b"\n"), left_over.clone()),
-        (with(&full), left_over.clone()),
-        (with(&vec![b'\n'; 10_000_000]), left_over),
-        (without("\n"), differs.clone()),
-        (without("total 0000000256\n"), wanting),
-        (
-            [without("0000000256\n"), vec![b'0'; 5_000_000]].concat(),
-            differs,
-        ),
-        (vec![b'0'; 10_000_000], "41 1".to_string()),
-    ];
-    let called = Age::New;
-    let (listings, prints) = all
-        .map(|(bytes, prints)| (Listing { called, bytes }, prints))
-        .into_iter()
-        .unzip();
+    let of_age = |age: Age| {
+        let rows = rows(&wanted_lines(&image, &picks, age));
+        rows.into_iter().map(move |(bytes, prints)| {
+            let called = age;
+            (Listing { called, bytes }, prints)
+        })
+    };
+    let (listings, prints) = Age::BOTH.into_iter().flat_map(of_age).unzip();
     let case = Case {
         image,
         picks,
         listings,
     };
     Stated { case, prints }
+}
+
+// Listings that are as long as these lines can be or longer, and what is
+// printed of each.
+fn rows(wanted: &[String]) -> Vec<(Vec<u8>, String)> {
+    let full = fully_padded(wanted);
+    let with = |end: &[u8]| [&full[..], end].concat();
+    let without = |bytes: usize| full[..full.len() - bytes].to_vec();
+    let last = lines(&full).last().map_or(0, <[u8]>::len);
+    let count = wanted.len();
+    let (agrees, differs) = ("0".to_string(), format!("41 {count}"));
+    let (wanting, left_over) = (format!("42 {count}"), format!("43 {}", count + 1));
+    let endless = [without(1), vec![b'0'; 5_000_000]].concat();
+    vec![
+        (full.clone(), agrees),
+        (with(b"0"), left_over.clone()),
+        (with(b"\n"), left_over.clone()),
+        (with(&full), left_over.clone()),
+        (with(&vec![b'\n'; 10_000_000]), left_over),
+        (without(1), differs.clone()),
+        (without(last), wanting),
+        (endless, differs),
+        (vec![b'0'; 10_000_000], "41 1".to_string()),
+    ]
 }
