@@ -1,7 +1,9 @@
-//! Four small nets that a person can follow, with picks and register, and an
-//! image that is refused. They are stored below `examples`.
+//! Four small nets that a person can follow, with picks and register, one of
+//! them with a listing of the old program, and an image that is refused. They
+//! are stored below `examples`.
 
 pub mod damaged;
+mod listing;
 mod nets;
 
 use crate::image::{read_image, write_image};
@@ -24,6 +26,8 @@ pub struct Example {
     pub net: Net,
     /// Each pick, and what it does.
     pub picks: &'static [(u8, &'static str)],
+    /// What the old program printed of it, where that is shown.
+    pub listing: Option<&'static str>,
 }
 
 /// All examples with an accepted net.
@@ -64,18 +68,25 @@ impl Example {
 
     fn files(&self) -> Vec<Stored> {
         let file = |name: &str, content| file(self.name, name, content);
-        vec![
+        let mut files = vec![
             file("net.txt", self.notation.as_bytes().to_vec()),
             file("net.bin", self.image()),
             file("picks.bin", self.pick_bytes()),
             file("register.txt", self.register().into_bytes()),
             file("README.md", self.readme().into_bytes()),
-        ]
+        ];
+        if let Some(listing) = self.listing {
+            files.push(file("listing.txt", listing.as_bytes().to_vec()));
+        }
+        files
     }
 
     fn readme(&self) -> String {
         let (title, about, notation) = (self.title, self.about, self.notation);
         let (table, register) = (self.table(), self.register());
+        let listing = self
+            .listing
+            .map_or(String::new(), |text| self.about_listing(text));
         format!(
             "# {title}\n\n{about}\n\
              ## The net\n\n\
@@ -88,7 +99,7 @@ impl Example {
              ## The register\n\n\
              Run in this directory, `../../target/bin/register` prints what `register.txt` holds, and so does \
              `../../target/bin/register_text`, which reads the text:\n\n\
-             ```\n{register}```\n"
+             ```\n{register}```\n{listing}"
         )
     }
 

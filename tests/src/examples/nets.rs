@@ -34,8 +34,24 @@ and is still there at the end.
             (0x00, "stop: the slot is free"),
             (0x00, "nothing: the slot is free"),
         ],
+        listing: Some(PUT_AND_TAKE_LISTING),
     }
 }
+
+/// As the old program prints the run: numbers padded to one width in each
+/// column, no mark, no total.
+const PUT_AND_TAKE_LISTING: &str = "\
+net 02 004
+pick 00001 01 0 02
+pick 00002 00 0 00
+pick 00003 01 0 00
+pick 00004 01 0 01
+pick 00005 00 0 01
+pick 00006 00 0 07
+node 00 00 0
+node 01 01 0
+tuple 01 @00
+";
 
 fn put_and_take_net() -> Net {
     let code = [
@@ -76,6 +92,7 @@ put nothing anywhere.
             (0x10, "stop: the sent process ends"),
             (0x00, "stop: the sender ends"),
         ],
+        listing: None,
     }
 }
 
@@ -120,6 +137,7 @@ A0 = nil
             (0x10, "stop: the sent process ends"),
             (0x00, "stop: the creator's process ends"),
         ],
+        listing: None,
     }
 }
 
@@ -169,6 +187,7 @@ the picks of 0 and 1, and what is at these addresses at the end, stay the same.
 ",
         net: tenant_net(),
         picks: &TENANT_PICKS,
+        listing: None,
     }
 }
 
