@@ -4,6 +4,8 @@
 use crate::by_hand::*;
 use crate::dump::{dump, framed};
 use crate::image::write_image;
+use crate::listing::generate::fully_padded;
+use crate::listing::{wanted_lines, Age};
 use crate::net::*;
 use crate::notation::edges::{deepest, widest};
 use crate::notation::from_net::from_net;
@@ -15,12 +17,11 @@ use crate::register::{register, register_text, MOST_PICKS};
 use crate::replay::{expected, Run};
 use crate::stored::repository;
 use std::fs::{self, File};
-use std::path::Path;
 use std::process::{Command, Output};
 
 /// Kilobytes of stack that each program has to do with. What it needs is
 /// less: `cargo run --bin measure_stack` says how much.
-pub const BOUNDS: [(&str, usize); 8] = [
+pub const BOUNDS: [(&str, usize); 9] = [
     ("register", 2_048),
     ("repack", 1_024),
     ("edges", 1_024),
@@ -29,6 +30,7 @@ pub const BOUNDS: [(&str, usize); 8] = [
     ("inspect_text", 1_024),
     ("pack", 2_048),
     ("register_text", 3_072),
+    ("check_listing", 3_072),
 ];
 
 /// A net, and as many picks as a register takes.
@@ -93,10 +95,11 @@ fn round(at: u16) -> [Instruction; 8] {
     ]
 }
 
-/// A directory for a program, with the bytes of its standard input, and
-/// what it prints there.
+/// A directory for a program, with the bytes of its standard input, its
+/// arguments, and what it prints there.
 pub struct Job {
     directory: TestDirectory,
+    arguments: Vec<String>,
     printed: Vec<u8>,
 }
 
@@ -106,24 +109,35 @@ impl Job {
     fn new(files: &[(&str, &[u8])], input: &[u8], printed: Vec<u8>) -> Job {
         let files = files.iter().copied().chain([(INPUT, input)]);
         let directory = TestDirectory::holding(files);
-        Job { directory, printed }
+        Job {
+            directory,
+            arguments: Vec::new(),
+            printed,
+        }
+    }
+
+    fn given(self, arguments: &[&str]) -> Job {
+        let arguments = arguments.iter().map(|one| one.to_string()).collect();
+        Job { arguments, ..self }
     }
 
     /// Whether a program does the job with so many kilobytes of stack.
     pub fn done_by(&self, name: &str, kilobytes: usize) -> bool {
-        let output = run_with_stack(name, &self.directory.path, kilobytes);
+        let output = self.run_with_stack(name, kilobytes);
         output.status.success() && output.stdout == self.printed
     }
-}
 
-// Runs a program of the repository with so many kilobytes of stack.
-fn run_with_stack(name: &str, directory: &Path, kilobytes: usize) -> Output {
-    let script = "ulimit -s \"$1\" && exec \"$0\"";
-    let input = File::open(directory.join(INPUT)).expect("it is there");
-    let mut command = Command::new("sh");
-    command.arg("-c").arg(script).arg(program(name));
-    command.arg(kilobytes.to_string()).stdin(input);
-    command.current_dir(directory).output().expect("sh runs")
+    // Runs a program of the repository with so many kilobytes of stack.
+    fn run_with_stack(&self, name: &str, kilobytes: usize) -> Output {
+        let script = "ulimit -s \"$1\" && shift && exec \"$0\" \"$@\"";
+        let directory = &self.directory.path;
+        let input = File::open(directory.join(INPUT)).expect("it is there");
+        let mut command = Command::new("sh");
+        command.arg("-c").arg(script).arg(program(name));
+        command.arg(kilobytes.to_string()).args(&self.arguments);
+        command.current_dir(directory).stdin(input);
+        command.output().expect("sh runs")
+    }
 }
 
 /// The jobs of a program that go by all of its code.
@@ -137,6 +151,7 @@ pub fn jobs(name: &str) -> Vec<Job> {
         "inspect_text" => vec![inspecting_texts()],
         "register_text" => texts().map(|text| registering_text(&text)).into(),
         "pack" => texts().map(|text| packing(&text)).into(),
+        "check_listing" => loads().iter().flat_map(checking).collect(),
         _ => panic!("{name} is no program"),
     }
 }
@@ -165,6 +180,20 @@ fn inspecting() -> Job {
     // Accepted: the answer and four bytes of place, all 0.
     let printed = loads().map(|load| [vec![0; 5], dump(&load.net)].concat());
     Job::new(&[], &input, printed.concat())
+}
+
+// The longest listings of a run, one in each age.
+fn checking(load: &Load) -> [Job; 2] {
+    let (image, picks) = (load.image(), &load.picks);
+    Age::BOTH.map(|age| {
+        let listing = fully_padded(&wanted_lines(&image, picks, age));
+        let files: [(&str, &[u8]); 3] = [
+            ("net.bin", &image),
+            ("picks.bin", picks),
+            ("listing.txt", &listing),
+        ];
+        Job::new(&files, &[], b"0\n".to_vec()).given(&[age.argument()])
+    })
 }
 
 /// The deepest text, the widest, and one with every action.

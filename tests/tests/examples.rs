@@ -1,11 +1,11 @@
 //! The examples: that the stored files are the model's, that the programs
-//! print the stored registers and write the stored images, and that the
-//! tenant's fence holds.
+//! print the stored registers, write the stored images and check the stored
+//! listing, and that the tenant's fence holds.
 
 use cavindorum_tests::examples::{damaged, examples, stored_files, Example};
 use cavindorum_tests::image::read_image;
 use cavindorum_tests::net::*;
-use cavindorum_tests::program::{printed_by, TestDirectory};
+use cavindorum_tests::program::{printed_by, printed_given, TestDirectory};
 use cavindorum_tests::step::{pick, pick_address};
 use cavindorum_tests::stored::{self, repository};
 use std::fs;
@@ -69,6 +69,20 @@ fn the_program_writes_the_stored_image() {
         assert_eq!(String::from_utf8_lossy(&printed), says);
         let packed = file(&here.path, "net.bin");
         assert!(packed == image, "{}", stored.display());
+    }
+}
+
+/// The old program's listing of put_and_take: an old one, and at its tenth
+/// line, the tuple without a mark, no new one.
+#[test]
+fn the_stored_listing_is_an_old_one() {
+    let stored = repository().join("examples/put_and_take");
+    let files = ["net.bin", "picks.bin", "listing.txt"].map(|name| (name, file(&stored, name)));
+    let files = files.each_ref().map(|(name, bytes)| (*name, &bytes[..]));
+    let here = TestDirectory::holding(files);
+    for (age, prints) in [("old", "0\n"), ("new", "41 10\n")] {
+        let printed = printed_given("check_listing", &[age], &here.path);
+        assert_eq!(String::from_utf8_lossy(&printed), prints, "{age}");
     }
 }
 

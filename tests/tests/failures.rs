@@ -5,7 +5,7 @@
 use cavindorum_tests::by_hand::{paper_net, ONE_STOP, PAPER_IMAGE};
 use cavindorum_tests::dump::{framed, DUMP_BYTES};
 use cavindorum_tests::edges::{pack, Edge};
-use cavindorum_tests::program::{run_on, TestDirectory};
+use cavindorum_tests::program::{run_given, TestDirectory};
 use cavindorum_tests::replay::Run;
 use std::fs::{self, File};
 use std::io::Write;
@@ -18,18 +18,46 @@ use std::process::Stdio;
 /// The paper's net.
 const TEXT: &[u8] = b"0 has 0:o\n0 :: out(5)@self.nil\n";
 
-/// The programs that read files, and the files of each.
-const READERS: [(&str, &[&str]); 5] = [
-    ("register", &["net.bin", "picks.bin"]),
-    ("register_text", &["net.txt", "picks.bin"]),
-    ("pack", &["net.txt"]),
-    ("repack", &["net.bin"]),
-    ("edges", &["edges.bin", "creation.bin"]),
+/// A program that reads files, its arguments, and its files.
+struct Reader {
+    name: &'static str,
+    arguments: &'static [&'static str],
+    files: &'static [&'static str],
+}
+
+const READERS: [Reader; 6] = [
+    reader("register", &[], &["net.bin", "picks.bin"]),
+    reader("register_text", &[], &["net.txt", "picks.bin"]),
+    reader("pack", &[], &["net.txt"]),
+    reader("repack", &[], &["net.bin"]),
+    reader("edges", &[], &["edges.bin", "creation.bin"]),
+    reader(
+        "check_listing",
+        &["old"],
+        &["net.bin", "picks.bin", "listing.txt"],
+    ),
 ];
+
+const fn reader(
+    name: &'static str,
+    arguments: &'static [&'static str],
+    files: &'static [&'static str],
+) -> Reader {
+    Reader {
+        name,
+        arguments,
+        files,
+    }
+}
 
 /// What a program prints in a directory, and what it says on standard error.
 fn said(name: &str, directory: &Path, input: Stdio) -> (Vec<u8>, String) {
-    let output = run_on(name, directory, input, Stdio::piped());
+    said_given(name, &[], directory, input)
+}
+
+/// The same with these arguments.
+fn said_given(name: &str, arguments: &[&str], directory: &Path, input: Stdio) -> (Vec<u8>, String) {
+    let output = run_given(name, arguments, directory, input, Stdio::piped());
     let errors = String::from_utf8(output.stderr).expect("it is text");
     (output.stdout, errors)
 }
@@ -37,12 +65,17 @@ fn said(name: &str, directory: &Path, input: Stdio) -> (Vec<u8>, String) {
 /// Puts something else in the place of each file of each program in turn,
 /// and fails unless the program says just that of it and prints nothing.
 fn replace_each(make: impl Fn(&Path), says: &str) {
-    for (name, files) in READERS {
+    for Reader {
+        name,
+        arguments,
+        files,
+    } in READERS
+    {
         for file in files {
             let others = files.iter().filter(|other| *other != file);
             let directory = TestDirectory::holding(others.map(|other| (*other, &PAPER_IMAGE[..])));
             make(&directory.path.join(file));
-            let (printed, errors) = said(name, &directory.path, Stdio::null());
+            let (printed, errors) = said_given(name, arguments, &directory.path, Stdio::null());
             assert_eq!(errors, says.replace("FILE", file), "{name}");
             assert!(printed.is_empty(), "{name} prints {printed:?}");
         }
@@ -110,6 +143,19 @@ fn a_missing_file() {
     }
 }
 
+/// Of a missing listing the first line is wanting.
+#[test]
+fn a_missing_listing() {
+    let wanting = (b"42 1\n".to_vec(), String::new());
+    for image in [None, Some(&PAPER_IMAGE[..])] {
+        let directory = TestDirectory::with(image, None);
+        for age in ["old", "new"] {
+            let found = said_given("check_listing", &[age], &directory.path, Stdio::null());
+            assert_eq!(found, wanting);
+        }
+    }
+}
+
 /// Each file that fails is named.
 #[test]
 fn both_files() {
@@ -120,6 +166,19 @@ fn both_files() {
     let net = "cannot read net.bin: Is a directory\n";
     let picks = "cannot open picks.bin: Too many levels of symbolic links\n";
     assert_eq!(errors, [net, picks].concat());
+    assert!(printed.is_empty());
+}
+
+#[test]
+fn all_three_files() {
+    let directory = TestDirectory::holding([]);
+    let names = ["net.bin", "picks.bin", "listing.txt"];
+    for name in names {
+        fs::create_dir(directory.path.join(name)).expect("it can be made");
+    }
+    let (printed, errors) = said_given("check_listing", &["new"], &directory.path, Stdio::null());
+    let expected = names.map(|name| format!("cannot read {name}: Is a directory\n"));
+    assert_eq!(errors, expected.concat());
     assert!(printed.is_empty());
 }
 
@@ -198,23 +257,19 @@ fn an_output_that_fails() {
         ("edges.bin", &[edge; 3].concat()),
         ("input", &[]),
     ];
-    let inputs: [(&str, Vec<u8>); 8] = [
-        ("register", Vec::new()),
-        ("register_text", Vec::new()),
-        ("pack", Vec::new()),
-        ("repack", Vec::new()),
-        ("edges", Vec::new()),
-        ("inspect", framed(&PAPER_IMAGE).repeat(3)),
-        ("inspect_text", framed(TEXT).repeat(3)),
-        ("replay", paper_run()),
-    ];
     let here = TestDirectory::holding(files);
-    for (name, input) in inputs {
+    let reading = READERS.map(|reader| (reader.name, reader.arguments, Vec::new()));
+    let asked: [(&str, &[&str], Vec<u8>); 3] = [
+        ("inspect", &[], framed(&PAPER_IMAGE).repeat(3)),
+        ("inspect_text", &[], framed(TEXT).repeat(3)),
+        ("replay", &[], paper_run()),
+    ];
+    for (name, arguments, input) in reading.into_iter().chain(asked) {
         fs::write(here.path.join("input"), input).expect("it can be written");
         let input = File::open(here.path.join("input")).expect("it is there");
         let full = File::options().write(true).open("/dev/full");
         let full = full.expect("there is a full device");
-        let output = run_on(name, &here.path, input.into(), full.into());
+        let output = run_given(name, arguments, &here.path, input.into(), full.into());
         let errors = String::from_utf8_lossy(&output.stderr);
         let expected = "cannot write standard output: No space left on device\n";
         assert_eq!(errors, expected, "{name}");

@@ -206,10 +206,30 @@ fn wrong_arguments() {
     ];
     for arguments in wrong {
         let given: Vec<&OsStr> = arguments.iter().map(|one| OsStr::from_bytes(one)).collect();
-        let (printed, errors) = said(&given, &here.path);
-        assert_eq!(printed, "", "{arguments:?}");
-        let one_line = errors.ends_with('\n') && errors.matches('\n').count() == 1;
-        let expects = errors.contains("old") && errors.contains("new");
-        assert!(one_line && expects, "{arguments:?}: {errors:?}");
+        expect_only_what_is_expected(&given, &here.path);
+    }
+}
+
+fn expect_only_what_is_expected(arguments: &[&OsStr], directory: &Path) {
+    let (printed, errors) = said(arguments, directory);
+    assert_eq!(printed, "", "{arguments:?}");
+    let one_line = errors.ends_with('\n') && errors.matches('\n').count() == 1;
+    let expects = errors.contains("old") && errors.contains("new");
+    assert!(one_line && expects, "{arguments:?}: {errors:?}");
+}
+
+/// Files that are missing or cannot be read are not spoken of then.
+#[test]
+fn wrong_arguments_come_before_the_files() {
+    let missing = TestDirectory::holding([]);
+    let unreadable = TestDirectory::holding([]);
+    for name in ["net.bin", "picks.bin", "listing.txt"] {
+        fs::create_dir(unreadable.path.join(name)).expect("it can be made");
+    }
+    for directory in [missing, unreadable] {
+        for arguments in [&[][..], &["ancient"], &["old", "new"]] {
+            let given: Vec<&OsStr> = arguments.iter().map(OsStr::new).collect();
+            expect_only_what_is_expected(&given, &directory.path);
+        }
     }
 }
