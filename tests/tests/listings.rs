@@ -1,6 +1,5 @@
 //! The program `check_listing` beside the model: what it prints of many
 //! listings in both ages, and what it says of a wrong argument.
-#![cfg(feature = "listings")]
 
 use cavindorum_tests::by_hand::PAPER_IMAGE;
 use cavindorum_tests::listing::by_hand::{long, short, Stated};
