@@ -1,6 +1,6 @@
-//! An independent model of the net, its images and texts, picks, register
-//! and listings, written from documents 01 and 02 alone. Other programs are
-//! compared with it.
+//! An independent model of the net, its images and texts, picks, register,
+//! listings and seasons, written from documents 01 and 02 alone. Other programs
+//! are compared with it.
 
 pub mod bits;
 pub mod by_hand;
@@ -18,6 +18,7 @@ pub mod program;
 pub mod random;
 pub mod register;
 pub mod replay;
+pub mod season;
 pub mod sound;
 pub mod stack;
 pub mod starred;
