@@ -109,7 +109,8 @@ impl TestDirectory {
         TestDirectory::holding(there.into_iter().flatten())
     }
 
-    /// A directory with these files.
+    /// A directory with these files, and the folders that their names lead
+    /// through.
     pub fn holding<'a>(files: impl IntoIterator<Item = (&'a str, &'a [u8])>) -> TestDirectory {
         static MADE: AtomicUsize = AtomicUsize::new(0);
         let number = MADE.fetch_add(1, Ordering::Relaxed);
@@ -117,7 +118,10 @@ impl TestDirectory {
         let path = std::env::temp_dir().join(name);
         fs::create_dir_all(&path).expect("the directory can be made");
         for (name, content) in files {
-            fs::write(path.join(name), content).expect("the file can be written");
+            let file = path.join(name);
+            let folder = file.parent().expect("it is in the directory");
+            fs::create_dir_all(folder).expect("the folder can be made");
+            fs::write(file, content).expect("the file can be written");
         }
         TestDirectory { path }
     }

@@ -15,13 +15,14 @@ use crate::program::{program, TestDirectory};
 use crate::random::Random;
 use crate::register::{register, register_text, MOST_PICKS};
 use crate::replay::{expected, Run};
+use crate::season;
 use crate::stored::repository;
 use std::fs::{self, File};
 use std::process::{Command, Output};
 
 /// Kilobytes of stack that each program has to do with. What it needs is
 /// less: `cargo run --bin measure_stack` says how much.
-pub const BOUNDS: [(&str, usize); 9] = [
+pub const BOUNDS: [(&str, usize); 10] = [
     ("register", 2_048),
     ("repack", 1_024),
     ("edges", 1_024),
@@ -31,6 +32,7 @@ pub const BOUNDS: [(&str, usize); 9] = [
     ("pack", 2_048),
     ("register_text", 3_072),
     ("check_listing", 3_072),
+    ("shares", 2_048),
 ];
 
 /// A net, and as many picks as a register takes.
@@ -152,6 +154,7 @@ pub fn jobs(name: &str) -> Vec<Job> {
         "register_text" => texts().map(|text| registering_text(&text)).into(),
         "pack" => texts().map(|text| packing(&text)).into(),
         "check_listing" => loads().iter().flat_map(checking).collect(),
+        "shares" => vec![sharing()],
         _ => panic!("{name} is no program"),
     }
 }
@@ -194,6 +197,24 @@ fn checking(load: &Load) -> [Job; 2] {
         ];
         Job::new(&files, &[], b"0\n".to_vec()).given(&[age.argument()])
     })
+}
+
+// Each run twice, and an image that is refused.
+fn sharing() -> Job {
+    let [one, two] = loads().map(|load| (load.image(), load.picks));
+    let longer = [&one.0[..], &[0]].concat();
+    let files: [(&str, &[u8]); 5] = [
+        ("one/net.bin", &one.0),
+        ("one/picks.bin", &one.1),
+        ("two/net.bin", &two.0),
+        ("two/picks.bin", &two.1),
+        ("refused/net.bin", &longer),
+    ];
+    let folders = ["one", "refused", "two", "one", "two"];
+    let runs = [&one, &two].map(|(image, picks)| season::run(image, picks));
+    let runs: Vec<season::Run> = runs.into_iter().flatten().collect();
+    let printed = season::printed(&runs.repeat(2));
+    Job::new(&files, &[], printed.into_bytes()).given(&folders)
 }
 
 /// The deepest text, the widest, and one with every action.

@@ -25,7 +25,7 @@ struct Reader {
     files: &'static [&'static str],
 }
 
-const READERS: [Reader; 6] = [
+const READERS: [Reader; 7] = [
     reader("register", &[], &["net.bin", "picks.bin"]),
     reader("register_text", &[], &["net.txt", "picks.bin"]),
     reader("pack", &[], &["net.txt"]),
@@ -36,6 +36,7 @@ const READERS: [Reader; 6] = [
         &["old"],
         &["net.bin", "picks.bin", "listing.txt"],
     ),
+    reader("shares", &["run"], &["run/net.bin", "run/picks.bin"]),
 ];
 
 const fn reader(
@@ -74,7 +75,9 @@ fn replace_each(make: impl Fn(&Path), says: &str) {
         for file in files {
             let others = files.iter().filter(|other| *other != file);
             let directory = TestDirectory::holding(others.map(|other| (*other, &PAPER_IMAGE[..])));
-            make(&directory.path.join(file));
+            let place = directory.path.join(file);
+            fs::create_dir_all(place.parent().expect("it is in a folder")).expect("it can be made");
+            make(&place);
             let (printed, errors) = said_given(name, arguments, &directory.path, Stdio::null());
             assert_eq!(errors, says.replace("FILE", file), "{name}");
             assert!(printed.is_empty(), "{name} prints {printed:?}");
@@ -179,6 +182,45 @@ fn all_three_files() {
     let (printed, errors) = said_given("check_listing", &["new"], &directory.path, Stdio::null());
     let expected = names.map(|name| format!("cannot read {name}: Is a directory\n"));
     assert_eq!(errors, expected.concat());
+    assert!(printed.is_empty());
+}
+
+/// One run of several that cannot be read: no figures of the others.
+#[test]
+fn one_folder_of_several() {
+    let files: [(&str, &[u8]); 2] = [("a/net.bin", &PAPER_IMAGE), ("c/net.bin", &PAPER_IMAGE)];
+    let directory = TestDirectory::holding(files);
+    for file in ["net.bin", "picks.bin"] {
+        let folder = directory.path.join("b");
+        fs::create_dir_all(folder.join(file)).expect("it can be made");
+        let folders = ["a", "b", "c"];
+        let (printed, errors) = said_given("shares", &folders, &directory.path, Stdio::null());
+        assert_eq!(errors, format!("cannot read b/{file}: Is a directory\n"));
+        assert!(printed.is_empty());
+        fs::remove_dir_all(folder).expect("it can be removed");
+    }
+}
+
+/// Several that cannot be read: the first is named first.
+#[test]
+fn the_first_of_two_folders() {
+    let directory = TestDirectory::holding([]);
+    for file in ["a/net.bin", "b/net.bin"] {
+        fs::create_dir_all(directory.path.join(file)).expect("it can be made");
+    }
+    let (printed, errors) = said_given("shares", &["a", "b"], &directory.path, Stdio::null());
+    let first = "cannot read a/net.bin: Is a directory\n";
+    assert!(errors.starts_with(first), "{errors}");
+    assert!(printed.is_empty());
+}
+
+/// The name of a file is no folder.
+#[test]
+fn a_file_in_place_of_a_folder() {
+    let directory = TestDirectory::holding([("run", &PAPER_IMAGE[..])]);
+    let (printed, errors) = said_given("shares", &["run"], &directory.path, Stdio::null());
+    let first = "cannot open run/net.bin: Not a directory\n";
+    assert!(errors.starts_with(first), "{errors}");
     assert!(printed.is_empty());
 }
 
