@@ -3,6 +3,7 @@
 
 mod machine;
 mod nets;
+mod season;
 mod texts;
 
 use cavindorum_tests::program::{print_register, printed_in, TestDirectory};
@@ -21,8 +22,11 @@ const ROUNDS: usize = 5;
 const AS_REGISTER: &str = "register";
 
 fn main() {
-    if std::env::args().nth(1).as_deref() == Some(AS_REGISTER) {
-        return model_s_register();
+    let mut arguments = std::env::args().skip(1);
+    match arguments.next().as_deref() {
+        Some(AS_REGISTER) => return model_s_register(),
+        Some(season::AS_SHARES) => return season::model_s_shares(arguments),
+        _ => {}
     }
     let all = nets::all();
     all.iter().for_each(compare);
@@ -45,6 +49,7 @@ fn main() {
             model / proved
         );
     }
+    season::rows();
 }
 
 /// The register of the two files in this directory, printed by the model.
