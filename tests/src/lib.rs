@@ -1,6 +1,6 @@
 //! An independent model of the net, its images and texts, picks, register,
-//! listings and seasons, written from documents 01 and 02 alone. Other programs
-//! are compared with it.
+//! listings, seasons and station names, written from documents 01 and 02 alone.
+//! Other programs are compared with it.
 
 pub mod bits;
 pub mod by_hand;
@@ -12,6 +12,7 @@ pub mod generate;
 pub mod image;
 pub mod listing;
 pub mod matching;
+pub mod names;
 pub mod net;
 pub mod notation;
 pub mod program;

@@ -1,6 +1,8 @@
-//! The register (document 01, "The register"; document 02, slips 1, 2 and 8).
+//! The register (document 01, "The register"; document 02, slips 1, 2, 8 and
+//! 14).
 
 use crate::image::read_image;
+use crate::names::Names;
 use crate::net::*;
 use crate::notation::read_text;
 use crate::step::{pick_address, pick_slot, step};
@@ -9,19 +11,29 @@ use std::fmt::{Display, Write};
 /// The register works through no more picks than these.
 pub const MOST_PICKS: usize = 65_536;
 
-/// The register of an image and its picks.
+/// The register of an image and its picks, without names.
 pub fn register(image: &[u8], picks: &[u8]) -> String {
-    register_of(read_image(image), picks)
+    register_named(image, picks, &Names::default())
+}
+
+/// The register of a text and its picks, without names.
+pub fn register_text(text: &[u8], picks: &[u8]) -> String {
+    register_text_named(text, picks, &Names::default())
+}
+
+/// The register of an image and its picks.
+pub fn register_named(image: &[u8], picks: &[u8], names: &Names) -> String {
+    register_of(read_image(image), picks, names)
 }
 
 /// The register of a text and its picks.
-pub fn register_text(text: &[u8], picks: &[u8]) -> String {
-    register_of(read_text(text), picks)
+pub fn register_text_named(text: &[u8], picks: &[u8], names: &Names) -> String {
+    register_of(read_text(text), picks, names)
 }
 
 // The register of a net, or of what it is refused with: a number for a text,
 // a number and a bit for an image.
-fn register_of(read: Result<Net, impl Display>, picks: &[u8]) -> String {
+fn register_of(read: Result<Net, impl Display>, picks: &[u8], names: &Names) -> String {
     let mut net = match read {
         Ok(net) => net,
         Err(fault) => return format!("refused {fault}\n"),
@@ -34,7 +46,8 @@ fn register_of(read: Result<Net, impl Display>, picks: &[u8]) -> String {
         write_pick(&mut text, index + 1, *pick, answer);
     }
     for address in 0..net.address_count {
-        write_node(&mut text, address, &net.nodes[address as usize]);
+        let (node, name) = (&net.nodes[address as usize], names.name(address));
+        write_node(&mut text, address, node, name);
     }
     write_total(&mut text, &net);
     text
@@ -58,15 +71,21 @@ fn write_pick(text: &mut String, number: usize, pick: u8, answer: u8) {
     );
 }
 
-fn write_node(text: &mut String, address: u8, node: &Node) {
-    let busy = node.busy_slots();
-    line(
-        text,
-        format_args!("node {address} {} {busy}", node.tuple_count),
-    );
+fn write_node(text: &mut String, address: u8, node: &Node, name: &[u8]) {
+    let (count, busy, name) = (node.tuple_count, node.busy_slots(), name_text(name));
+    line(text, format_args!("node {address} {count} {busy}{name}"));
     for tuple in &node.tuples[..node.tuple_count as usize] {
         let (fields, from) = (fields_text(tuple), tuple.from.0);
         line(text, format_args!("tuple {address}{fields} from {from}"));
+    }
+}
+
+// The name with a space before it, nothing where there is none.
+fn name_text(name: &[u8]) -> String {
+    let name = std::str::from_utf8(name).expect("a name is of bytes from 33 to 126");
+    match name {
+        "" => String::new(),
+        _ => format!(" {name}"),
     }
 }
 
@@ -194,6 +213,28 @@ mod tests {
             text.contains("node 0 1 0\ntuple 0 @15 from 15\nnode 1 0 0\n"),
             "{text}"
         );
+    }
+
+    #[test]
+    fn node_lines_end_with_their_names() {
+        let mut net = stops(4, 1);
+        fill(&mut net, 1, &[readings(&[4])]);
+        let (site, office) = (b"\x13two\x31D", b"\x15other\x01A\xF1F");
+        let names = Names::of(site, office).expect("they have no fault");
+        let expected = "net 4 1\nnode 0 0 0 A\nnode 1 1 0 two\ntuple 1 4 from 1\n\
+            node 2 0 0\nnode 3 0 0 D\ntotal 1\n";
+        assert_eq!(register_named(&write_image(&net), &[], &names), expected);
+    }
+
+    /// Neither `refused` nor a text's has a name.
+    #[test]
+    fn a_refused_net_has_no_names() {
+        let names = Names::of(b"\x01A", &[]).expect("it has no fault");
+        assert_eq!(register_named(&[], &[], &names), "refused 28 at 0\n");
+        assert_eq!(register_text_named(&[], &[], &names), "refused 31\n");
+        let text = b"0 has\n0 :: nil\n";
+        let expected = "net 1 1\nnode 0 0 1 A\ntotal 0\n";
+        assert_eq!(register_text_named(text, &[], &names), expected);
     }
 
     #[test]
