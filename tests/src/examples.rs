@@ -1,16 +1,19 @@
-//! Four small nets that a person can follow, with picks and register, one of
-//! them with a listing of the old program, and an image that is refused. They
-//! are stored below `examples`.
+//! Five small nets that a person can follow, with picks and register, one of
+//! them with a listing of the old program and one with names, and an image
+//! that is refused. They are stored below `examples`.
 
 pub mod damaged;
 mod listing;
+pub mod names;
 mod nets;
 
 use crate::image::{read_image, write_image};
+use crate::names::names_by;
 use crate::net::*;
-use crate::register::register;
+use crate::register::register_named;
 use crate::step::{pick, pick_address, pick_slot};
 use crate::stored::Stored;
+use names::NameEntries;
 use std::fmt::Write;
 
 /// A net and its picks, with what a reader is told of them.
@@ -28,6 +31,8 @@ pub struct Example {
     pub picks: &'static [(u8, &'static str)],
     /// What the old program printed of it, where that is shown.
     pub listing: Option<&'static str>,
+    /// The names of its stations, where it has lists of them.
+    pub names: Option<NameEntries>,
 }
 
 /// All examples with an accepted net.
@@ -37,6 +42,7 @@ pub fn examples() -> Vec<Example> {
         nets::moved_process(),
         nets::new_address(),
         nets::tenant(),
+        nets::named_stations(),
     ]
 }
 
@@ -53,6 +59,12 @@ fn file(example: &str, name: &str, content: Vec<u8>) -> Stored {
     Stored { path, content }
 }
 
+// The bytes of a file on one line.
+fn bytes_text(bytes: &[u8]) -> String {
+    let bytes: Vec<String> = bytes.iter().map(|byte| format!("{byte:02X}")).collect();
+    bytes.join(" ") + "\n"
+}
+
 impl Example {
     pub fn image(&self) -> Vec<u8> {
         write_image(&self.net)
@@ -63,7 +75,10 @@ impl Example {
     }
 
     pub fn register(&self) -> String {
-        register(&self.image(), &self.pick_bytes())
+        let lists = self.lists();
+        let [site, office] = lists.bytes();
+        let (names, _) = names_by(site, office);
+        register_named(&self.image(), &self.pick_bytes(), &names)
     }
 
     fn files(&self) -> Vec<Stored> {
@@ -78,12 +93,17 @@ impl Example {
         if let Some(listing) = self.listing {
             files.push(file("listing.txt", listing.as_bytes().to_vec()));
         }
+        let lists = self.lists();
+        let lists = lists.files().map(|(name, list)| file(name, list.to_vec()));
+        files.extend(lists);
         files
     }
 
     fn readme(&self) -> String {
         let (title, about, notation) = (self.title, self.about, self.notation);
         let (table, register) = (self.table(), self.register());
+        let names = self.names.as_ref();
+        let names = names.map_or(String::new(), |entries| self.about_names(entries));
         let listing = self
             .listing
             .map_or(String::new(), |text| self.about_listing(text));
@@ -96,6 +116,7 @@ impl Example {
              ## The picks\n\n\
              One byte each in `picks.bin`.\n\n\
              {table}\n\
+             {names}\
              ## The register\n\n\
              Run in this directory, `../../target/bin/register` prints what `register.txt` holds, and so does \
              `../../target/bin/register_text`, which reads the text:\n\n\

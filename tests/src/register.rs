@@ -226,7 +226,7 @@ mod tests {
         assert_eq!(register_named(&write_image(&net), &[], &names), expected);
     }
 
-    /// Neither `refused` nor a text's has a name.
+    /// Of an image and of a text.
     #[test]
     fn a_refused_net_has_no_names() {
         let names = Names::of(b"\x01A", &[]).expect("it has no fault");

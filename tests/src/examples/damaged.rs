@@ -2,7 +2,7 @@
 //! that field from the bit that the register gives.
 
 use super::nets::put_and_take;
-use super::{file, Example};
+use super::{bytes_text, file, Example};
 use crate::bits::{patch, BitReader, FieldAt};
 use crate::image::write_with_fields;
 use crate::register::register;
@@ -97,11 +97,6 @@ fn readme() -> String {
          Run in this directory, `../../target/bin/register` prints what `register.txt` holds:\n\n\
          ```\n{printed}```\n"
     )
-}
-
-fn bytes_text(bytes: &[u8]) -> String {
-    let bytes: Vec<String> = bytes.iter().map(|byte| format!("{byte:02X}")).collect();
-    bytes.join(" ") + "\n"
 }
 
 // The fields up to the damaged one, and their bits.

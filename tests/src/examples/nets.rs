@@ -1,5 +1,6 @@
 //! The nets of the examples, and what a reader is told of each.
 
+use super::names::NameEntries;
 use super::Example;
 use crate::by_hand::*;
 use crate::net::*;
@@ -35,6 +36,7 @@ and is still there at the end.
             (0x00, "nothing: the slot is free"),
         ],
         listing: Some(PUT_AND_TAKE_LISTING),
+        names: None,
     }
 }
 
@@ -93,6 +95,7 @@ put nothing anywhere.
             (0x00, "stop: the sender ends"),
         ],
         listing: None,
+        names: None,
     }
 }
 
@@ -138,6 +141,7 @@ A0 = nil
             (0x00, "stop: the creator's process ends"),
         ],
         listing: None,
+        names: None,
     }
 }
 
@@ -188,6 +192,7 @@ the picks of 0 and 1, and what is at these addresses at the end, stay the same.
         net: tenant_net(),
         picks: &TENANT_PICKS,
         listing: None,
+        names: None,
     }
 }
 
@@ -232,5 +237,65 @@ fn tenant_net() -> Net {
     grant(&mut net, 2, 0, READ);
     grant(&mut net, 2, 2, Rights { take: true, ..PUT });
     fill(&mut net, 2, &[one_address(0)]);
+    net
+}
+
+pub fn named_stations() -> Example {
+    Example {
+        name: "named_stations",
+        title: "Named stations",
+        about: "\
+An opening goes from the upper gate by the pump house to the spillway, which reads it. In the
+register each `node` line ends with the name of its station, where it has one; nothing else
+of the register is different.
+",
+        notation: "\
+0 has 1:o
+1 has 1:i 2:o
+2 has 2:r
+3 has
+0 :: out(40)@1.nil
+1 :: in(!x0)@self.out(v0)@2.nil
+2 :: read(!x0)@self.nil
+",
+        net: named_stations_net(),
+        picks: &[
+            (0x20, "read: no tuple at address 2 yet"),
+            (0x00, "out: puts `<40>` at address 1"),
+            (0x10, "in: takes `<40>`, x0 is 40"),
+            (0x10, "out: puts `<40>` at address 2"),
+            (0x20, "read: x0 is 40, `<40>` stays"),
+            (0x00, "stop: the slot is free"),
+            (0x10, "stop: the slot is free"),
+            (0x20, "stop: the slot is free"),
+        ],
+        listing: None,
+        names: Some(NameEntries {
+            site: &[(0, "upper-gate"), (2, "spillway"), (2, "old-weir")],
+            office: &[(0, "gate-17"), (1, "pump-house")],
+        }),
+    }
+}
+
+fn named_stations_net() -> Net {
+    let (any, held) = (
+        [TemplateField::FormalReading(0)],
+        [TemplateField::Variable(0)],
+    );
+    let code = [
+        out(written(1), &[TemplateField::Reading(40)], 1),
+        Instruction::STOP,
+        take(OWN, &any, 3),
+        out(written(2), &held, 4),
+        Instruction::STOP,
+        read(OWN, &any, 6),
+    ];
+    let mut net = net(4, &code);
+    start(&mut net, 1, 2);
+    start(&mut net, 2, 5);
+    grant(&mut net, 0, 1, PUT);
+    grant(&mut net, 1, 1, TAKE);
+    grant(&mut net, 1, 2, PUT);
+    grant(&mut net, 2, 2, READ);
     net
 }
