@@ -6,6 +6,8 @@ use crate::dump::{dump, framed};
 use crate::image::write_image;
 use crate::listing::generate::fully_padded;
 use crate::listing::{wanted_lines, Age};
+use crate::names::by_hand::longest as longest_lists;
+use crate::names::names_by;
 use crate::net::*;
 use crate::notation::edges::{deepest, widest};
 use crate::notation::from_net::from_net;
@@ -13,7 +15,7 @@ use crate::notation::print::text;
 use crate::notation::read_text;
 use crate::program::{program, TestDirectory};
 use crate::random::Random;
-use crate::register::{register, register_text, MOST_PICKS};
+use crate::register::{register_named, register_text_named, MOST_PICKS};
 use crate::replay::{expected, Run};
 use crate::season;
 use crate::stored::repository;
@@ -159,10 +161,20 @@ pub fn jobs(name: &str) -> Vec<Job> {
     }
 }
 
+// With the longest lists of names.
 fn registering(load: &Load) -> Job {
-    let (image, picks) = (load.image(), &load.picks);
-    let printed = register(&image, picks).into_bytes();
-    Job::new(&[("net.bin", &image), ("picks.bin", picks)], &[], printed)
+    let (image, picks, lists) = (load.image(), &load.picks, longest_lists());
+    let printed = register_named(&image, picks, &names_by(&lists[0], &lists[1]).0);
+    job_with_lists(
+        &[("net.bin", &image), ("picks.bin", picks)],
+        &lists,
+        printed,
+    )
+}
+
+fn job_with_lists(files: &[(&str, &[u8])], lists: &[Vec<u8>; 2], printed: String) -> Job {
+    let lists: [(&str, &[u8]); 2] = [("site.bin", &lists[0]), ("office.bin", &lists[1])];
+    Job::new(&[files, &lists].concat(), &[], printed.into_bytes())
 }
 
 fn repacking(load: &Load) -> Job {
@@ -233,9 +245,9 @@ fn inspecting_texts() -> Job {
 }
 
 fn registering_text(text: &[u8]) -> Job {
-    let [_, Load { picks, .. }] = loads();
-    let printed = register_text(text, &picks).into_bytes();
-    Job::new(&[("net.txt", text), ("picks.bin", &picks)], &[], printed)
+    let ([_, Load { picks, .. }], lists) = (loads(), longest_lists());
+    let printed = register_text_named(text, &picks, &names_by(&lists[0], &lists[1]).0);
+    job_with_lists(&[("net.txt", text), ("picks.bin", &picks)], &lists, printed)
 }
 
 fn packing(text: &[u8]) -> Job {

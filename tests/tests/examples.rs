@@ -36,12 +36,20 @@ fn file(directory: &Path, name: &str) -> Vec<u8> {
     fs::read(directory.join(name)).expect("a stored file")
 }
 
-/// Fails unless a program that reads this file of a net prints the register
-/// that is stored beside it.
+/// A directory with these of the stored files.
+fn directory_with(names: &[&str], stored: &Path) -> TestDirectory {
+    let files = names.iter().map(|name| (*name, file(stored, name)));
+    let files: Vec<(&str, Vec<u8>)> = files.collect();
+    TestDirectory::holding(files.iter().map(|(name, bytes)| (*name, &bytes[..])))
+}
+
+/// Fails unless a program that reads this file of a net, and the lists of
+/// names if there are any, prints the register that is stored beside it.
 fn compare_register(program: &str, net: &str, stored: &Path) {
-    let files = [net, "picks.bin"].map(|name| (name, file(stored, name)));
-    let files = files.each_ref().map(|(name, bytes)| (*name, &bytes[..]));
-    let here = TestDirectory::holding(files);
+    let mut names = vec![net, "picks.bin"];
+    let lists = ["site.bin", "office.bin"].into_iter();
+    names.extend(lists.filter(|list| stored.join(list).exists()));
+    let here = directory_with(&names, stored);
     let printed = printed_by(program, &here.path);
     let register = file(stored, "register.txt");
     assert!(printed == register, "{program} in {}", stored.display());
@@ -72,14 +80,29 @@ fn the_program_writes_the_stored_image() {
     }
 }
 
+/// Without its lists the register of the named stations has no names, and
+/// nothing else of it is different.
+#[test]
+fn the_register_without_the_lists() {
+    let stored = repository().join("examples/named_stations");
+    for (program, net) in [("register", "net.bin"), ("register_text", "net.txt")] {
+        let here = directory_with(&[net, "picks.bin"], &stored);
+        let printed = printed_by(program, &here.path);
+        let named = String::from_utf8(file(&stored, "register.txt")).expect("it is text");
+        let names = [" upper-gate", " pump-house", " spillway"];
+        let plain = names
+            .iter()
+            .fold(named, |text, name| text.replace(name, ""));
+        assert_eq!(String::from_utf8_lossy(&printed), plain, "{program}");
+    }
+}
+
 /// The old program's listing of put_and_take: an old one, and at its tenth
 /// line, the tuple without a mark, no new one.
 #[test]
 fn the_stored_listing_is_an_old_one() {
     let stored = repository().join("examples/put_and_take");
-    let files = ["net.bin", "picks.bin", "listing.txt"].map(|name| (name, file(&stored, name)));
-    let files = files.each_ref().map(|(name, bytes)| (*name, &bytes[..]));
-    let here = TestDirectory::holding(files);
+    let here = directory_with(&["net.bin", "picks.bin", "listing.txt"], &stored);
     for (age, prints) in [("old", "0\n"), ("new", "41 10\n")] {
         let printed = printed_given("check_listing", &[age], &here.path);
         assert_eq!(String::from_utf8_lossy(&printed), prints, "{age}");

@@ -26,8 +26,16 @@ struct Reader {
 }
 
 const READERS: [Reader; 7] = [
-    reader("register", &[], &["net.bin", "picks.bin"]),
-    reader("register_text", &[], &["net.txt", "picks.bin"]),
+    reader(
+        "register",
+        &[],
+        &["net.bin", "picks.bin", "site.bin", "office.bin"],
+    ),
+    reader(
+        "register_text",
+        &[],
+        &["net.txt", "picks.bin", "site.bin", "office.bin"],
+    ),
     reader("pack", &[], &["net.txt"]),
     reader("repack", &[], &["net.bin"]),
     reader("edges", &[], &["edges.bin", "creation.bin"]),
@@ -63,6 +71,15 @@ fn said_given(name: &str, arguments: &[&str], directory: &Path, input: Stdio) ->
     (output.stdout, errors)
 }
 
+/// What a file holds that can be read. An image would be no list of names,
+/// and that would be said too.
+fn content(file: &str) -> &'static [u8] {
+    match file {
+        "site.bin" | "office.bin" => b"\x04name",
+        _ => &PAPER_IMAGE,
+    }
+}
+
 /// Puts something else in the place of each file of each program in turn,
 /// and fails unless the program says just that of it and prints nothing.
 fn replace_each(make: impl Fn(&Path), says: &str) {
@@ -74,7 +91,7 @@ fn replace_each(make: impl Fn(&Path), says: &str) {
     {
         for file in files {
             let others = files.iter().filter(|other| *other != file);
-            let directory = TestDirectory::holding(others.map(|other| (*other, &PAPER_IMAGE[..])));
+            let directory = TestDirectory::holding(others.map(|other| (*other, content(other))));
             let place = directory.path.join(file);
             fs::create_dir_all(place.parent().expect("it is in a folder")).expect("it can be made");
             make(&place);
@@ -170,6 +187,22 @@ fn both_files() {
     let picks = "cannot open picks.bin: Too many levels of symbolic links\n";
     assert_eq!(errors, [net, picks].concat());
     assert!(printed.is_empty());
+}
+
+/// Both lists of names, in their order.
+#[test]
+fn both_lists_of_names() {
+    for (name, net) in [("register", "net.bin"), ("register_text", "net.txt")] {
+        let directory = TestDirectory::holding([(net, &PAPER_IMAGE[..])]);
+        for list in ["site.bin", "office.bin"] {
+            fs::create_dir(directory.path.join(list)).expect("it can be made");
+        }
+        let (printed, errors) = said(name, &directory.path, Stdio::null());
+        let site = "cannot read site.bin: Is a directory\n";
+        let office = "cannot read office.bin: Is a directory\n";
+        assert_eq!(errors, [site, office].concat());
+        assert!(printed.is_empty());
+    }
 }
 
 #[test]

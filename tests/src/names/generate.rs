@@ -22,7 +22,7 @@ impl Lists {
     }
 
     /// The files that are there.
-    pub fn files(&self) -> impl Iterator<Item = (&'static str, &[u8])> {
+    pub fn files(&self) -> impl Iterator<Item = (&str, &[u8])> {
         let all = [("site.bin", &self.site), ("office.bin", &self.office)];
         let there = all.into_iter();
         there.filter_map(|(name, list)| Some((name, list.as_deref()?)))
