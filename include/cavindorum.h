@@ -5,13 +5,14 @@
  *
  * Pointers and lengths. Each buffer is a pointer and, next after it, the
  * number of its bytes: first the image or the text, then the picks, then the
- * buffer that is written. A pointer leads to as many bytes as its length says.
+ * lists of names, then the buffer that is written. A pointer leads to as many
+ * bytes as its length says.
  * No pointer is null; through that of a buffer of no bytes nothing is read or
  * written.
  *
- * Overlap. The buffer that is written shares no byte with the other two, and
+ * Overlap. The buffer that is written shares no byte with the others, and
  * no other thread writes to any of them before the call returns. The image or
- * text and the picks are only read, and may overlap.
+ * text, the picks and the lists of names are only read, and may overlap.
  *
  * Stack. CAVINDORUM_STACK bytes below the caller's frame are enough for a
  * call. This is measured and not proved; with too little the process ends at
@@ -80,6 +81,36 @@ size_t cavindorum_register(const uint8_t *image, size_t image_length,
 size_t cavindorum_register_text(const uint8_t *text, size_t text_length,
                                 const uint8_t *picks, size_t picks_length,
                                 uint8_t *out, size_t out_length);
+
+/*
+ * Writes the register of an image and picks as cavindorum_register does,
+ * with station names: a node line ends with a space and the node's name,
+ * where it has one. The name is that of the first entry for the node's address
+ * in site, else of the first in office. An entry is a byte, 4 bits of address
+ * and 4 bits of length (1 to 15), then so many bytes from 33 to 126. Where
+ * cavindorum_names_fault does not give 0, no line has a name. Both lists are
+ * read whole.
+ */
+size_t cavindorum_named_register(const uint8_t *image, size_t image_length,
+                                 const uint8_t *picks, size_t picks_length,
+                                 const uint8_t *site, size_t site_length,
+                                 const uint8_t *office, size_t office_length,
+                                 uint8_t *out, size_t out_length);
+
+/* The same for a net in the planners' notation. */
+size_t cavindorum_named_register_text(const uint8_t *text, size_t text_length,
+                                      const uint8_t *picks, size_t picks_length,
+                                      const uint8_t *site, size_t site_length,
+                                      const uint8_t *office, size_t office_length,
+                                      uint8_t *out, size_t out_length);
+
+/*
+ * Tests two lists of names, site first and entry by entry. Gives 0, or the
+ * number of the first fault: 51 a length of 0, 52 an entry that is cut short,
+ * 53 a byte that is not from 33 to 126.
+ */
+uint8_t cavindorum_names_fault(const uint8_t *site, size_t site_length,
+                               const uint8_t *office, size_t office_length);
 
 /*
  * Reads an image, and gives the bit at which the field at fault of a refused

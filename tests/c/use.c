@@ -96,9 +96,32 @@ static void use_texts(void) {
     expect(memcmp(other, refused, length) == 0, "it says 31 and no place");
 }
 
+static void use_names(void) {
+    const uint8_t site[] = {0x04, 'g', 'a', 't', 'e'};
+    const uint8_t office[] = {0x02, 'n', 'o'};
+    const char line[] = "node 0 1 0 gate\n";
+    uint8_t named[1000];
+    size_t length, plain;
+    expect(cavindorum_names_fault(site, SIZE(site), office, SIZE(office)) == 0, "both lists are good");
+    expect(cavindorum_names_fault(site, 3, office, SIZE(office)) == 52, "a list cut short is 52");
+    plain = written(SIZE(image), SIZE(text));
+    length = cavindorum_named_register(image, SIZE(image), picks, SIZE(picks), site, SIZE(site), office,
+                                       SIZE(office), named, SIZE(named) - 1);
+    expect(length == plain + 5, "a name and its space are written");
+    named[length] = 0;
+    expect(strstr((const char *)named, line) != NULL, "at the end of the node's line");
+    length = cavindorum_named_register(image, SIZE(image), picks, SIZE(picks), site, 3, office,
+                                       SIZE(office), named, SIZE(named));
+    expect(length == plain && memcmp(named, text, plain) == 0, "with a fault no line has a name");
+    length = cavindorum_named_register_text(notation, NOTATION_LENGTH, picks, SIZE(picks), site, 0, office,
+                                            SIZE(office), named, SIZE(named));
+    expect(length == plain + 3, "the office names what the site does not");
+}
+
 int main(void) {
     use_run();
     use_texts();
+    use_names();
     use_refusal_place();
     use_register();
     return 0;

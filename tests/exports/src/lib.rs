@@ -35,6 +35,36 @@ extern "C" {
         out: *mut u8,
         out_length: usize,
     ) -> usize;
+    fn cavindorum_named_register(
+        image: *const u8,
+        image_length: usize,
+        picks: *const u8,
+        picks_length: usize,
+        site: *const u8,
+        site_length: usize,
+        office: *const u8,
+        office_length: usize,
+        out: *mut u8,
+        out_length: usize,
+    ) -> usize;
+    fn cavindorum_named_register_text(
+        text: *const u8,
+        text_length: usize,
+        picks: *const u8,
+        picks_length: usize,
+        site: *const u8,
+        site_length: usize,
+        office: *const u8,
+        office_length: usize,
+        out: *mut u8,
+        out_length: usize,
+    ) -> usize;
+    fn cavindorum_names_fault(
+        site: *const u8,
+        site_length: usize,
+        office: *const u8,
+        office_length: usize,
+    ) -> u8;
     fn cavindorum_refusal_place(image: *const u8, image_length: usize) -> usize;
 }
 
@@ -84,6 +114,67 @@ pub fn register_in(image: &[u8], picks: &[u8], out: &mut [u8]) -> usize {
 /// The same for a text.
 pub fn register_text_in(text: &[u8], picks: &[u8], out: &mut [u8]) -> usize {
     call(cavindorum_register_text, text, picks, out)
+}
+
+/// A call with the lists of names between the picks and the slice to write.
+type Named = unsafe extern "C" fn(
+    *const u8,
+    usize,
+    *const u8,
+    usize,
+    *const u8,
+    usize,
+    *const u8,
+    usize,
+    *mut u8,
+    usize,
+) -> usize;
+
+fn call_named(
+    function: Named,
+    net: &[u8],
+    picks: &[u8],
+    [site, office]: [&[u8]; 2],
+    out: &mut [u8],
+) -> usize {
+    // SAFETY: as in `call`.
+    unsafe {
+        function(
+            net.as_ptr(),
+            net.len(),
+            picks.as_ptr(),
+            picks.len(),
+            site.as_ptr(),
+            site.len(),
+            office.as_ptr(),
+            office.len(),
+            out.as_mut_ptr(),
+            out.len(),
+        )
+    }
+}
+
+/// Writes the register of an image and picks with the names of a site's list
+/// and the office's. Gives its length, or 0 where there is no room for it.
+pub fn named_register_in(image: &[u8], picks: &[u8], lists: [&[u8]; 2], out: &mut [u8]) -> usize {
+    call_named(cavindorum_named_register, image, picks, lists, out)
+}
+
+/// The same for a text.
+pub fn named_register_text_in(
+    text: &[u8],
+    picks: &[u8],
+    lists: [&[u8]; 2],
+    out: &mut [u8],
+) -> usize {
+    call_named(cavindorum_named_register_text, text, picks, lists, out)
+}
+
+/// The number that the test of both lists gives.
+pub fn names_fault([site, office]: [&[u8]; 2]) -> u8 {
+    // SAFETY: each pointer goes with the length of its slice, which outlives
+    // the call.
+    unsafe { cavindorum_names_fault(site.as_ptr(), site.len(), office.as_ptr(), office.len()) }
 }
 
 /// The bit at which the field at fault of a refused image begins, 0 where the
