@@ -152,7 +152,7 @@ padded-writes {n} (padded k h) =
     both-i _ _ (in-range 1 _ 10 (omega (arith, whole, before, some)) (omega (arith, whole, before, h))) (eq-eqb _ n value)
 
 -- ---- digits that write a number are such
-value-grows : {ds : List ℕ} (v : ℕ) → AllDigits ds → v ≤ valueFrom v ds
+pub value-grows : {ds : List ℕ} (v : ℕ) → AllDigits ds → v ≤ valueFrom v ds
 unfolding valueFrom
 value-grows v none = omega arith
 value-grows v (one {b = b} r ds) = let rest = value-grows (v * 10 + (b - 48)) ds in omega (arith, rest)
@@ -169,12 +169,15 @@ value-below v (one {b = b} {ds = ds} h r) =
     let step = value-step v (b - 48) (10 ^ length ds) _ (omega arith) (value-below (v * 10 + (b - 48)) r) in
     subst (λ (q : ℕ). valueFrom (v * 10 + (b - 48)) ds < suc v * q) (sym power) step
 
--- at most ten digits write a number of at most 64 bits
-value-small : {ds : List ℕ} → AllDigits ds → length ds ≤ 10 → valueFrom 0 ds < 2 ^ 64
-value-small {ds} a h =
+-- at most ten digits write a number below 10,000,000,000, which has at most 64 bits
+pub value-few : {ds : List ℕ} → AllDigits ds → length ds ≤ 10 → valueFrom 0 ds < 10000000000
+value-few {ds} a h =
     let below = value-below 0 a in
     let power : 10 ^ length ds ≤ 10 ^ 10 = pow-le-pow-right {n = 10} (omega arith) {i = length ds} {j = 10} h in
     omega (arith, below, power)
+
+value-small : {ds : List ℕ} → AllDigits ds → length ds ≤ 10 → valueFrom 0 ds < 2 ^ 64
+value-small a h = omega (arith, value-few a h)
 
 -- a digit more after a number that is not nought
 one-more : (v b : ℕ) → isDigit b ≡ true → 1 ≤ v → v * 10 + (b - 48) < 2 ^ 64 → decimal v ++ b ∷ [] ≡ decimal (v * 10 + (b - 48))

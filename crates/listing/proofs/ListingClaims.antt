@@ -13,7 +13,7 @@ use Rattle.registers.specs.Register.{registerIn, registerAs, registerOf}
 use Rattle.listing.specs.Listing.{Age, partsFor, wantedLines, listed, checkedOf, listingOf}
 use Rattle.listing.specs.ListingClaims.{PlainAgrees, PaddedAgrees, AgreesOnly, FaultIsFirst, longestListing, LongestListing, FirstBytesDecide}
 use Rattle.listing.specs.Comparing.{comparedOf}
-use Rattle.listing.proofs.Comparing.{lines-compared}
+use Rattle.listing.proofs.ComparedLines.{lines-compared}
 use Rattle.listing.proofs.FirstFault.{fault-first}
 use Rattle.listing.proofs.Agreeing.{FineLines, Short, padded-agrees, listing-only, plain-lines}
 use Rattle.listing.proofs.Wanted.{lines-fine, outcome-always}

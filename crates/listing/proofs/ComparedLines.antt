@@ -17,10 +17,11 @@ use Rattle.lines.specs.Words.{Word, number, wordText, spaced, lineText, printed
 use Rattle.listing.specs.Listing.{Checked, atFront, listed, byteThen, textThen, digitsOf, afterDigits, valueFrom, writes, numberThen}
 use Rattle.listing.specs.Listing.{wordThen, wordsThen, nothingLeft, lineEnds, carries, checkedFrom}
 use Rattle.listing.specs.Comparing.{standsFirst, partedAt, comparing}
-use Rattle.listing.proofs.Digits.{AllDigits, none, one, digit-low, Quiet, quiet-byte, digits-front, plain-digits, plain-some, plain-value}
+use Rattle.listing.proofs.Digits.{AllDigits, none, one, digit-low, Quiet, quiet-byte, digits-front, digits-after, plain-digits, plain-some, plain-value}
 use Rattle.listing.proofs.Carrying.{quiet-low}
 use Rattle.listing.proofs.Agreeing.{Each, nil, cons, plain, Fine, label, value, upward, downward, located, FineLines, Short}
 use Rattle.listing.proofs.FirstBytes.{left-over}
+use Rattle.listing.proofs.TurnLaws.{by-test, byte-turn, number-turn}
 
 -- ---- the first line of some bytes, and what stands after it
 firstLine : List ℕ → List ℕ
@@ -47,10 +48,6 @@ after-ends b bs e = choose-true (eqb b 10) bs (afterLine bs) e
 after-goes : (b : ℕ) (bs : List ℕ) → eqb b 10 ≡ false → afterLine (b ∷ bs) ≡ afterLine bs
 unfolding afterLine
 after-goes b bs e = choose-false (eqb b 10) bs (afterLine bs) e
-
-by-test : {P : Type 0} (b : Bool) → (b ≡ true → P) → (b ≡ false → P) → P
-by-test true f g = f refl
-by-test false f g = g refl
 
 -- they are the first one listed, and those after it
 front-listed : (b : ℕ) (bs : List ℕ) → listed bs ≡ firstLine bs ∷ listed (afterLine bs) → atFront b (listed bs) ≡ (b ∷ firstLine bs) ∷ listed (afterLine bs)
@@ -198,39 +195,17 @@ module _ (i : ℕ) where
   parts [] = refl
   parts (c ∷ theirs) = refl
 
-  byte-turn : (passing fresh : Bool) (b : ℕ) (ours theirs : List ℕ) → isDigit b ≡ false
-      → comparing passing fresh i (b ∷ ours) theirs
-      ≡ choose (standsFirst b theirs) (comparing false (eqb b 10) (choose (eqb b 10) (i + 1) i) ours (drop 1 theirs)) (partedAt fresh i theirs)
-  unfolding comparing
-  byte-turn passing fresh b ours theirs e = choose-false (isDigit b) _ _ e
-
-  -- what follows a number does not open with a digit
-  not-passing : (ours theirs : List ℕ) → Quiet ours → comparing true false i ours theirs ≡ comparing false false i ours theirs
-  unfolding comparing
-  not-passing [] [] q = refl
-  not-passing [] (c ∷ theirs) q = refl
-  not-passing (b ∷ ours) theirs q =
-      let n = quiet-opens b ours q in
-      byte-turn true false b ours theirs n ∙ sym (byte-turn false false b ours theirs n)
-
-  passes : {ds : List ℕ} (ours theirs : List ℕ) → AllDigits ds → Quiet ours
-      → comparing true false i (ds ++ ours) theirs ≡ comparing false false i ours theirs
-  unfolding comparing choose
-  passes ours theirs none q = not-passing ours theirs q
-  passes ours theirs (one {b = b} {ds = ds} h r) q = choose-true (isDigit b) _ _ h ∙ passes ours theirs r q
-
-  -- a number
-  number-turn : {ds : List ℕ} (ours theirs : List ℕ) → AllDigits ds → 1 ≤ length ds → Quiet ours
+  -- a number of ours, and what follows it
+  number-turned :
+      {ds : List ℕ} (ours theirs : List ℕ) → AllDigits ds → 1 ≤ length ds → Quiet ours
       → comparing false false i (ds ++ ours) theirs
       ≡ choose (writes (valueFrom 0 ds) (digitsOf theirs)) (comparing false false i ours (afterDigits theirs)) (Checked.Differs i)
-  unfolding comparing choose
-  number-turn ours theirs none l q = absurd (omega arith)
-  number-turn ours theirs (one {b = b} {ds = ds} h r) l q =
-      choose-true (isDigit b) _ _ h
-      ∙ ap (λ (xs : List ℕ). choose (writes (valueFrom 0 xs) (digitsOf theirs)) (comparing true false i (ds ++ ours) (afterDigits theirs)) (partedAt false i theirs))
-      (digits-front ours (one h r) q)
-      ∙ ap (λ (x : Checked). choose (writes (valueFrom 0 (b ∷ ds)) (digitsOf theirs)) (comparing true false i (ds ++ ours) (afterDigits theirs)) x) (parts theirs)
-      ∙ ap (λ (x : Checked). choose (writes (valueFrom 0 (b ∷ ds)) (digitsOf theirs)) x (Checked.Differs i)) (passes ours (afterDigits theirs) r q)
+  number-turned ours theirs none l q = absurd (omega arith)
+  number-turned ours theirs (one {b = b} {ds = ds} h r) l q =
+      number-turn i false b (ds ++ ours) theirs h
+      ∙ (λ k. choose (writes (valueFrom 0 (digits-front ours (one h r) q k)) (digitsOf theirs))
+      (comparing false false i (digits-after ours (one h r) q k) (afterDigits theirs))
+      (parts theirs k))
 
 -- ---- the comparison follows a test: where the bytes pass it, it goes on after their line, and else the line differs
 after-digits-line : (bs : List ℕ) → afterLine (afterDigits bs) ≡ afterLine bs
@@ -292,7 +267,7 @@ module _ (i : ℕ) (on : List ℕ → Checked) where
   unfolding numberThen decimal
   number-follows {next} {ours} n s q h = record {
     is = λ theirs.
-        number-turn i ours theirs (plain-digits 20 n) (plain-some 19 n) q
+        number-turned i ours theirs (plain-digits 20 n) (plain-some 19 n) q
         ∙ ap (λ (v : ℕ). choose (writes v (digitsOf theirs)) (comparing false false i ours (afterDigits theirs)) (Checked.Differs i))
         (plain-value 20 n (omega (arith, s .few)))
         ∙ both-follow (writes n (digitsOf theirs)) next ours (afterDigits theirs) theirs h (λ _. after-digits-line theirs);
