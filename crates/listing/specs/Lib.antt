@@ -1,3 +1,4 @@
 pub mod Comparing
 pub mod Listing
 pub mod ListingClaims
+pub mod Written

@@ -1,0 +1,11 @@
+-- Describes the code, and is no part of what a reader has to believe: our register in a buffer.
+use Prim.Native.Nat.{ℕ}
+use mathlib.Core.Path.{_≡_}
+use mathlib.Core.List.{List}
+use lib.ListN.{length, take}
+use Rattle.registers.specs.declared.register.Registered.{Registered}
+
+-- the buffer begins with a text, which was written whole
+pub record Holds (out : List ℕ) (written : Registered) (text : List ℕ) : Type 0 where
+  pub whole : written ≡ Registered.Written (length text)
+  pub front : take (length text) out ≡ text
