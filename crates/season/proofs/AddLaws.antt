@@ -1,9 +1,10 @@
 -- Laws by which one run is added to the sums: by how it ended, as the call of `run` says. Assumes nothing.
-use Prim.Native.Nat.{ℕ, _+_, _≤_, _<_}
+use Prim.Native.Nat.{ℕ, _+_, _%_, _≤_, _<_}
 use mathlib.Core.Path.{_≡_, refl, sym, ap, _∙_}
 use mathlib.Core.Bool.{true}
 use mathlib.Core.List.{List, [], _∷_, _++_}
 use native.Mathlib.Omega.{arith}
+use native.Mathlib.Nat.{add-mod-mod}
 use lib.ListN.{length, drop, length-map}
 use lib.Seq.{sets-eq}
 use lib.Dec.{leb}
@@ -20,6 +21,10 @@ use Rattle.season.specs.Season.{MadeRun, madeIn}
 use Rattle.season.specs.Sums.{Sums, withMade, withEach}
 use Rattle.season.specs.Counting.{noCounts, counted, withCounted, CountedIsMade}
 use Rattle.season.proofs.Counting.{countedIsMade}
+
+-- ---- a sum, of which the second number is cut first
+pub cut-sum : (n more : ℕ) → (n + more % 4294967296) % 4294967296 ≡ (n + more) % 4294967296
+cut-sum n more = add-mod-mod n more 4294967296
 
 -- ---- by how the run ended
 unfoldable pub addedBy : Finish → Sums → Sums → Sums
@@ -61,7 +66,7 @@ module _ (sums : Sums) (picks buffer : List ℕ) (room : length picks ≤ length
   by-verdict (Verdict.Refused f) s = refl
 
   -- of an image, with what the call gives and leaves
-  pub by-finish :
+  by-finish :
       (image answers : List ℕ) (done : Finished) → done ≡ finishedOf (runOf image picks) (length buffer)
       → answers ≡ answersIn (runOf image picks) buffer
       → addedBy (done .finish) sums (withCounted sums (counted noCounts picks answers) (done .net))
@@ -71,6 +76,16 @@ module _ (sums : Sums) (picks buffer : List ℕ) (room : length picks ≤ length
       ap (λ (f : Finished). addedBy (f .finish) sums (withCounted sums (counted noCounts picks answers) (f .net))) e
       ∙ ap (λ (xs : List ℕ). addedBy (finishedOf (runOf image picks) (length buffer) .finish) sums (withCounted sums (counted noCounts picks xs) (finishedOf (runOf image picks) (length buffer) .net))) d
       ∙ by-verdict (openedOf image .answer) (openedOf image .net)
+
+  -- and with what the arm of a match gives
+  pub added-as :
+      (image answers : List ℕ) (done : Finished) (x : Finish) (r : Sums) → done ≡ finishedOf (runOf image picks) (length buffer)
+      → answers ≡ answersIn (runOf image picks) buffer → done .finish ≡ x
+      → r ≡ addedBy x sums (withCounted sums (counted noCounts picks answers) (done .net))
+      → r ≡ withEach sums (madeIn picks (runOf image picks))
+  added-as image answers done x r e d f g =
+      g ∙ ap (λ (z : Finish). addedBy z sums (withCounted sums (counted noCounts picks answers) (done .net))) (sym f)
+      ∙ by-finish image answers done e d
 
 -- ---- sums that have stopped
 pub stopped : (sums : Sums) (ms : List MadeRun) → 1000 < sums .runs → withEach sums ms ≡ sums

@@ -9,7 +9,7 @@ use native.Mathlib.Decide.{ℕ-discrete}
 use lib.ListN.{length, getD, set, replicate, length-set, getD-replicate}
 use lib.Seq.{getD-set-same, getD-set-other}
 use lib.Dec.{eqb, ltb}
-use borrow.Author.Tests.{eq-eqb, ne-eqb}
+use borrow.Author.Tests.{eq-eqb, ne-eqb, ltb-true}
 use Rattle.net.specs.Choice.{choose, both}
 use Rattle.net.specs.Records.{addressOf}
 use Rattle.step.specs.Pick.{hostOf}
@@ -17,33 +17,39 @@ use Rattle.season.specs.Season.{MadeRun, tallied, counts, performs, pick
 use Rattle.season.specs.Sums.{Tally, Sums, tallyAt, plus, withCounts, tallyWith, talliesWith, withMade}
 use Rattle.season.proofs.Appended.{fold-same}
 use Rattle.season.proofs.Fitting.{most-one}
-use Rattle.season.specs.Counting.{Counts, noCounts, bumped, countedOne, counted, talliesCounted, withCounted, CountedIsMade}
+use Rattle.season.specs.Counting.{Counts, noCounts, oneMore, bumped, countedOne, counted, tallyCounted, talliesCounted, withCounted}
+use Rattle.season.specs.Counting.{CountedIsMade}
 
 -- ---- an array with one more at a place
 module _ (ns : List ℕ) (h a : ℕ) (size : length ns ≡ 16) (l : a < 16) (few : getD ns a 0 < 65536) where
-  bumped-same : a ≡ h → getD (bumped ns h) a 0 ≡ getD ns a 0 + choose (eqb h a) 1 0
-  unfolding bumped plus choose
-  bumped-same e =
-      ap (λ (i : ℕ). getD (bumped ns i) a 0) (sym e) ∙ getD-set-same ns a _ 0 (omega arith)
-      ∙ mod-eq-of-lt (omega arith)
-      ∙ ap (λ (t : Bool). getD ns a 0 + choose t 1 0) (sym (eq-eqb h a (sym e)))
+  one-more : (t : Bool) → oneMore t (getD ns a 0) ≡ getD ns a 0 + choose t 1 0
+  unfolding oneMore plus choose
+  one-more true = mod-eq-of-lt (omega arith)
+  one-more false = omega arith
 
-  bumped-other : (a ≡ h → ⊥) → getD (bumped ns h) a 0 ≡ getD ns a 0 + choose (eqb h a) 1 0
-  unfolding bumped choose
-  bumped-other n =
+  bumped-same : (t : Bool) → a ≡ h → getD (bumped t ns h) a 0 ≡ getD ns a 0 + choose (both (eqb h a) t) 1 0
+  unfolding bumped both
+  bumped-same t e =
+      ap (λ (i : ℕ). getD (bumped t ns i) a 0) (sym e) ∙ getD-set-same ns a _ 0 (omega arith)
+      ∙ one-more t
+      ∙ ap (λ (s : Bool). getD ns a 0 + choose (both s t) 1 0) (sym (eq-eqb h a (sym e)))
+
+  bumped-other : (t : Bool) → (a ≡ h → ⊥) → getD (bumped t ns h) a 0 ≡ getD ns a 0 + choose (both (eqb h a) t) 1 0
+  unfolding bumped both choose
+  bumped-other t n =
       getD-set-other ns h a _ 0 n ∙ omega arith
-      ∙ ap (λ (t : Bool). getD ns a 0 + choose t 1 0) (sym (ne-eqb h a (λ e. n (sym e))))
+      ∙ ap (λ (s : Bool). getD ns a 0 + choose (both s t) 1 0) (sym (ne-eqb h a (λ e. n (sym e))))
 
-  bumped-at : getD (bumped ns h) a 0 ≡ getD ns a 0 + choose (eqb h a) 1 0
-  bumped-at = go (ℕ-discrete a h)
+  bumped-at : (t : Bool) → getD (bumped t ns h) a 0 ≡ getD ns a 0 + choose (both (eqb h a) t) 1 0
+  bumped-at t = go (ℕ-discrete a h)
     where
-      go : Dec (a ≡ h) → getD (bumped ns h) a 0 ≡ getD ns a 0 + choose (eqb h a) 1 0
-      go (yes e) = bumped-same e
-      go (no n) = bumped-other n
+      go : Dec (a ≡ h) → getD (bumped t ns h) a 0 ≡ getD ns a 0 + choose (both (eqb h a) t) 1 0
+      go (yes e) = bumped-same t e
+      go (no n) = bumped-other t n
 
-bumped-length : (ns : List ℕ) (h : ℕ) → length (bumped ns h) ≡ length ns
+bumped-length : (t : Bool) (ns : List ℕ) (h : ℕ) → length (bumped t ns h) ≡ length ns
 unfolding bumped
-bumped-length ns h = length-set ns h _
+bumped-length t ns h = length-set ns h _
 
 -- ---- one pick
 record Sized (c : Counts) : Type 0 where
@@ -56,55 +62,31 @@ record Turned (c d : Counts) (a : ℕ) (p q : Bool) : Type 0 where
   performed-is : getD (d .performed) a 0 ≡ getD (c .performed) a 0 + choose q 1 0
   picks-is : getD (d .picks) a 0 ≡ getD (c .picks) a 0 + choose p 1 0
 
-none-chosen : (e : Bool) → _≡_ {A = ℕ} (choose (both e false) 1 0) 0
-unfolding choose both
-none-chosen true = refl
-none-chosen false = refl
+-- an answer of 0 or 1 is no 9
+performed-counts : (x : ℕ) → ltb x 2 ≡ true → not (eqb x 9) ≡ true
+performed-counts x e = ap not (ne-eqb x 9 (λ n. omega (arith, ltb-true x 2 e)))
 
-none-performed : (e t : Bool) → _≡_ {A = ℕ} (choose (both (both e false) t) 1 0) 0
-unfolding choose both
-none-performed true t = refl
-none-performed false t = refl
-
-all-chosen : (e : Bool) → both e true ≡ e
+both-both : (h s t : Bool) → (t ≡ true → s ≡ true) → both h t ≡ both (both h s) t
 unfolding both
-all-chosen true = refl
-all-chosen false = refl
-
-not-performed : (e : Bool) → _≡_ {A = ℕ} (choose (both (both e true) false) 1 0) 0
-unfolding choose both
-not-performed true = refl
-not-performed false = refl
+both-both true s true f = sym (ap (λ (z : Bool). both z true) (f refl))
+both-both true true false f = refl
+both-both true false false f = refl
+both-both false s t f = refl
 
 module _
-    (c : Counts) (h a : ℕ) (sized : Sized c) (l : a < 16) (few : getD (c .performed) a 0 < 65536) (fewer : getD (c .picks) a 0 < 65536)
+    (c : Counts) (b x a : ℕ) (sized : Sized c) (l : a < 16) (few : getD (c .performed) a 0 < 65536) (fewer : getD (c .picks) a 0 < 65536)
   where
-    one-turn :
-        (nine two : Bool)
-        → Turned c
-        (choose nine c (record { performed = choose two (bumped (c .performed) h) (c .performed); picks = bumped (c .picks) h }))
-        a (both (eqb h a) (not nine)) (both (both (eqb h a) (not nine)) two)
-    unfolding choose
-    one-turn true two = record {
-      sized = sized;
-      performed-is = omega (arith, none-performed (eqb h a) two);
-      picks-is = omega (arith, none-chosen (eqb h a));
-    }
-    one-turn false true = record {
+    one-turn : Turned c (countedOne c b x) a (counts (addressOf a) b x) (performs (addressOf a) b x)
+    unfolding countedOne counts performs
+    one-turn = record {
       sized = record {
-        performed-are = bumped-length (c .performed) h ∙ sized .performed-are;
-        picks-are = bumped-length (c .picks) h ∙ sized .picks-are;
+        performed-are = bumped-length _ (c .performed) _ ∙ sized .performed-are;
+        picks-are = bumped-length _ (c .picks) _ ∙ sized .picks-are;
       };
-      performed-is = simp all-chosen (bumped-at (c .performed) h a (sized .performed-are) l few);
-      picks-is = rw all-chosen (bumped-at (c .picks) h a (sized .picks-are) l fewer);
-    }
-    one-turn false false = record {
-      sized = record {
-        performed-are = sized .performed-are;
-        picks-are = bumped-length (c .picks) h ∙ sized .picks-are;
-      };
-      performed-is = omega (arith, not-performed (eqb h a));
-      picks-is = rw all-chosen (bumped-at (c .picks) h a (sized .picks-are) l fewer);
+      performed-is =
+          bumped-at (c .performed) (hostOf b .0) a (sized .performed-are) l few (ltb x 2)
+          ∙ ap (λ (t : Bool). getD (c .performed) a 0 + choose t 1 0) (both-both _ _ _ (performed-counts x));
+      picks-is = bumped-at (c .picks) (hostOf b .0) a (sized .picks-are) l fewer (not (eqb x 9));
     }
 
 -- ---- all picks
@@ -116,11 +98,11 @@ counted-at :
     (a : ℕ) → a < 16 → (picks answers : List ℕ) (c : Counts) → Sized c → getD (c .performed) a 0 + length picks ≤ 65536
     → getD (c .picks) a 0 + length picks ≤ 65536
     → CountedAt a picks answers c (counted c picks answers)
-unfolding counted countedOne tallied performs counts
+unfolding counted tallied
 counted-at a l [] answers c sized few fewer = record { performed-is = omega arith; picks-is = omega arith }
 counted-at a l (b ∷ picks) [] c sized few fewer = record { performed-is = omega arith; picks-is = omega arith }
 counted-at a l (b ∷ picks) (x ∷ answers) c sized few fewer =
-    let turn = one-turn c (hostOf b .0) a sized l (omega arith) (omega arith) (eqb x 9) (ltb x 2) in
+    let turn = one-turn c b x a sized l (omega arith) (omega arith) in
     let performed-one = most-one (performs (addressOf a) b x) in
     let picks-one = most-one (counts (addressOf a) b x) in
     let rest = counted-at a l picks answers _ (turn .sized) (omega (arith, turn .performed-is, performed-one)) (omega (arith, turn .picks-is, picks-one)) in
@@ -164,7 +146,7 @@ module _ (m : MadeRun) (few : length (m .picks) ≤ 65536) where
   picks-at a l = omega (arith, at a l .picks-is, none-at a l)
 
   tallies-are : (i : ℕ) (ts : List Tally) → talliesCounted i all (m .net) ts ≡ talliesWith i m ts
-  unfolding talliesCounted talliesWith tallyWith leftAt
+  unfolding talliesCounted tallyCounted talliesWith tallyWith leftAt
   tallies-are i ts =
       fold-same 16 _ _ ts
       (λ a l us. ap (λ (n : ℕ). set us a (withCounts i n (getD (all .picks) a 0) (leftIn (addressOf a) (m .net)) (tallyAt us a))) (performed-at a l)

@@ -1,6 +1,8 @@
 pub mod AddLaws
 pub mod Appended
 pub mod BestIs
+pub mod BestLaws
+pub mod CountLaws
 pub mod Counting
 pub mod Example
 pub mod Fitting

@@ -4,7 +4,7 @@ use mathlib.Core.Path.{_≡_, refl, sym, ap, subst, _∙_}
 use mathlib.Core.Bool.{Bool, true, false}
 use native.Mathlib.Omega.{arith}
 use native.Mathlib.Nat.{mul-assoc, mul-left-comm, mul-one, mod-lt, dvd-refl, dvd-zero, dvd-mod-iff, pos-of-dvd-of-pos}
-use native.Mathlib.Nat.{le-of-dvd, mul-dvd-mul-left, mul-div-cancel', le-of-mul-le-mul-left, zero-div}
+use native.Mathlib.Nat.{le-of-dvd, mul-dvd-mul-left, mul-div-cancel', le-of-mul-le-mul-left, zero-div, div-zero}
 use lib.Dec.{eqb}
 use borrow.Author.Tests.{eqb-true, eqb-false, eq-eqb, ne-eqb}
 use Rattle.net.specs.Choice.{choose}
@@ -60,17 +60,29 @@ euclid-enough (suc k) zero a b h g = euclid-nought (suc k) a b (omega arith)
 euclid-enough (suc k) (suc j) a b h g =
     choose-same (eqb b 0) a _ _ (λ e. euclid-enough k j b (a % b) (less-left k a b h e) (less-left j a b g e))
 
-pub divisor-end : (a b : ℕ) → b ≡ 0 → greatestDivisor a b ≡ a
-unfolding greatestDivisor
-divisor-end a b e = euclid-nought b a b e
-
-pub divisor-turn : (a b : ℕ) → 0 < b → greatestDivisor b (a % b) ≡ greatestDivisor a b
+divisor-turn : (a b : ℕ) → 0 < b → greatestDivisor b (a % b) ≡ greatestDivisor a b
 unfolding greatestDivisor
 divisor-turn a zero h = absurd (omega arith)
 divisor-turn a (suc k) h =
     let less : a % suc k < suc k = mod-lt a h in
     euclid-enough (a % suc k) k (suc k) (a % suc k) (omega arith) (omega arith)
     ∙ sym (euclid-turn k a (suc k) (λ e. omega arith))
+
+-- the code's loop has come from a and b to x and y
+pub divisor-falls : (x y : ℕ) → 0 < y → x % y < y
+divisor-falls x y h = mod-lt x h
+
+module _ (a b x y : ℕ) (e : greatestDivisor x y ≡ greatestDivisor a b) where
+  pub divisor-again : 0 < y → greatestDivisor y (x % y) ≡ greatestDivisor a b
+  divisor-again h = divisor-turn x y h ∙ e
+
+  pub divisor-last : y ≤ 0 → x ≡ greatestDivisor a b
+  unfolding greatestDivisor
+  divisor-last h = sym (euclid-nought y x y (omega arith)) ∙ e
+
+-- dividing by nought gives nought
+pub by-nought : (n d : ℕ) → d ≤ 0 → 0 ≡ n / d
+by-nought n d h = let e : d ≡ 0 = omega arith in sym (ap (λ (m : ℕ). n / m) e ∙ div-zero n)
 
 euclid-greatest : (k a b c : ℕ) → c ∣ a → c ∣ b → c ∣ euclid k a b
 unfolding euclid
