@@ -5,7 +5,7 @@ use mathlib.Core.Bool.{true}
 use mathlib.Core.List.{List, [], _∷_, _++_}
 use native.Mathlib.Omega.{arith}
 use native.Mathlib.Nat.{add-mod-mod}
-use lib.ListN.{length, drop, length-map}
+use lib.ListN.{length, take, drop, length-map}
 use lib.Seq.{sets-eq}
 use lib.Dec.{leb}
 use borrow.Author.Tests.{le-leb, lt-ltb}
@@ -17,8 +17,8 @@ use Rattle.run.specs.Run.{Ran, ran, ranFrom, runIn, runOf, numbers}
 use Rattle.run.specs.Calls.{finished, finishedOf, answersIn}
 use Rattle.run.proofs.CallLaws.{answers-length}
 use Rattle.season.specs.Types.{Net, Verdict, Finish, Finished}
-use Rattle.season.specs.Season.{MadeRun, madeIn}
-use Rattle.season.specs.Sums.{Sums, withMade, withEach}
+use Rattle.season.specs.Season.{Run, MadeRun, madeIn, madeOf}
+use Rattle.season.specs.Sums.{Sums, withMade, withEach, withRun}
 use Rattle.season.specs.Counting.{noCounts, counted, withCounted, CountedIsMade}
 use Rattle.season.proofs.Counting.{countedIsMade}
 
@@ -87,10 +87,22 @@ module _ (sums : Sums) (picks buffer : List ℕ) (room : length picks ≤ length
       g ∙ ap (λ (z : Finish). addedBy z sums (withCounted sums (counted noCounts picks answers) (done .net))) (sym f)
       ∙ by-finish image answers done e d
 
--- ---- sums that have stopped
-pub stopped : (sums : Sums) (ms : List MadeRun) → 1000 < sums .runs → withEach sums ms ≡ sums
+-- ---- a run handed in: the picks that count
+pub first-run :
+    (sums : Sums) (image picks : List ℕ) (n : ℕ) (r : Sums) → take n picks ≡ take 65536 picks
+    → r ≡ withEach sums (madeIn (take n picks) (runOf image (take n picks)))
+    → r ≡ withRun sums (record { image = image; picks = picks })
+unfolding withRun madeOf
+first-run sums image picks n r e d = d ∙ ap (λ (few : List ℕ). withEach sums (madeIn few (runOf image few))) e
+
+-- sums that have stopped
+stopped : (sums : Sums) (ms : List MadeRun) → 1000 < sums .runs → withEach sums ms ≡ sums
 unfolding withEach withMade
 stopped sums [] h = refl
 stopped sums (m ∷ ms) h =
     let same : withMade sums m ≡ sums = choose-true _ _ _ (lt-ltb 1000 (sums .runs) h) in
     ap (λ (s : Sums). withEach s ms) same ∙ stopped sums ms h
+
+pub stopped-run : (sums : Sums) (run : Run) → 1000 < sums .runs → sums ≡ withRun sums run
+unfolding withRun
+stopped-run sums run h = sym (stopped sums (madeOf run) h)

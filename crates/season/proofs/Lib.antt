@@ -5,6 +5,7 @@ pub mod BestLaws
 pub mod CountLaws
 pub mod Counting
 pub mod Example
+pub mod FigureLaws
 pub mod Fitting
 pub mod Longest
 pub mod Lowest

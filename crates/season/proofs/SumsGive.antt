@@ -12,7 +12,7 @@ use Rattle.net.specs.Records.{addressOf}
 use Rattle.net.proofs.Laws.{choose-true, choose-false}
 use Rattle.net.proofs.Every.{Every, every-replicate, every-set, every-weaken}
 use Rattle.net.proofs.FoldLaws.{fold-keeps}
-use Rattle.text.specs.Joined.{joined}
+use Rattle.text.proofs.WritingLaws.{joined-same}
 use Rattle.lines.specs.Words.{Word, printed}
 use Rattle.season.specs.Types.{Locality}
 use Rattle.season.specs.Fractions.{bestOf}
@@ -164,14 +164,6 @@ held-runs ms (run ∷ runs) s h =
     (held-runs (ms ++ madeOf run) runs (withEach s (madeOf run)) (held-each ms (madeOf run) s (made-fits run) h))
 
 -- ---- the figures
-joined-same :
-    {A : Type 0} (n : ℕ) (f g : ℕ → List A) → ((i : ℕ) → i < n → f i ≡ g i) → joined n f ≡ joined n g
-unfolding joined
-joined-same zero f g h = refl
-joined-same (suc n) f g h =
-    ap (λ (xs : List _). xs ++ f n) (joined-same n f g (λ i l. h i (omega arith)))
-    ∙ ap (λ (xs : List _). joined n g ++ xs) (h n (omega arith))
-
 line-is : (l : Locality) (ms : List MadeRun) → tallyLine (length ms) l (tallyOf ms l) ≡ shareLine l ms
 unfolding tallyLine tallyOf shareLine shareOver meanOver
 line-is l ms = refl

@@ -70,6 +70,17 @@ fn left_in(a: usize, addresses: usize, stored: usize) -> usize
     if a < addresses { stored } else { 0 }
 }
 
+// How many picks count.
+fn first_picks(picks: &[u8]) -> usize
+    ensures { λ r. ⌜ (r ≤ length (now (picks .entry))) × ((r ≤ 65536) × (take r (now (picks .entry)) ≡ take 65536 (now (picks .entry)))) ⌝ }
+{
+    if picks.len() < 65536 {
+        picks.len()
+    } else {
+        65536
+    }
+}
+
 impl Sums {
     // The sums over no runs.
     pub fn empty() -> Sums
@@ -123,6 +134,27 @@ impl Sums {
             Finish::Refused(_) => self,
             Finish::RefusedText(_) => self,
             Finish::NoRoom => self,
+        }
+    }
+
+    // With one more run, of the picks that count.
+    fn with_first(self, image: &[u8], picks: &[u8]) -> Sums
+        requires { ⌜ self .runs ≤ 1000 ⌝ }
+        ensures { λ r. ⌜ r ≡ withRun self (record { image = now (image .entry); picks = now (picks .entry) }) ⌝ }
+    {
+        let n = first_picks(picks);
+        self.with_run(image, &picks[..n])
+    }
+
+    // With one more run handed in, of which the first 65,536 picks count: as they were for a refused image, and where more
+    // than 1,000 runs were made.
+    pub fn add(self, image: &[u8], picks: &[u8]) -> Sums
+        ensures { λ r. ⌜ r ≡ withRun self (record { image = now (image .entry); picks = now (picks .entry) }) ⌝ }
+    {
+        if self.runs > 1000 {
+            self
+        } else {
+            self.with_first(image, picks)
         }
     }
 }
