@@ -117,7 +117,7 @@ fn copy_figures(text: &[u8], out: &mut [u8]) -> Figured
 }
 
 // Room for all figures (proved: `LongestFigures`).
-fn room() -> [u8; 2112]
+pub fn room() -> [u8; 2112]
     ensures { λ r. ⌜ 2112 ≡ length r ⌝ }
 {
     [0; 2112]
