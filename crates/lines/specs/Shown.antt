@@ -1,7 +1,7 @@
 -- What a listing may show beyond document 01's register.
 pub use Rattle.lines.specs.declared.shown.Parts.{Parts}
 use Prim.Native.Nat.{ℕ}
-use mathlib.Core.Bool.{true}
+use mathlib.Core.Bool.{true, false}
 use mathlib.Core.List.{List, []}
 use Rattle.names.specs.Names.{nameAfter, nameOf}
 use Rattle.lines.specs.Types.{Locality}
@@ -22,6 +22,10 @@ named parts site office = record { parts = parts; names = nameOf site office }
 -- the same, where the test of both lists has given this number
 unfoldable pub namedAfter : ℕ → Parts → List ℕ → List ℕ → Shown
 namedAfter number parts site office = record { parts = parts; names = nameAfter number site office }
+
+-- none of the parts: document 01's register
+unfoldable pub noParts : Parts
+noParts = record { total = false; place = false; mark = false }
 
 -- what a register shows
 unfoldable pub allParts : Parts

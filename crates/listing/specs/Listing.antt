@@ -14,7 +14,7 @@ use Rattle.lexemes.specs.Lexemes.{isDigit}
 use Rattle.run.specs.Run.{runOf}
 use Rattle.lines.specs.Words.{Word, name, number, reading, address}
 use Rattle.lines.specs.declared.shown.Parts.{Parts}
-use Rattle.lines.specs.Shown.{unnamed, allParts}
+use Rattle.lines.specs.Shown.{unnamed, noParts, allParts}
 use Rattle.registers.specs.Register.{registerLines}
 
 -- ---- what is wanted
@@ -22,7 +22,7 @@ use Rattle.registers.specs.Register.{registerLines}
 -- "old, from before the `total` line and the refusal's bit, are checked without both; those he calls new, with both"; and
 -- the mark of a tuple "for listings the caller calls new" (slip 8)
 unfoldable pub partsFor : Age → Parts
-partsFor Age.Old = record { total = false; place = false; mark = false }
+partsFor Age.Old = noParts
 partsFor Age.New = allParts
 
 -- the lines of our register of an image and its picks, of which the first 65,536 count: without names, which the check
