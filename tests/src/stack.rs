@@ -33,8 +33,8 @@ pub const BOUNDS: [(&str, usize); 10] = [
     ("inspect_text", 1_024),
     ("pack", 2_048),
     ("register_text", 3_072),
-    ("check_listing", 3_072),
-    ("shares", 2_048),
+    ("check_listing", 6_144),
+    ("shares", 1_024),
 ];
 
 /// A net, and as many picks as a register takes.
