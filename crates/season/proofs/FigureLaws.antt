@@ -21,7 +21,8 @@ use Rattle.season.specs.Fractions.{Fraction, lowest, Best}
 use Rattle.season.specs.Season.{fractionWord, shareWord, bestWord, Season, no-runs, too-many, figures, seasonWith}
 use Rattle.season.specs.Sums.{Sums, figuresFrom, seasonFrom}
 use Rattle.season.specs.SeasonClaims.{LongestFigures}
-use Rattle.season.specs.Calls.{Figured, figuredNumber, figuredOf, seasonNumber, figuresIn, Gave}
+use Rattle.season.specs.Calls.{Figured, figuredNumber, figuredOf, seasonNumber, figuresIn}
+use Rattle.season.specs.Giving.{Gave}
 use Rattle.season.proofs.Longest.{longestFigures}
 
 -- ---- words

@@ -16,7 +16,7 @@ use Rattle.registers.proofs.Longest.{decimal-short}
 use Rattle.season.specs.Types.{Locality}
 use Rattle.season.specs.Fractions.{Fraction, Best}
 use Rattle.season.specs.Season.{fractionWord, shareWord, bestWord}
-use Rattle.season.specs.Sums.{Tally, tallyAt, tallyLine, figuresFrom}
+use Rattle.season.specs.Sums.{Tally, tallyAt, tallyWords, tallyLine, figuresFrom}
 use Rattle.season.specs.SeasonClaims.{LongestFigures}
 
 -- ---- words
@@ -66,7 +66,7 @@ unfolding wordText
 number-short n = decimal-short n
 
 line-spaced : (made : ℕ) (l : Locality) (t : Tally) → Short (tallyLine made l t) 132
-unfolding tallyLine
+unfolding tallyLine tallyWords
 line-spaced made l t =
     word-more 5 name-short
     (word-more 20 (number-short (l .0))

@@ -20,7 +20,7 @@ use Rattle.season.specs.Season.{Run, MadeRun, madeOf, madeRuns, performe
 use Rattle.season.specs.Season.{allPicks, allPerformed, allLeft, shareOver, meanOver, bestAt, shareLine, figuresOf}
 use Rattle.season.specs.Season.{seasonWith, seasonOf}
 use Rattle.season.specs.Sums.{Tally, Sums, noTally, emptySums, tallyAt, plus, withCounts, tallyWith, talliesWith, withMade}
-use Rattle.season.specs.Sums.{withEach, withRun, afterRuns, tallyLine, figuresFrom, seasonFrom}
+use Rattle.season.specs.Sums.{withEach, withRun, afterRuns, tallyWords, tallyLine, figuresFrom, seasonFrom}
 use Rattle.season.specs.SeasonClaims.{CountsFit, SumsGiveSeason}
 use Rattle.season.proofs.Fitting.{made-fits}
 use Rattle.season.proofs.Appended.{length-more, summed-more, best-at-more}
@@ -165,7 +165,7 @@ held-runs ms (run ∷ runs) s h =
 
 -- ---- the figures
 line-is : (l : Locality) (ms : List MadeRun) → tallyLine (length ms) l (tallyOf ms l) ≡ shareLine l ms
-unfolding tallyLine tallyOf shareLine shareOver meanOver
+unfolding tallyLine tallyWords tallyOf shareLine shareOver meanOver
 line-is l ms = refl
 
 figures-are : (ms : List MadeRun) (s : Sums) → Exact ms s → figuresFrom (s .runs) (s .tallies) ≡ figuresOf ms

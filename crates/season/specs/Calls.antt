@@ -1,7 +1,6 @@
 -- What asking for the figures gives, and what it leaves in the lent buffer, at every input.
 pub use Rattle.season.specs.declared.figures.Figured.{Figured}
 use Prim.Native.Nat.{ℕ}
-use mathlib.Core.Path.{_≡_}
 use mathlib.Core.List.{List}
 use lib.ListN.{length}
 use lib.Dec.{leb}
@@ -33,8 +32,3 @@ unfoldable pub figuresIn : Season → List ℕ → List ℕ
 figuresIn no-runs buffer = buffer
 figuresIn too-many buffer = buffer
 figuresIn (figures text) buffer = choose (leb (length text) (length buffer)) (over buffer 0 text) buffer
-
--- ---- describes the code, and is no part of what a reader has to believe: a call gave r, and left `after` of the buffer
-pub record Gave (season : Season) (buffer after : List ℕ) (r : Figured) : Type 0 where
-  pub is : r ≡ figuredOf season (length buffer)
-  pub left : after ≡ figuresIn season buffer

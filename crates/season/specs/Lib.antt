@@ -2,6 +2,7 @@ pub mod Calls
 pub mod Counting
 pub mod Example
 pub mod Fractions
+pub mod Giving
 pub mod Season
 pub mod SeasonClaims
 pub mod Sums

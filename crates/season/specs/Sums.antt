@@ -64,10 +64,12 @@ afterRuns s [] = s
 afterRuns s (run ∷ runs) = afterRuns (withRun s run) runs
 
 -- ---- the figures
+unfoldable pub tallyWords : ℕ → Tally → List Word
+tallyWords made t =
+    shareWord (t .picks) (lowest (t .performed) (t .picks)) ∷ fractionWord (lowest (t .left) made) ∷ bestWord (t .best) ∷ []
+
 unfoldable pub tallyLine : ℕ → Locality → Tally → List Word
-tallyLine made l t =
-    name (bytes "share") ∷ number (l .0) ∷ shareWord (t .picks) (lowest (t .performed) (t .picks))
-    ∷ fractionWord (lowest (t .left) made) ∷ bestWord (t .best) ∷ []
+tallyLine made l t = name (bytes "share") ∷ number (l .0) ∷ tallyWords made t
 
 unfoldable pub figuresFrom : ℕ → List Tally → List ℕ
 figuresFrom made ts = printed (joined 16 (λ a. tallyLine made (addressOf a) (tallyAt ts a) ∷ []))

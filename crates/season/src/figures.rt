@@ -15,8 +15,9 @@ ghost use Rattle.text.specs.Writing.{Wrote};
 ghost use Rattle.lines.specs.Words.{name, spaced, printed};
 ghost use Rattle.season.specs.Fractions.{lowest};
 ghost use Rattle.season.specs.Season.{figures, fractionWord, shareWord, bestWord};
-ghost use Rattle.season.specs.Sums.{tallyLine, figuresFrom, seasonFrom};
-ghost use Rattle.season.specs.Calls.{figuredOf, figuredNumber, seasonNumber, figuresIn, Gave};
+ghost use Rattle.season.specs.Sums.{tallyWords, tallyLine, figuresFrom, seasonFrom};
+ghost use Rattle.season.specs.Calls.{figuredOf, figuredNumber, seasonNumber, figuresIn};
+ghost use Rattle.season.specs.Giving.{Gave};
 
 // The figures were written, with their length, or were not: for no runs at all, for more than 1,000, or for want of room.
 pub enum Figured {
@@ -71,7 +72,7 @@ fn put_best(out: &mut [u8], at: usize, best: Best) -> usize
 
 // Share, mean and best run of an address.
 fn put_tally(out: &mut [u8], at: usize, made: u16, t: Tally) -> usize
-    ensures { λ r. ⌜ Wrote (now (out .entry)) at (spaced (shareWord (t .picks) (lowest (t .performed) (t .picks)) ∷ fractionWord (lowest (t .left) made) ∷ bestWord (t .best) ∷ [])) (now (out .exit)) r ⌝ }
+    ensures { λ r. ⌜ Wrote (now (out .entry)) at (spaced (tallyWords made t)) (now (out .exit)) r ⌝ }
 {
     let best = t.best;
     let first = put_share(out, at, t.performed, t.picks);
