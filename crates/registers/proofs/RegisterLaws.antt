@@ -7,7 +7,7 @@ use mathlib.Core.List.{List, [], _∷_}
 use native.Mathlib.Omega.{arith}
 use native.Mathlib.Decide.{decLe}
 use lib.ListN.{length, getD, take, length-map, List·getD-append}
-use lib.Seq.{sets-eq, take-all, take-length, length-take-le}
+use lib.Seq.{sets-eq}
 use lib.Dec.{leb}
 use borrow.Author.Tests.{lt-leb}
 use Rattle.net.specs.Choice.{choose}
@@ -172,19 +172,9 @@ module _ (parts : Parts) (all : parts ≡ allParts) (source picks xs ys : List �
   named-text-as site office w = subst (λ (p : Parts). Wrote xs 0 (registerTextAs (named p site office) source picks) ys r) all w
 
 -- ---- the picks that count
-pub first-all : (picks : List ℕ) → length picks < 65536 → take (length picks) picks ≡ take 65536 picks
-first-all picks h = take-length picks ∙ sym (take-all 65536 picks (omega arith))
-
-module _ (picks : List ℕ) (n : ℕ) where
-  pub first-count : n ≤ length picks → n ≡ length (take n picks)
-  first-count h = sym (length-take-le n picks h)
-
-  pub first-few : n ≤ length picks → n ≤ 65536 → length (take n picks) ≤ 65536
-  first-few h g = omega (arith, first-count h)
-
-  pub register-first :
-      (shown : Shown) (s : Net) (xs ys : List ℕ) (r : ℕ) → take n picks ≡ take 65536 picks
-      → Wrote xs 0 (registerIn shown s (take n picks) (ran (ranFrom s (take n picks)))) ys r
-      → Wrote xs 0 (registerIn shown s (take 65536 picks) (ran (ranFrom s (take 65536 picks)))) ys r
-  register-first shown s xs ys r e w =
-      subst (λ (p : List ℕ). Wrote xs 0 (registerIn shown s p (ran (ranFrom s p))) ys r) e w
+pub register-first :
+    (picks : List ℕ) (n : ℕ) (shown : Shown) (s : Net) (xs ys : List ℕ) (r : ℕ) → take n picks ≡ take 65536 picks
+    → Wrote xs 0 (registerIn shown s (take n picks) (ran (ranFrom s (take n picks)))) ys r
+    → Wrote xs 0 (registerIn shown s (take 65536 picks) (ran (ranFrom s (take 65536 picks)))) ys r
+register-first picks n shown s xs ys r e w =
+    subst (λ (p : List ℕ). Wrote xs 0 (registerIn shown s p (ran (ranFrom s p))) ys r) e w

@@ -11,6 +11,7 @@ use lines::shown::all_parts;
 use net::network::Net;
 use notation::reading::Verdict as TextVerdict;
 use notation::reading::read_text;
+use run::picks::first_picks;
 use run::run::make;
 ghost use Prim.Native.Nat.{_≤_};
 ghost use mathlib.Core.Bool.{true};
@@ -47,17 +48,6 @@ fn put_run<'a>(
     let first = put_net(out, 0, net.addresses, net.length);
     let second = put_picks(out, first, picks, &answers);
     put_after(out, second, parts, site, office, last)
-}
-
-// How many picks count.
-fn first_picks(picks: &[u8]) -> usize
-    ensures { λ r. ⌜ (r ≤ length (now (picks .entry))) × ((r ≤ 65536) × (take r (now (picks .entry)) ≡ take 65536 (now (picks .entry)))) ⌝ }
-{
-    if picks.len() < 65536 {
-        picks.len()
-    } else {
-        65536
-    }
 }
 
 // The register of a sound net and the picks that count.

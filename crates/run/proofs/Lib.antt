@@ -1,3 +1,4 @@
 pub mod CallLaws
+pub mod FirstPicks
 pub mod RunLaws
 pub mod SoundRuns

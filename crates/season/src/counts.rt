@@ -48,7 +48,7 @@ fn count_pick(performed: &mut [u32; 16], named: &mut [u32; 16], b: u8, answer: u
 }
 
 // The picks of a run counted, each with its answer at its place in the buffer.
-pub fn count(picks: &[u8], answers: &[u8]) -> Counts
+pub(crate) fn count(picks: &[u8], answers: &[u8]) -> Counts
     requires { ⌜ length (now picks) ≤ length (now answers) ⌝ }
     ensures { λ r. ⌜ r ≡ counted noCounts (now (picks .entry)) (now (answers .entry)) ⌝ }
 {

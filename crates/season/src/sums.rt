@@ -5,11 +5,12 @@ use crate::counts::count;
 use crate::fraction::Best;
 use crate::fraction::Fraction;
 use net::network::Net;
+use run::picks::first_picks;
 use run::run::Finish;
 use run::run::run;
 ghost use Prim.Native.Nat.{_≤_};
 ghost use mathlib.Core.Path.{_≡_};
-ghost use lib.ListN.{length, take};
+ghost use lib.ListN.{length};
 ghost use lib.Dec.{ltb};
 ghost use Rattle.net.specs.Choice.{choose};
 ghost use Rattle.run.specs.Run.{runOf};
@@ -68,17 +69,6 @@ fn left_in(a: usize, addresses: usize, stored: usize) -> usize
     ensures { λ r. ⌜ r ≡ choose (ltb a addresses) stored 0 ⌝ }
 {
     if a < addresses { stored } else { 0 }
-}
-
-// How many picks count.
-fn first_picks(picks: &[u8]) -> usize
-    ensures { λ r. ⌜ (r ≤ length (now (picks .entry))) × ((r ≤ 65536) × (take r (now (picks .entry)) ≡ take 65536 (now (picks .entry)))) ⌝ }
-{
-    if picks.len() < 65536 {
-        picks.len()
-    } else {
-        65536
-    }
 }
 
 impl Sums {

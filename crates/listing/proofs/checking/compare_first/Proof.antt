@@ -1,5 +1,5 @@
 -- `listing::checking::compare_first` meets its contract. Assumes nothing.
-use Rattle.registers.proofs.RegisterLaws.{first-count}
+use Rattle.run.proofs.FirstPicks.{first-count}
 use borrow.Author.Needs.{needs}
 use Rattle.listing.proofs.checking.compare_first.Statement.{statement}
 use Rattle.listing.proofs.checking.compare_first.Tie as tie

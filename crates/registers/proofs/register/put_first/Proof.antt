@@ -1,5 +1,6 @@
 -- `registers::register::put_first` meets its contract. Assumes nothing.
-use Rattle.registers.proofs.RegisterLaws.{first-count, first-few, register-first}
+use Rattle.run.proofs.FirstPicks.{first-count, first-few}
+use Rattle.registers.proofs.RegisterLaws.{register-first}
 use borrow.Author.Needs.{needs}
 use Rattle.registers.proofs.register.put_first.Statement.{statement}
 use Rattle.registers.proofs.register.put_first.Tie as tie

@@ -1,5 +1,5 @@
 -- `season::figures::write_figures` meets its contract. Assumes nothing.
-use Rattle.registers.proofs.RegisterLaws.{first-count}
+use Rattle.run.proofs.FirstPicks.{first-count}
 use Rattle.season.proofs.FigureLaws.{figures-fit, figures-gave}
 use borrow.Author.Needs.{needs}
 use Rattle.season.proofs.figures.write_figures.Statement.{statement}

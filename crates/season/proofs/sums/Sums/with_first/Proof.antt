@@ -1,5 +1,5 @@
 -- `season::sums::Sums::with_first` meets its contract. Assumes nothing.
-use Rattle.registers.proofs.RegisterLaws.{first-count, first-few}
+use Rattle.run.proofs.FirstPicks.{first-count, first-few}
 use Rattle.season.proofs.AddLaws.{first-run}
 use borrow.Author.Needs.{needs}
 use Rattle.season.proofs.sums.Sums.with_first.Statement.{statement}
