@@ -14,7 +14,7 @@ pub struct Counts {
 }
 
 // A sum, cut to 32 bits.
-pub fn add_cut(n: u32, more: usize) -> u32
+pub(crate) fn add_cut(n: u32, more: usize) -> u32
     ensures { λ r. ⌜ r ≡ plus n more ⌝ }
 {
     let rest = more % 4294967296;

@@ -1,5 +1,5 @@
 // Shares over a season (document 02, slip 7).
-pub mod counts;
+mod counts;
 pub mod figures;
 pub mod fraction;
 pub mod sums;
