@@ -50,7 +50,7 @@ tuple-shaped t vs h = record { fields-are = long tupleField.the-type (t .fields)
 
 process-shaped :
     (p : Process) (vs : List Val) → Is (field process.the-type .row) (process.the-type .to p) vs → ShapedProcess p
-process-shaped p vs h = record { variables-are = long variable.the-type (p .variables) 8 _ (h .1 .1 .1 .1 .0) }
+process-shaped p vs h = record { variables-are = long variable.the-type (p .variables) 8 _ (h .1 .1 .1 .1 .1 .0) }
 
 instruction-shaped :
     (c : Instruction) (vs : List Val) → Is (field instruction.the-type .row) (instruction.the-type .to c) vs

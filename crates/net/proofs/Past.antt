@@ -16,7 +16,7 @@ abbrev pub pastVariable : Variable
 pastVariable = record { value = Value.Unset }
 
 abbrev pub pastProcess : Process
-pastProcess = record { busy = false; at = record { 0 = 0 }; variables = [] }
+pastProcess = record { busy = false; at = record { 0 = 0 }; origin = record { 0 = 0 }; variables = [] }
 
 abbrev pub pastRights : Rights
 pastRights = record { take = false; read = false; put = false; send = false }

@@ -37,11 +37,11 @@ unfoldable pub unsetVariable : Variable
 unsetVariable = record { value = Value.Unset }
 
 unfoldable pub freeProcess : Process
-freeProcess = record { busy = false; at = record { 0 = 0 }; variables = replicate 8 unsetVariable }
+freeProcess = record { busy = false; at = record { 0 = 0 }; origin = record { 0 = 0 }; variables = replicate 8 unsetVariable }
 
--- a process as an image starts it: every variable unset
-unfoldable pub startingAt : Place → Process
-startingAt p = record { busy = true; at = p; variables = replicate 8 unsetVariable }
+-- a process of origin a as it starts at place p: every variable unset
+unfoldable pub startingAt : Locality → Place → Process
+startingAt a p = record { busy = true; at = p; origin = a; variables = replicate 8 unsetVariable }
 
 unfoldable pub noRights : Rights
 noRights = record { take = false; read = false; put = false; send = false }
@@ -84,7 +84,8 @@ unfoldable pub rightsAt : Row → Locality → Rights
 rightsAt r l = getD (r .rights) (l .0) (record { take = false; read = false; put = false; send = false })
 
 unfoldable pub processAt : Node → ℕ → Process
-processAt n k = getD (n .processes) k (record { busy = false; at = record { 0 = 0 }; variables = [] })
+processAt n k =
+    getD (n .processes) k (record { busy = false; at = record { 0 = 0 }; origin = record { 0 = 0 }; variables = [] })
 
 unfoldable pub tupleAt : Node → ℕ → Tuple
 tupleAt n i = getD (n .tuples) i (record { count = 0; fields = []; mark = record { 0 = 0 } })
@@ -115,7 +116,7 @@ marked a t = record { count = t .count; fields = t .fields; mark = a }
 
 unfoldable pub withVariable : Process → ℕ → Value → Process
 withVariable p v x =
-    record { busy = p .busy; at = p .at; variables = set (p .variables) v (record { value = x }) }
+    record { busy = p .busy; at = p .at; origin = p .origin; variables = set (p .variables) v (record { value = x }) }
 
 unfoldable pub withRights : Row → Locality → Rights → Row
 withRights r l x = record { create = r .create; rights = set (r .rights) (l .0) x }
@@ -158,11 +159,11 @@ withCounts s n k = record { addresses = n; length = k; nodes = s .nodes; code = 
 
 -- the process at another place
 unfoldable pub movedTo : Process → Place → Process
-movedTo p q = record { busy = p .busy; at = q; variables = p .variables }
+movedTo p q = record { busy = p .busy; at = q; origin = p .origin; variables = p .variables }
 
--- a new process at a place, with a copy of the variables
+-- a new process at a place, of the same origin and with a copy of the variables
 unfoldable pub copiedTo : Process → Place → Process
-copiedTo p q = record { busy = true; at = q; variables = p .variables }
+copiedTo p q = record { busy = true; at = q; origin = p .origin; variables = p .variables }
 
 -- what stands at place j once the tuple at place i is taken: younger tuples move up by one place
 unfoldable pub afterTaking : Node → ℕ → ℕ → Tuple

@@ -1,14 +1,17 @@
 // Process slots (document 01, "The net").
+use crate::locality::Locality;
 use crate::locality::Place;
 use crate::tuple::Value;
 use crate::tuple::Variable;
 ghost use mathlib.Core.Path.{_≡_};
 ghost use Rattle.net.specs.Records.{freeProcess, startingAt, withVariable, movedTo, copiedTo};
 
-// A slot: free, or held by a process that stands at a place with its variables.
+// A slot: free, or held by a process that stands at a place with its variables. `origin` is the address of the node that its code
+// came from: a starting process has its own node's, sent code that of the node that sent it (document 02, slip 10).
 pub struct Process {
     pub busy: bool,
     pub at: Place,
+    pub origin: Locality,
     pub variables: [Variable; 8],
 }
 
@@ -19,9 +22,11 @@ impl Process {
     {
         let unset = Variable::unset();
         let at = Place(0);
+        let origin = Locality(0);
         Process {
             busy: false,
             at,
+            origin,
             variables: [unset; 8],
         }
     }
@@ -34,7 +39,7 @@ impl Process {
         self
     }
 
-    // A new process at a place, with a copy of the variables.
+    // A new process at a place, of the same origin and with a copy of the variables.
     pub fn copied_to(mut self, at: Place) -> Process
         ensures { λ r. ⌜ r ≡ copiedTo self at ⌝ }
     {
@@ -43,14 +48,15 @@ impl Process {
         self
     }
 
-    // A process that starts at a place, with every variable unset.
-    pub fn starting(at: Place) -> Process
-        ensures { λ r. ⌜ r ≡ startingAt at ⌝ }
+    // A process of an origin that starts at a place, with every variable unset.
+    pub fn starting(origin: Locality, at: Place) -> Process
+        ensures { λ r. ⌜ r ≡ startingAt origin at ⌝ }
     {
         let unset = Variable::unset();
         Process {
             busy: true,
             at,
+            origin,
             variables: [unset; 8],
         }
     }
