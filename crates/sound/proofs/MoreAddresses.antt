@@ -40,6 +40,7 @@ module _ (m n : ℕ) (l : m ≤ n) where
   running-more k p r = record {
     is-busy = r .is-busy;
     place = r .place;
+    origin-ok = omega (arith, r .origin-ok);
     values = every-weaken (r .values) (λ v x. value-more (x .value));
   }
 

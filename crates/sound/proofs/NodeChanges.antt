@@ -63,10 +63,14 @@ module _ (n k : ℕ) where
   unfolding freeProcess
   free-slot = record { running = λ e. never e; free = λ _. refl }
 
-  pub starting : (p : Place) → p .0 < k → Running n k (startingAt p)
+  pub starting : (a : Locality) (p : Place) → a .0 < n → p .0 < k → Running n k (startingAt a p)
   unfolding startingAt unsetVariable valueSound
-  starting p h =
-      record { is-busy = refl; place = h; values = every-replicate _ pastVariable 8 unsetVariable (λ v l. refl) }
+  starting a p g h = record {
+    is-busy = refl;
+    place = h;
+    origin-ok = g;
+    values = every-replicate _ pastVariable 8 unsetVariable (λ v l. refl);
+  }
 
   -- ---- nodes
   pub zero-node : NodeOk n k zeroNode

@@ -83,6 +83,7 @@ row-sound n r ok =
 pub record Running (n k : ℕ) (p : Process) : Type 0 where
   pub is-busy : p .busy ≡ true
   pub place : p .at .0 < k
+  pub origin-ok : p .origin .0 < n
   pub values : Every (λ v x. valueSound n (x .value) ≡ true) pastVariable 8 (p .variables)
 
 -- it runs, or its slot is free
@@ -98,10 +99,11 @@ module _ (n k : ℕ) where
   process-apart : (p : Process) → ShapedProcess p → processSound n k p ≡ true → ProcessOk n k p
   unfolding processSound variableAt
   process-apart p shape h = record {
-    running = λ e. let g = choose-e (p .busy) _ _ h e in record {
+    running = λ e. let g = choose-e (p .busy) _ _ h e in let f = both-r (ltb (p .at .0) k) _ g in record {
       is-busy = e;
       place = ltb-true _ _ (both-l _ _ g);
-      values = record { size-is = shape .variables-are; holds = all-e 8 _ (both-r (ltb (p .at .0) k) _ g) };
+      origin-ok = ltb-true _ _ (both-l _ _ f);
+      values = record { size-is = shape .variables-are; holds = all-e 8 _ (both-r (ltb (p .origin .0) n) _ f) };
     };
     free = λ e. zeroIsZero .process p shape .0 (choose-else (p .busy) _ _ h e);
   }
@@ -110,7 +112,8 @@ module _ (n k : ℕ) where
   unfolding processSound variableAt
   process-sound p ok =
       chosen (λ b. b ≡ true) (p .busy) _ _
-      (λ e. both-i _ _ (lt-ltb _ _ (ok .running e .place)) (all-i 8 _ (ok .running e .values .holds)))
+      (λ e. both-i _ _ (lt-ltb _ _ (ok .running e .place))
+      (both-i _ _ (lt-ltb _ _ (ok .running e .origin-ok)) (all-i 8 _ (ok .running e .values .holds))))
       (λ e. of-zero (λ q. isFree q ≡ true) process-passes p (ok .free e))
 
   process-shaped : (p : Process) → ProcessOk n k p → ShapedProcess p

@@ -97,10 +97,12 @@ free-process : (p : Process) → ShapedProcess p → isFree p ≡ true → p ≡
 unfolding isFree freeProcess
 free-process p shape h =
     let g = both-r (not (p .busy)) _ h in
+    let f = both-r (eqb (p .at .0) 0) _ g in
     λ d. record {
       busy = not-true (p .busy) (both-l _ _ h) d;
       at = record { 0 = eqb-true (p .at .0) 0 (both-l _ _ g) d };
-      variables = all-unset p shape (both-r (eqb (p .at .0) 0) _ g) d;
+      origin = record { 0 = eqb-true (p .origin .0) 0 (both-l _ _ f) d };
+      variables = all-unset p shape (both-r (eqb (p .origin .0) 0) _ f) d;
     }
 
 -- ---- rows

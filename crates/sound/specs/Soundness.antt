@@ -64,11 +64,13 @@ unfoldable pub allUnset : Process → Bool
 allUnset p = all 8 (λ v. isUnset (variableAt p v))
 
 unfoldable pub isFree : Process → Bool
-isFree p = both (not (p .busy)) (both (eqb (p .at .0) 0) (allUnset p))
+isFree p = both (not (p .busy)) (both (eqb (p .at .0) 0) (both (eqb (p .origin .0) 0) (allUnset p)))
 
 unfoldable pub processSound : ℕ → ℕ → Process → Bool
 processSound n k p =
-    choose (p .busy) (both (ltb (p .at .0) k) (all 8 (λ v. valueSound n (variableAt p v)))) (isFree p)
+    choose (p .busy)
+    (both (ltb (p .at .0) k) (both (ltb (p .origin .0) n) (all 8 (λ v. valueSound n (variableAt p v)))))
+    (isFree p)
 
 -- ---- nodes
 unfoldable pub nodeSound : ℕ → ℕ → Node → Bool

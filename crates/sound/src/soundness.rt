@@ -236,12 +236,12 @@ fn is_free(p: Process) -> bool
     ensures { λ r. ⌜ r ≡ isFree p ⌝ }
 {
     let unset = all_unset(p);
-    !p.busy & ((p.at.0 == 0) & unset)
+    !p.busy & ((p.at.0 == 0) & ((p.origin.0 == 0) & unset))
 }
 
 // A process that holds its slot.
 fn busy_sound(n: usize, k: usize, p: Process) -> bool
-    ensures { λ r. ⌜ r ≡ both (ltb (p .at .0) k) (all 8 (λ v. valueSound n (variableAt p v))) ⌝ }
+    ensures { λ r. ⌜ r ≡ both (ltb (p .at .0) k) (both (ltb (p .origin .0) n) (all 8 (λ v. valueSound n (variableAt p v)))) ⌝ }
 {
     let mut ok = true;
     let mut v = 0;
@@ -252,7 +252,7 @@ fn busy_sound(n: usize, k: usize, p: Process) -> bool
         ok = ok & good;
         v += 1;
     }
-    ((p.at.0 as usize) < k) & ok
+    ((p.at.0 as usize) < k) & (((p.origin.0 as usize) < n) & ok)
 }
 
 fn process_sound(n: usize, k: usize, p: Process) -> bool

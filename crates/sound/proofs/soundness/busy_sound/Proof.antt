@@ -30,4 +30,5 @@ busy-sound-spec =
     (λ c. search needs)
     (λ c. search (needs, all-more))
     (λ c. search needs)
+    (λ c. search needs)
     (λ c. search (needs, and-both, all-end)))
