@@ -131,6 +131,7 @@ module _ (p : Process) (t : Tuple) (e : Evaluated) where
       set-binding = record {
         same-busy = b .same-busy;
         same-place = b .same-place;
+        same-origin = b .same-origin;
         same-size = length-set (q .variables) u _ ∙ b .same-size;
         holds = λ v l. set-at v l (ℕ-discrete v u);
       }
@@ -140,6 +141,7 @@ module _ (p : Process) (t : Tuple) (e : Evaluated) where
   kept-binding i q b none = record {
     same-busy = b .same-busy;
     same-place = b .same-place;
+    same-origin = b .same-origin;
     same-size = b .same-size;
     holds = λ v l. holds-more i v _ (none v) (b .holds v l);
   }
@@ -161,6 +163,7 @@ module _ (p : Process) (t : Tuple) (e : Evaluated) where
   start = record {
     same-busy = refl;
     same-place = refl;
+    same-origin = refl;
     same-size = refl;
     holds = λ v l. as-before (λ i h. absurd (omega arith));
   }

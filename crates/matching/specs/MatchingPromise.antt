@@ -44,6 +44,7 @@ pub data Holds (p : Process) (t : Tuple) (e : Evaluated) (n v : ℕ) : Value →
 pub record Binding (p : Process) (t : Tuple) (e : Evaluated) (n : ℕ) (q : Process) : Type 0 where
   pub same-busy : q .busy ≡ p .busy
   pub same-place : q .at ≡ p .at
+  pub same-origin : q .origin ≡ p .origin
   pub same-size : length (q .variables) ≡ length (p .variables)
   pub holds : (v : ℕ) → v < length (p .variables) → Holds p t e n v (variableAt q v)
 

@@ -420,7 +420,7 @@ fn bound(p: Process, t: Tuple, e: Evaluated) -> Process
 }
 
 // The process bound to the tuple at place i; past the last place there are only noughts.
-fn bound_to(p: Process, n: Node, i: usize, e: Evaluated) -> Process
+fn bound_to(n: Node, i: usize, p: Process, e: Evaluated) -> Process
     ensures { λ r. ⌜ r ≡ boundOf p (tupleAt n i) e ⌝ }
 {
     if i < 16 {
@@ -437,7 +437,7 @@ fn bound_found(found: Found, p: Process, n: Node, e: Evaluated) -> Process
     ensures { λ r. ⌜ r ≡ boundAt found p n e ⌝ }
 {
     match found {
-        Found::At(i) => bound_to(p, n, i, e),
+        Found::At(i) => bound_to(n, i, p, e),
         Found::Nothing => p,
     }
 }

@@ -165,6 +165,10 @@ movedTo p q = record { busy = p .busy; at = q; origin = p .origin; variables = p
 unfoldable pub copiedTo : Process → Place → Process
 copiedTo p q = record { busy = true; at = q; origin = p .origin; variables = p .variables }
 
+-- code that address a sends: a new process at a place, of origin a and with a copy of the variables (document 02, slip 10)
+unfoldable pub sentFrom : Locality → Process → Place → Process
+sentFrom a p q = record { busy = true; at = q; origin = a; variables = p .variables }
+
 -- what stands at place j once the tuple at place i is taken: younger tuples move up by one place
 unfoldable pub afterTaking : Node → ℕ → ℕ → Tuple
 afterTaking x i j = choose (ltb j i) (tupleAt x j) (choose (ltb j 15) (tupleAt x (j + 1)) zeroTuple)

@@ -4,7 +4,7 @@ use crate::locality::Place;
 use crate::tuple::Value;
 use crate::tuple::Variable;
 ghost use mathlib.Core.Path.{_≡_};
-ghost use Rattle.net.specs.Records.{freeProcess, startingAt, withVariable, movedTo, copiedTo};
+ghost use Rattle.net.specs.Records.{freeProcess, startingAt, withVariable, movedTo, copiedTo, sentFrom};
 
 // A slot: free, or held by a process that stands at a place with its variables. `origin` is the address of the node that its code
 // came from: a starting process has its own node's, sent code that of the node that sent it (document 02, slip 10).
@@ -45,6 +45,16 @@ impl Process {
     {
         self.busy = true;
         self.at = at;
+        self
+    }
+
+    // Code that address a sends: a new process at a place, of origin a and with a copy of the variables.
+    pub fn sent_from(mut self, a: Locality, at: Place) -> Process
+        ensures { λ r. ⌜ r ≡ sentFrom a self at ⌝ }
+    {
+        self.busy = true;
+        self.at = at;
+        self.origin = a;
         self
     }
 
