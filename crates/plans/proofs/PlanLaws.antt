@@ -5,13 +5,13 @@ use mathlib.Core.Bool.{Bool, true, false}
 use lib.ListN.{getD}
 use lib.IntN.{ℤ}
 use Rattle.net.specs.Choice.{choose}
-use Rattle.net.specs.Records.{marked, withField, withRights, withRow, withVariable, movedTo, copiedTo, putIn, startedOn, zeroNode}
+use Rattle.net.specs.Records.{marked, withField, withRights, withRow, withVariable, movedTo, putIn, zeroNode}
 use Rattle.matching.specs.Matching.{wantAt}
 use Rattle.net.proofs.Laws.{choose-true, choose-false}
 use Rattle.matching.proofs.MatchingPromise.{matchingPromise as matching}
 use Rattle.plans.specs.Types.{Locality, Place, Value, Item, Tuple, Rights, Row, Process, Node, Changed, Want, Evaluated, Found, Matched}
 use Rattle.plans.specs.Answer.{Answer}
-use Rattle.plans.specs.Plan.{Plan, going, changing, opening}
+use Rattle.plans.specs.Plan.{Plan, going, changing, startPlan, opening}
 use Rattle.plans.specs.Additions.{itemOf, gaining}
 use Rattle.plans.specs.Request.{Aim, Request, at, spoken}
 
@@ -45,6 +45,10 @@ module _ {A B C R : Type 0} (f : B → C → A → R) where
 module _ {A B C D R : Type 0} (f : B → C → D → A → R) where
   pub by4 : (b : B) (c : C) (d : D) (x y : A) (r : R) → x ≡ y → r ≡ f b c d y → r ≡ f b c d x
   by4 b c d x y r p q = rw p q
+
+module _ {A B C D E R : Type 0} (f : B → C → D → E → A → R) where
+  pub by5 : (b : B) (c : C) (d : D) (e : E) (x y : A) (r : R) → x ≡ y → r ≡ f b c d e y → r ≡ f b c d e x
+  by5 b c d e x y r p q = rw p q
 
 module _ {A B C D R : Type 0} (f : B → C → A → D → R) where
   pub by-third : (b : B) (c : C) (x y : A) (d : D) (r : R) → x ≡ y → r ≡ f b c y d → r ≡ f b c x d
@@ -95,10 +99,8 @@ pub put-marked : (p p′ : Process) (q : Place) (y : Node) (a : Locality) (t m u
     → x ≡ changing (movedTo p q) Answer.NoRoom (putIn y (marked a u))
 put-marked p p′ q y a t m u c x d e = put-as p p′ q y m (marked a u) c x (e ∙ ap (marked a) d)
 
-pub start-as : (p p′ r : Process) (sent q : Place) (y : Node) (c : Changed) (x : Plan)
-    → r ≡ copiedTo p sent → c ≡ startedOn y r → p′ ≡ movedTo p q → x ≡ changing p′ Answer.NoRoom c
-    → x ≡ changing (movedTo p q) Answer.NoRoom (startedOn y (copiedTo p sent))
-start-as p p′ r sent q y c x a b d e = e ∙ ap (λ (z : Process). changing z Answer.NoRoom c) d ∙ ap (changing (movedTo p q) Answer.NoRoom) (b ∙ ap (startedOn y) a)
+pub start-as : (p r s : Process) (y : Node) (q : Place) (x : Plan) → r ≡ s → x ≡ startPlan p y r q → x ≡ startPlan p y s q
+start-as p r s y q x a d = d ∙ ap (λ (z : Process). startPlan p y z q) a
 
 pub rights-as : (row x : Row) (l : Locality) (r s : Rights) → r ≡ s → x ≡ withRights row l r → x ≡ withRights row l s
 rights-as row x l r s a d = d ∙ ap (withRights row l) a

@@ -5,7 +5,7 @@ use Prim.Native.Nat.{ℕ}
 use mathlib.Core.Bool.{Bool, true, false}
 use lib.Dec.{ltb}
 use Rattle.net.specs.Choice.{choose}
-use Rattle.net.specs.Records.{withRow, withVariable, movedTo, copiedTo}
+use Rattle.net.specs.Records.{withRow, withVariable, movedTo, copiedTo, sentFrom}
 use Rattle.net.specs.Records.{marked, putIn, takenFrom, startedOn, freeProcess, zeroNode, addressOf}
 use Rattle.matching.specs.Matching.{matchedOf}
 use Rattle.plans.specs.Types.{Locality, Place, Value, Tuple, Row, Process, Node, Changed, Evaluated, Found}
@@ -41,11 +41,13 @@ unfoldable pub readPlan : Process → Node → Place → Found → Plan
 readPlan p y q (Found.At i) = going (movedTo p q) y
 readPlan p y q Found.Nothing = refusing Answer.NoTuple y
 
-unfoldable pub startPlan : Process → Node → Place → Place → Plan
-startPlan p y sent q = changing (movedTo p q) Answer.NoRoom (startedOn y (copiedTo p sent))
+-- the process `copy` starts at the target
+unfoldable pub startPlan : Process → Node → Process → Place → Plan
+startPlan p y copy q = changing (movedTo p q) Answer.NoRoom (startedOn y copy)
 
-unfoldable pub evalPlan : Process → Node → Place → Place → Bool → Plan
-evalPlan p y sent q within = choose within (startPlan p y sent q) (refusing Answer.NotWithin y)
+-- a is the host's address, from which the code is sent
+unfoldable pub evalPlan : Locality → Process → Node → Place → Place → Bool → Plan
+evalPlan a p y sent q within = choose within (startPlan p y (sentFrom a p sent) q) (refusing Answer.NotWithin y)
 
 -- a new address l, opened by a process under a row
 unfoldable pub opening : Row → Process → ℕ → Place → Locality → Plan
@@ -66,9 +68,9 @@ grantedPlan a row p y e n within Request.Stop = stopPlan y
 grantedPlan a row p y e n within (Request.Out l q) = outPlan p y q (marked a (tupleOf e))
 grantedPlan a row p y e n within (Request.In l q) = inPlan (matchedOf p y e .process) y q (matchedOf p y e .found)
 grantedPlan a row p y e n within (Request.Read l q) = readPlan (matchedOf p y e .process) y q (matchedOf p y e .found)
-grantedPlan a row p y e n within (Request.Eval l sent q) = evalPlan p y sent q within
+grantedPlan a row p y e n within (Request.Eval l sent q) = evalPlan a p y sent q within
 grantedPlan a row p y e n within (Request.New v q) = newPlan row p y v q n
-grantedPlan a row p y e n within (Request.Fork q q′) = startPlan p y q′ q
+grantedPlan a row p y e n within (Request.Fork q q′) = startPlan p y (copiedTo p q′) q
 
 unfoldable pub planOf : Locality → Row → Process → Node → Evaluated → ℕ → Bool → Request → Plan
 planOf a row p y e n within req =

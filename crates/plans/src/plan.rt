@@ -23,7 +23,7 @@ ghost use mathlib.Core.Path.{_≡_};
 ghost use lib.Dec.{ltb};
 ghost use Rattle.net.specs.Choice.{choose};
 ghost use Rattle.matching.specs.Matching.{wantAt, matchedOf};
-ghost use Rattle.net.specs.Records.{marked, withField, withVariable, withRow, movedTo, takenFrom, zeroNode};
+ghost use Rattle.net.specs.Records.{marked, withField, withVariable, withRow, movedTo, copiedTo, sentFrom, takenFrom, zeroNode};
 ghost use Rattle.plans.specs.Additions.{itemOf, tupleOf, gaining};
 ghost use Rattle.plans.specs.Types.{Value};
 ghost use Rattle.plans.specs.Plan.{going, refusing, changing, stopPlan, outPlan, inPlan, readPlan, startPlan, evalPlan};
@@ -181,19 +181,34 @@ fn read_request(p: Process, y: Node, q: Place, e: Evaluated) -> Plan
     read_plan(bound, y, q, found)
 }
 
-// A copy of the process starts at the place `sent` of the target, and the process goes on at q.
-fn start_plan(p: Process, y: Node, sent: Place, q: Place) -> Plan
-    ensures { λ r. ⌜ r ≡ startPlan p y sent q ⌝ }
+// The process `copy` starts at the target, and the process p goes on at q.
+fn start_plan(p: Process, y: Node, copy: Process, q: Place) -> Plan
+    ensures { λ r. ⌜ r ≡ startPlan p y copy q ⌝ }
 {
-    let started = y.start(p.copied_to(sent));
+    let started = y.start(copy);
     changed(p.moved_to(q), Answer::NoRoom, started)
 }
 
-fn eval_plan(p: Process, y: Node, sent: Place, q: Place, within: bool) -> Plan
-    ensures { λ r. ⌜ r ≡ evalPlan p y sent q within ⌝ }
+// Code that the host sends starts at the target.
+fn send_plan(a: Locality, p: Process, y: Node, sent: Place, q: Place) -> Plan
+    ensures { λ r. ⌜ r ≡ startPlan p y (sentFrom a p sent) q ⌝ }
+{
+    let copy = p.sent_from(a, sent);
+    start_plan(p, y, copy, q)
+}
+
+fn fork_plan(p: Process, y: Node, q: Place, other: Place) -> Plan
+    ensures { λ r. ⌜ r ≡ startPlan p y (copiedTo p other) q ⌝ }
+{
+    let copy = p.copied_to(other);
+    start_plan(p, y, copy, q)
+}
+
+fn eval_plan(a: Locality, p: Process, y: Node, sent: Place, q: Place, within: bool) -> Plan
+    ensures { λ r. ⌜ r ≡ evalPlan a p y sent q within ⌝ }
 {
     if within {
-        start_plan(p, y, sent, q)
+        send_plan(a, p, y, sent, q)
     } else {
         refused(Answer::NotWithin, y)
     }
@@ -269,9 +284,9 @@ fn granted_plan(
         Request::Out(_, q) => out_plan(a, p, y, q, e),
         Request::In(_, q) => in_request(p, y, q, e),
         Request::Read(_, q) => read_request(p, y, q, e),
-        Request::Eval(_, sent, q) => eval_plan(p, y, sent, q, within),
+        Request::Eval(_, sent, q) => eval_plan(a, p, y, sent, q, within),
         Request::New(v, q) => new_plan(row, p, y, v, q, n),
-        Request::Fork(q, other) => start_plan(p, y, other, q),
+        Request::Fork(q, other) => fork_plan(p, y, q, other),
     }
 }
 

@@ -14,7 +14,7 @@ use borrow.Author.Tests.{lt-ltb, le-ltb, ltb-true}
 use Rattle.net.specs.Choice.{choose, both}
 use Rattle.net.specs.Records.{processAt, nodeAt, rightsAt, rowFor, withNode, withRow, withProcess, withTuple, withCounts, withoutTuple}
 use Rattle.net.specs.Records.{tupleAt, afterTaking, freeSlot, noRights, putIn, takenFrom, startedAtSlot, startedOn}
-use Rattle.net.specs.Records.{marked, movedTo, copiedTo, freeProcess, zeroNode, withVariable}
+use Rattle.net.specs.Records.{marked, movedTo, copiedTo, sentFrom, freeProcess, zeroNode, withVariable}
 use Rattle.keeping.specs.Keeping.{keepsOf}
 use Rattle.net.proofs.Laws.{choose-true}
 use Rattle.net.proofs.Lowest.{first-cases}
@@ -202,25 +202,27 @@ module _ (s : Net) (a : Locality) (k : ℕ) (size : length (s .nodes) ≡ 16) (l
         let same : a ≡ l = λ i. record { 0 = e i } in
         let z : _≡_ {A = ℕ} 0 1 = cc in omega arith
 
-    module _ (busy : processAt (nodeAt s a) k .busy ≡ true) (p : Process) (sent q : Place) where
+    module _ (busy : processAt (nodeAt s a) k .busy ≡ true) (p copy : Process) (q : Place) where
       started-back : (slot : Slot) → freeSlot (nodeAt s l) ≡ slot
-          → back s a k l (changing (movedTo p q) Answer.NoRoom (startedAtSlot (nodeAt s l) (copiedTo p sent) slot))
-          ≡ startedIn s a k l p sent q slot
+          → back s a k l (changing (movedTo p q) Answer.NoRoom (startedAtSlot (nodeAt s l) copy slot))
+          ≡ startedIn s a k l p copy q slot
       unfolding startedAtSlot startedIn changing choose changes withHost
       started-back (Slot.Number j) f =
-          going-back (movedTo p q) (λ y. withProcess y j (copiedTo p sent))
-          (λ e. process-process (nodeAt s a) j k (copiedTo p sent) (movedTo p q) (other-slot busy j f e))
+          going-back (movedTo p q) (λ y. withProcess y j copy)
+          (λ e. process-process (nodeAt s a) j k copy (movedTo p q) (other-slot busy j f e))
       started-back Slot.Full f = refusing-back l Answer.NoRoom _ refl
 
-      start-back : back s a k l (startPlan p (nodeAt s l) sent q) ≡ startedIn s a k l p sent q (freeSlot (nodeAt s l))
+      start-back : back s a k l (startPlan p (nodeAt s l) copy q) ≡ startedIn s a k l p copy q (freeSlot (nodeAt s l))
       unfolding startPlan startedOn
       start-back = started-back (freeSlot (nodeAt s l)) refl
 
-      eval-back : back s a k l (evalPlan p (nodeAt s l) sent q (keepsOf (s .code) sent l (rowFor (nodeAt s l) (copiedTo p sent)))) ≡ eval s a k p l sent q
-      unfolding evalPlan eval changes
-      eval-back =
-          chosen (back s a k l) (keepsOf (s .code) sent l (rowFor (nodeAt s l) (copiedTo p sent))) _ _ _ _ start-back
-          (refusing-back l Answer.NotWithin _ refl)
+    eval-back :
+        processAt (nodeAt s a) k .busy ≡ true → (p : Process) (sent q : Place)
+        → back s a k l (evalPlan a p (nodeAt s l) sent q (keepsOf (s .code) sent l (rowFor (nodeAt s l) (sentFrom a p sent)))) ≡ eval s a k p l sent q
+    unfolding evalPlan eval changes
+    eval-back busy p sent q =
+        chosen (back s a k l) (keepsOf (s .code) sent l (rowFor (nodeAt s l) (sentFrom a p sent))) _ _ _ _
+        (start-back busy p (sentFrom a p sent) q) (refusing-back l Answer.NotWithin _ refl)
 
   -- a new address is not the host's
   module _ (used : a .0 < s .addresses) (p : Process) (v : ℕ) (q : Place) where
@@ -256,7 +258,7 @@ module _ (s : Net) (a : Locality) (k : ℕ) (seat : Standing s a k) (p : Process
   unfoldable pub planIn : Request → Plan
   planIn req =
       planOf a (rowFor (nodeAt s a) p) p (nodeAt s (target req)) e (s .addresses)
-      (sentWithin (s .code) p (nodeAt s (target req)) req) req
+      (sentWithin (s .code) a p (nodeAt s (target req)) req) req
 
   here : (l : Locality) (f : Rights → Bool) → f noRights ≡ false → f (rightsAt (nodeAt s a .row) l) ≡ true → near l a ≡ l
   here l f z h = near-is l a (over (nodeAt s a .row) l f (seat .rights) z h)
@@ -264,7 +266,7 @@ module _ (s : Net) (a : Locality) (k : ℕ) (seat : Standing s a k) (p : Process
   granted-back : (req : Request) → granted (rowFor (nodeAt s a) p) req ≡ true
       → back s a k (target req)
       (grantedPlan a (rowFor (nodeAt s a) p) p (nodeAt s (target req)) e (s .addresses)
-      (sentWithin (s .code) p (nodeAt s (target req)) req) req)
+      (sentWithin (s .code) a p (nodeAt s (target req)) req) req)
       ≡ carriedOut s a k p e req
   unfolding granted target targetIn firstNear targets isNew choose grantedPlan sentWithin carriedOut input read fork noRights changes unused rowFor
   granted-back Request.Lack g = refusing-back s a k (seat .size) (seat .low) a Answer.NotSet _ refl
@@ -280,7 +282,7 @@ module _ (s : Net) (a : Locality) (k : ℕ) (seat : Standing s a k) (p : Process
       rw (here l (λ r. r .send) refl (sym (keeping .sends _ l) ∙ g))
       (eval-back s a k (seat .size) (seat .low) l (seat .busy) p sent q)
   granted-back (Request.New v q) g = new-back s a k (seat .size) (seat .low) (seat .used) p v q
-  granted-back (Request.Fork q q′) g = start-back s a k (seat .size) (seat .low) a (seat .busy) p q′ q
+  granted-back (Request.Fork q q′) g = start-back s a k (seat .size) (seat .low) a (seat .busy) p (copiedTo p q′) q
 
   pub put-back-is : (req : Request) → back s a k (target req) (planIn req) ≡ acting s a k p e req
   unfolding planIn planOf acting changes

@@ -11,7 +11,7 @@ use borrow.Author.Tests.{lt-ltb}
 use Rattle.net.specs.Choice.{fold}
 use Rattle.net.specs.Records.{tupleAt, nodeAt, addressOf, zeroTuple, zeroNode, allRights}
 use Rattle.net.specs.Records.{withVariable, withRights, withRow, withProcess, withNode}
-use Rattle.net.specs.Records.{movedTo, copiedTo, afterTaking, withoutTuple}
+use Rattle.net.specs.Records.{movedTo, copiedTo, sentFrom, afterTaking, withoutTuple}
 use Rattle.sound.specs.Soundness.{valueSound}
 use Rattle.net.proofs.Every.{chosen-lt, Every, every-set, every-weaken, Filled, filled-set, filled-add, filled-map}
 use Rattle.net.proofs.Past.{pastTuple}
@@ -39,16 +39,24 @@ set-each d size f xs l =
 module _ (n k : ℕ) (p : Process) (r : Running n k p) where
   pub moved : (q : Place) → q .0 < k → Running n k (movedTo p q)
   unfolding movedTo
-  moved q h = record { is-busy = r .is-busy; place = h; values = r .values }
+  moved q h = record { is-busy = r .is-busy; place = h; origin-ok = r .origin-ok; values = r .values }
 
   pub copied : (q : Place) → q .0 < k → Running n k (copiedTo p q)
   unfolding copiedTo
-  copied q h = record { is-busy = refl; place = h; values = r .values }
+  copied q h = record { is-busy = refl; place = h; origin-ok = r .origin-ok; values = r .values }
+
+  pub sent-from : (a : Locality) (q : Place) → a .0 < n → q .0 < k → Running n k (sentFrom a p q)
+  unfolding sentFrom
+  sent-from a q g h = record { is-busy = refl; place = h; origin-ok = g; values = r .values }
 
   with-variable : (v : ℕ) (x : Value) → valueSound n x ≡ true → Running n k (withVariable p v x)
   unfolding withVariable
-  with-variable v x h =
-      record { is-busy = r .is-busy; place = r .place; values = every-set v _ (r .values) (λ j y d e. e) h }
+  with-variable v x h = record {
+    is-busy = r .is-busy;
+    place = r .place;
+    origin-ok = r .origin-ok;
+    values = every-set v _ (r .values) (λ j y d e. e) h;
+  }
 
 -- ---- a node from which a tuple is taken
 module _ (n k : ℕ) (x : Node) (ok : NodeOk n k x) (i : ℕ) (h : i < x .stored) where

@@ -28,7 +28,7 @@ use Rattle.sound.proofs.NodeChanges.{runs, free-slot}
 use Rattle.sound.proofs.CodeFacts.{InstructionOk}
 use Rattle.sound.proofs.NetFacts.{NetOk, sound-apart, net-sound, net-shaped}
 use Rattle.sound.proofs.NetChanges.{node-at, instruction-at}
-use Rattle.step.proofs.SoundChanges.{moved, copied, with-host, added-kept, taken-kept, created-kept}
+use Rattle.step.proofs.SoundChanges.{moved, copied, sent-from, with-host, added-kept, taken-kept, created-kept}
 use Rattle.step.proofs.SoundRequests.{bound, RequestOk, request-ok}
 
 -- ---- a change of a process leaves the tuple counts
@@ -108,12 +108,11 @@ module _
       read-kept (Found.At j) h = performed-kept _ (move-kept _ q (bound-at j h) next)
       read-kept Found.Nothing h = same-kept s _ ok
 
-      started-kept : (sent : Place) → sent .0 < s .length → (j : Slot) → Kept (startedIn s a i l p sent q j)
+      started-kept : (copy : Process) → Running (s .addresses) (s .length) copy → (j : Slot) → Kept (startedIn s a i l p copy q j)
       unfolding startedIn withHost withNode
-      started-kept sent h (Slot.Number j) =
-          performed-kept _
-          (with-host _ (move-kept p q running next) l j _ reached (runs _ _ _ (copied _ _ p running sent h)))
-      started-kept sent h Slot.Full = same-kept s _ ok
+      started-kept copy h (Slot.Number j) =
+          performed-kept _ (with-host _ (move-kept p q running next) l j _ reached (runs _ _ _ h))
+      started-kept copy h Slot.Full = same-kept s _ ok
 
     create-kept : (v : ℕ) (q : Place) → q .0 < s .length → Kept (create s a i p v q)
     unfolding create
@@ -129,9 +128,9 @@ module _
     done-kept e (Request.In l q) h = in-kept l q e (h .0) (h .1) _ refl
     done-kept e (Request.Read l q) h = read-kept l q e (h .0) (h .1) _ refl
     done-kept e (Request.Eval l sent q) h =
-        chosen Kept _ _ _ (λ _. started-kept l q e (h .0) (h .2) sent (h .1) _) (λ _. same-kept s _ ok)
+        chosen Kept _ _ _ (λ _. started-kept l q e (h .0) (h .2) _ (sent-from _ _ p running a sent hosted (h .1)) _) (λ _. same-kept s _ ok)
     done-kept e (Request.New v q) h = create-kept v q h
-    done-kept e (Request.Fork q r) h = started-kept a q e hosted (h .0) r (h .1) _
+    done-kept e (Request.Fork q r) h = started-kept a q e hosted (h .0) _ (copied _ _ p running r (h .1)) _
 
     step-kept :
         (c : Instruction) → InstructionOk (s .addresses) (s .length) c → Kept (processStep s a i p c)

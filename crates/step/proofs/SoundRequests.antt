@@ -51,6 +51,7 @@ module _ (n k : ℕ) (p : Process) (t : Tuple) (e : Evaluated) (r : Running n k 
       record {
         is-busy = b .same-busy ∙ r .is-busy;
         place = rw (b .same-place) (r .place);
+        origin-ok = rw (b .same-origin) (r .origin-ok);
         values = record {
           size-is = b .same-size ∙ r .values .size-is;
           holds = λ v l. held-sound v _ l (b .holds v (omega (arith, r .values .size-is)));

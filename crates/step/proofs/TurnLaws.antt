@@ -10,7 +10,7 @@ use lib.Dec.{eqb, ltb}
 use lib.ListN.{length, getD, set, List·getD-eq-default}
 use borrow.Author.Tests.{ltb-true, lt-ltb, le-ltb}
 use Rattle.net.specs.Choice.{choose, both}
-use Rattle.net.specs.Records.{nodeAt, processAt, instructionAt, rowFor, withProcess, withNode, withCounts, copiedTo, zeroInstruction, placeOf}
+use Rattle.net.specs.Records.{nodeAt, processAt, instructionAt, rowFor, withProcess, withNode, withCounts, sentFrom, zeroInstruction, placeOf}
 use Rattle.matching.specs.Matching.{evaluatedOf}
 use Rattle.keeping.specs.Keeping.{keepsOf}
 use Rattle.plans.specs.Request.{requestOf, asked, granted}
@@ -36,17 +36,17 @@ planned-by h a row p y e n w r x d k = k ∙ ap (λ (l : Locality). planOf l row
 
 -- no code is sent, so none can go beyond a row
 pub nothing-sent :
-    (code : List Instruction) (p : Process) (y : Node) (req : Request) (x : Bool) → x ≡ sendsCode req → x ≡ false
-    → true ≡ sentWithin code p y req
+    (code : List Instruction) (a : Locality) (p : Process) (y : Node) (req : Request) (x : Bool) → x ≡ sendsCode req → x ≡ false
+    → true ≡ sentWithin code a p y req
 unfolding sendsCode sentWithin
-nothing-sent code p y Request.Lack x e h = refl
-nothing-sent code p y Request.Stop x e h = refl
-nothing-sent code p y (Request.Out l q) x e h = refl
-nothing-sent code p y (Request.In l q) x e h = refl
-nothing-sent code p y (Request.Read l q) x e h = refl
-nothing-sent code p y (Request.Eval l sent q) x e h = never (sym h ∙ e)
-nothing-sent code p y (Request.New v q) x e h = refl
-nothing-sent code p y (Request.Fork q q′) x e h = refl
+nothing-sent code a p y Request.Lack x e h = refl
+nothing-sent code a p y Request.Stop x e h = refl
+nothing-sent code a p y (Request.Out l q) x e h = refl
+nothing-sent code a p y (Request.In l q) x e h = refl
+nothing-sent code a p y (Request.Read l q) x e h = refl
+nothing-sent code a p y (Request.Eval l sent q) x e h = never (sym h ∙ e)
+nothing-sent code a p y (Request.New v q) x e h = refl
+nothing-sent code a p y (Request.Fork q q′) x e h = refl
 
 -- ---- a plan put back, node by node
 module _ (s : Net) (b : ℕ) (l : Locality) (plan : Plan) (x : Bool) where
@@ -206,9 +206,9 @@ turn-at s b a seat turn ha hs ht =
     (hs ∙ ap (λ (x : Locality). seatOf b (s .addresses) (nodeAt s x)) ha)
 
 -- sent code, judged by the row of the process that would start
-pub within-as : (code : List Instruction) (p r : Process) (y : Node) (l : Locality) (sent : Place) (row : Row) (x : Bool)
-    → r ≡ copiedTo p sent → row ≡ rowFor y r → x ≡ keepsOf code sent l row → x ≡ keepsOf code sent l (rowFor y (copiedTo p sent))
-within-as code p r y l sent row x a b d = d ∙ ap (keepsOf code sent l) (b ∙ ap (rowFor y) a)
+pub within-as : (code : List Instruction) (a : Locality) (p r : Process) (y : Node) (l : Locality) (sent : Place) (row : Row) (x : Bool)
+    → r ≡ sentFrom a p sent → row ≡ rowFor y r → x ≡ keepsOf code sent l row → x ≡ keepsOf code sent l (rowFor y (sentFrom a p sent))
+within-as code a p r y l sent row x e b d = d ∙ ap (keepsOf code sent l) (b ∙ ap (rowFor y) e)
 
 -- a turn that sends no code has the plan by which none is judged
 pub unsent-as :
@@ -218,11 +218,12 @@ unfolding planAt planWith turnAt turnOf asking
 unsent-as s b turn plan e h d =
     d
     ∙ ap (turnPlan turn (nodeAt s (turn .target)))
-    (nothing-sent (s .code) (turn .seat .process) (nodeAt s (turn .target)) (turn .request) (turn .sends)
+    (nothing-sent (s .code) (hostOf (turn .seat .pick)) (turn .seat .process) (nodeAt s (turn .target)) (turn .request) (turn .sends)
     (rw e refl) h)
 
 pub drawn-as :
-    (code : List Instruction) (turn : Turn) (y : Node) (within : Bool) (plan : Plan)
-    → within ≡ sentWithin code (turn .seat .process) y (turn .request) → plan ≡ turnPlan turn y within → plan ≡ planWith code turn y
+    (code : List Instruction) (turn : Turn) (a : Locality) (y : Node) (within : Bool) (plan : Plan) → a ≡ hostOf (turn .seat .pick)
+    → within ≡ sentWithin code a (turn .seat .process) y (turn .request) → plan ≡ turnPlan turn y within → plan ≡ planWith code turn y
 unfolding planWith
-drawn-as code turn y within plan w d = d ∙ ap (turnPlan turn y) w
+drawn-as code turn a y within plan e w d =
+    d ∙ ap (turnPlan turn y) (w ∙ ap (λ (x : Locality). sentWithin code x (turn .seat .process) y (turn .request)) e)

@@ -4,7 +4,7 @@ use Prim.Native.Nat.{ℕ, _+_, _/_, _%_}
 use lib.Dec.{eqb, ltb}
 use Rattle.net.specs.Choice.{choose}
 use Rattle.net.specs.Records.{processAt, nodeAt, instructionAt, rowFor, withProcess, withTuple, withNode, withRow}
-use Rattle.net.specs.Records.{withVariable, movedTo, copiedTo, withoutTuple, freeSlot, freeProcess, zeroNode}
+use Rattle.net.specs.Records.{withVariable, movedTo, copiedTo, sentFrom, withoutTuple, freeSlot, freeProcess, zeroNode}
 use Rattle.net.specs.Records.{marked, addressOf}
 use Rattle.matching.specs.Matching.{evaluatedOf, matchedOf}
 use Rattle.keeping.specs.Keeping.{keepsOf}
@@ -67,22 +67,22 @@ readFound s a k q Found.Nothing p = unchanged Answer.NoTuple s
 unfoldable pub read : Net → Locality → ℕ → Place → Matched → Picked
 read s a k q m = readFound s a k q (m .found) (m .process)
 
--- a copy of the process starts at the sent place in slot j of l
-unfoldable pub startedIn : Net → Locality → ℕ → Locality → Process → Place → Place → Slot → Picked
-startedIn s a k l p sent q (Slot.Number j) =
-    performed (withHost (withHost s a k (movedTo p q)) l j (copiedTo p sent))
-startedIn s a k l p sent q Slot.Full = unchanged Answer.NoRoom s
+-- the process goes on at q, and its copy starts in slot j of l
+unfoldable pub startedIn : Net → Locality → ℕ → Locality → Process → Process → Place → Slot → Picked
+startedIn s a k l p copy q (Slot.Number j) = performed (withHost (withHost s a k (movedTo p q)) l j copy)
+startedIn s a k l p copy q Slot.Full = unchanged Answer.NoRoom s
 
--- eval: the sent code has to keep within the target's row for the process that would start, where self means the target
+-- eval: the process that would start has the host as its origin (document 02, slip 10). Its code has to keep within the target's
+-- row for it, where self means the target
 unfoldable pub eval : Net → Locality → ℕ → Process → Locality → Place → Place → Picked
 eval s a k p l sent q =
-    choose (keepsOf (s .code) sent l (rowFor (nodeAt s l) (copiedTo p sent)))
-    (startedIn s a k l p sent q (freeSlot (nodeAt s l)))
+    choose (keepsOf (s .code) sent l (rowFor (nodeAt s l) (sentFrom a p sent)))
+    (startedIn s a k l p (sentFrom a p sent) q (freeSlot (nodeAt s l)))
     (unchanged Answer.NotWithin s)
 
 -- fork: the first branch stays in its slot, the second enters the lowest free slot there
 unfoldable pub fork : Net → Locality → ℕ → Process → Place → Place → Picked
-fork s a k p q r = startedIn s a k a p r q (freeSlot (nodeAt s a))
+fork s a k p q r = startedIn s a k a p (copiedTo p r) q (freeSlot (nodeAt s a))
 
 -- new: the lowest unused address l. Its row is a copy of the creator's as it stood, with every right on itself; the
 -- creator's row gains every right on it, and no other row changes

@@ -8,7 +8,7 @@ use mathlib.Core.Bool.{Bool, true, false}
 use mathlib.Core.List.{List, [], _∷_}
 use lib.Dec.{eqb, ltb}
 use Rattle.net.specs.Choice.{choose, both}
-use Rattle.net.specs.Records.{zeroInstruction, processAt, nodeAt, instructionAt, rowFor, copiedTo, addressOf, placeOf}
+use Rattle.net.specs.Records.{zeroInstruction, processAt, nodeAt, instructionAt, rowFor, sentFrom, addressOf, placeOf}
 use Rattle.matching.specs.Matching.{evaluatedOf}
 use Rattle.keeping.specs.Keeping.{keepsOf}
 use Rattle.plans.specs.Request.{requestOf, targets, isNew}
@@ -82,16 +82,16 @@ seatAt s b = seatOf b (s .addresses) (nodeAt s (hostOf b))
 unfoldable pub turnAt : Net → ℕ → Turn
 turnAt s b = turnOf (seatAt s b) (instructionAt (s .code) (placeOf (seatAt s b .index)))
 
--- ---- whether the code that a request of the process p sends keeps within the row that the node y has for it
-unfoldable pub sentWithin : List Instruction → Process → Node → Request → Bool
-sentWithin code p y Request.Lack = true
-sentWithin code p y Request.Stop = true
-sentWithin code p y (Request.Out l q) = true
-sentWithin code p y (Request.In l q) = true
-sentWithin code p y (Request.Read l q) = true
-sentWithin code p y (Request.Eval l sent q) = keepsOf code sent l (rowFor y (copiedTo p sent))
-sentWithin code p y (Request.New v q) = true
-sentWithin code p y (Request.Fork q q′) = true
+-- ---- whether the code that a request of the process p at address a sends keeps within the row that the node y has for it
+unfoldable pub sentWithin : List Instruction → Locality → Process → Node → Request → Bool
+sentWithin code a p y Request.Lack = true
+sentWithin code a p y Request.Stop = true
+sentWithin code a p y (Request.Out l q) = true
+sentWithin code a p y (Request.In l q) = true
+sentWithin code a p y (Request.Read l q) = true
+sentWithin code a p y (Request.Eval l sent q) = keepsOf code sent l (rowFor y (sentFrom a p sent))
+sentWithin code a p y (Request.New v q) = true
+sentWithin code a p y (Request.Fork q q′) = true
 
 -- ---- the plan of a turn: y is the node at its target, `within` whether sent code keeps within y's row for it
 unfoldable pub seatPlan : Seat → Evaluated → Request → Node → Bool → Plan
@@ -104,7 +104,7 @@ unfoldable pub turnPlan : Turn → Node → Bool → Plan
 turnPlan t y within = seatPlan (t .seat) (t .template) (t .request) y within
 
 unfoldable pub planWith : List Instruction → Turn → Node → Plan
-planWith code t y = turnPlan t y (sentWithin code (t .seat .process) y (t .request))
+planWith code t y = turnPlan t y (sentWithin code (hostOf (t .seat .pick)) (t .seat .process) y (t .request))
 
 -- in a net
 unfoldable pub planAt : Net → Turn → Plan

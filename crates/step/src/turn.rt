@@ -189,9 +189,9 @@ pub fn turn_of(seat: Seat, c: Instruction) -> Turn
     }
 }
 
-// Whether the code that a request of the process p sends keeps within the row that the node y has for it.
-fn sent_within(code: [Instruction; 512], p: Process, y: Node, r: Request) -> bool
-    ensures { λ x. ⌜ x ≡ sentWithin code p y r ⌝ }
+// Whether the code that a request of the process p at address a sends keeps within the row that the node y has for it.
+fn sent_within(code: [Instruction; 512], a: Locality, p: Process, y: Node, r: Request) -> bool
+    ensures { λ x. ⌜ x ≡ sentWithin code a p y r ⌝ }
 {
     match r {
         Request::Lack => true,
@@ -200,7 +200,7 @@ fn sent_within(code: [Instruction; 512], p: Process, y: Node, r: Request) -> boo
         Request::In(_, _) => true,
         Request::Read(_, _) => true,
         Request::Eval(l, sent, _) => {
-            let row = y.row_for(p.copied_to(sent));
+            let row = y.row_for(p.sent_from(a, sent));
             keeps(code, sent, l, row)
         }
         Request::New(_, _) => true,
@@ -245,7 +245,8 @@ pub fn plan_with(code: [Instruction; 512], turn: Turn, y: Node) -> Plan
 {
     let seat = turn.seat;
     let request = turn.request;
-    let within = sent_within(code, seat.process, y, request);
+    let host = host_of(seat.pick);
+    let within = sent_within(code, host, seat.process, y, request);
     plan_of(turn, y, within)
 }
 

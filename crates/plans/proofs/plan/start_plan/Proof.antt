@@ -1,6 +1,6 @@
 -- `plans::plan::start_plan` meets its contract. Assumes nothing.
 use Rattle.plans.specs.Plan.{startPlan}
-use Rattle.plans.proofs.PlanLaws.{start-as}
+use Rattle.plans.proofs.PlanLaws.{changing-as}
 use borrow.Author.Needs.{needs}
 use Rattle.plans.proofs.plan.start_plan.Statement.{statement}
 use Rattle.plans.proofs.plan.start_plan.Tie as tie
@@ -13,5 +13,4 @@ start-plan-spec =
     (λ c κs. search needs)
     (λ c κs. search needs)
     (λ c κs. search needs)
-    (λ c κs. search needs)
-    (λ c. search (needs, start-as)))
+    (λ c. search (needs, changing-as)))

@@ -10,4 +10,5 @@ plan-with-spec =
     (tie.spec
     (λ c κs. search needs)
     (λ c κs. search needs)
+    (λ c κs. search needs)
     (λ c. search (needs, drawn-as)))

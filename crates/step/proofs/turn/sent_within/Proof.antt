@@ -1,5 +1,5 @@
 -- `step::turn::sent_within` meets its contract. Assumes nothing.
-use Rattle.plans.proofs.PlanLaws.{by4}
+use Rattle.plans.proofs.PlanLaws.{by5}
 use Rattle.step.proofs.TurnLaws.{within-as}
 use Rattle.step.specs.Turn.{sentWithin}
 use borrow.Author.Needs.{needs}
@@ -22,11 +22,11 @@ sent-within-spec =
     (λ c κs. search needs)
     (λ c. search needs)
     (λ c. search needs)
-    (λ c. search (needs, by4 sentWithin, within-as))
-    (λ c. search (needs, by4 sentWithin, within-as))
-    (λ c. search (needs, by4 sentWithin, within-as))
-    (λ c. search (needs, by4 sentWithin, within-as))
-    (λ c. search (needs, by4 sentWithin, within-as))
-    (λ c. search (needs, by4 sentWithin, within-as))
-    (λ c. search (needs, by4 sentWithin, within-as))
-    (λ c. search (needs, by4 sentWithin, within-as)))
+    (λ c. search (needs, by5 sentWithin, within-as))
+    (λ c. search (needs, by5 sentWithin, within-as))
+    (λ c. search (needs, by5 sentWithin, within-as))
+    (λ c. search (needs, by5 sentWithin, within-as))
+    (λ c. search (needs, by5 sentWithin, within-as))
+    (λ c. search (needs, by5 sentWithin, within-as))
+    (λ c. search (needs, by5 sentWithin, within-as))
+    (λ c. search (needs, by5 sentWithin, within-as)))
