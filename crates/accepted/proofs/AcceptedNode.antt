@@ -55,17 +55,17 @@ gives-row n =
     (creating-ok n v))
 
 -- ---- 3. processes
-gives-process : (n k i : ℕ) (x : Node) → NodeOk n k x → Gives (process k i x) (NodeOk n k)
+gives-process : (n k : ℕ) (a : Locality) → a .0 < n → (i : ℕ) (x : Node) → NodeOk n k x → Gives (process a k i x) (NodeOk n k)
 unfolding process
-gives-process n k i x ok =
+gives-process n k a m i x ok =
     gives-then (gives-place k)
-    (λ p h. gives-pure _ _ (with-process n k x ok i _ (runs n k _ (starting n k p h))))
+    (λ p h. gives-pure _ _ (with-process n k x ok i _ (runs n k _ (starting n k a p m h))))
 
-pub gives-processes : (n k : ℕ) (x : Node) → NodeOk n k x → Gives (processes k x) (NodeOk n k)
+pub gives-processes : (n k : ℕ) (a : Locality) (x : Node) → a .0 < n → NodeOk n k x → Gives (processes a k x) (NodeOk n k)
 unfolding processes
-gives-processes n k x ok =
+gives-processes n k a x m ok =
     gives-then (gives-field 3 0 5 22 (omega arith))
-    (λ count _. gives-each (λ i. NodeOk n k) count (process k) (λ i h. gives-process n k i) x ok)
+    (λ count _. gives-each (λ i. NodeOk n k) count (process a k) (λ i h. gives-process n k a m i) x ok)
 
 -- ---- 4. tuples
 gives-item : (n : ℕ) → Gives (item n) (λ x. itemSound n x ≡ true)

@@ -110,7 +110,7 @@ module _ (n k : ℕ) where
   unfolding processesOf
   gives-processesOf a s h ok =
       gives-then
-      (gives-at (λ m. processes m (nodeAt s a)) (ok .length-is) (gives-processes n k _ (node-ok s a h ok)))
+      (gives-at (λ m. processes a m (nodeAt s a)) (ok .length-is) (gives-processes n k a _ h (node-ok s a h ok)))
       (λ x x-ok. gives-pure _ _ (set-node s a x h ok x-ok))
 
   gives-allProcesses : (s : Net) → Making n k s → Gives (allProcesses s) (Making n k)

@@ -52,18 +52,18 @@ unfolding rows eachAddress
 rows-within s c = each-within s (c .addresses) c (λ i. rowOf-within (addressOf i))
 
 -- ---- 3. processes
-process-within : (k slot : ℕ) (x : Node) → Within (process k slot x) 9 Anything
+process-within : (a : Locality) (k slot : ℕ) (x : Node) → Within (process a k slot x) 9 Anything
 unfolding process
-process-within k slot x = gives _ (place-within k)
+process-within a k slot x = gives _ (place-within k)
 
-processes-within : (k : ℕ) (x : Node) → Within (processes k x) (3 + 4 * 9) Anything
+processes-within : (a : Locality) (k : ℕ) (x : Node) → Within (processes a k x) (3 + 4 * 9) Anything
 unfolding processes
-processes-within k x =
-    bind (field-within _ _ _ _) (λ count h. each-within {n = 4} x (omega arith) any (λ i y g. process-within k i y))
+processes-within a k x =
+    bind (field-within _ _ _ _) (λ count h. each-within {n = 4} x (omega arith) any (λ i y g. process-within a k i y))
 
 processesOf-within : (a : Locality) (s : Net) → Counted s → Within (processesOf a s) 39 Counted
 unfolding processesOf
-processesOf-within a s c = bind (processes-within _ _) (λ x h. pure-within _ (node-kept s c a x))
+processesOf-within a s c = bind (processes-within a _ _) (λ x h. pure-within _ (node-kept s c a x))
 
 allProcesses-within : (s : Net) → Counted s → Within (allProcesses s) (16 * 39) Counted
 unfolding allProcesses eachAddress

@@ -29,13 +29,13 @@ module _ (s : List ℕ) (p q : Step) where
   unfolding rowOf
   row-turn n i net r w e = on s p q q _ _ r _ (rw e w) (stop s q _)
 
-  pub process-turn : (k i : ℕ) (x : Node) (at : Place) (started : Process) → Went s p (place k) q at → started ≡ startingAt at
-      → Went s p (process k i x) q (withProcess x i started)
+  pub process-turn : (a : Locality) (k i : ℕ) (x : Node) (at : Place) (started : Process) → Went s p (place k) q at
+      → started ≡ startingAt a at → Went s p (process a k i x) q (withProcess x i started)
   unfolding process
-  process-turn k i x at started w e = on s p q q _ _ at _ w (stop-as s q _ _ (ap (withProcess x i) e))
+  process-turn a k i x at started w e = on s p q q _ _ at _ w (stop-as s q _ _ (ap (withProcess x i) e))
 
-  pub processes-turn : (k i : ℕ) (net : Net) (x : Node) → Went s p (processes k (nodeAt net (addressOf i))) q x → net .length ≡ k
-      → Went s p (processesOf (addressOf i) net) q (withNode net (addressOf i) x)
+  pub processes-turn : (k i : ℕ) (net : Net) (x : Node) → Went s p (processes (addressOf i) k (nodeAt net (addressOf i))) q x
+      → net .length ≡ k → Went s p (processesOf (addressOf i) net) q (withNode net (addressOf i) x)
   unfolding processesOf nodeAt
   processes-turn k i net x w e = on s p q q _ _ x _ (rw e w) (stop s q _)
 

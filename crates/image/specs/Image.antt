@@ -61,20 +61,20 @@ rowOf a s = do
 unfoldable pub rows : Net → Reader Net
 rows s = eachAddress (s .addresses) rowOf s
 
--- ---- 3. for each address its processes, which fill slots 0 upward
-unfoldable pub process : ℕ → ℕ → Node → Reader Node
-process k slot x = do
+-- ---- 3. for each address its processes, which fill slots 0 upward; each has its own node as origin (document 02, slip 10)
+unfoldable pub process : Locality → ℕ → ℕ → Node → Reader Node
+process a k slot x = do
   p ← place k
-  pure (withProcess x slot (startingAt p))
+  pure (withProcess x slot (startingAt a p))
 
-unfoldable pub processes : ℕ → Node → Reader Node
-processes k x = do
+unfoldable pub processes : Locality → ℕ → Node → Reader Node
+processes a k x = do
   count ← field 3 0 5 22
-  each count (process k) x
+  each count (process a k) x
 
 unfoldable pub processesOf : Locality → Net → Reader Net
 processesOf a s = do
-  x ← processes (s .length) (nodeAt s a)
+  x ← processes a (s .length) (nodeAt s a)
   pure (withNode s a x)
 
 unfoldable pub allProcesses : Net → Reader Net

@@ -3,6 +3,7 @@ use crate::built::NetRead;
 use crate::built::NodeRead;
 use bitreader::bits::take;
 use bitreader::fields::read_place;
+use net::locality::Locality;
 use net::network::Net;
 use net::node::Node;
 use net::process::Process;
@@ -14,10 +15,10 @@ ghost use Rattle.image.specs.Progress.{Built};
 ghost use Rattle.bitreader.specs.Progress.{seen};
 ghost use Rattle.readers.specs.Progress.{Went};
 
-// The starting places of a node, which fill slots 0 upward.
-fn read_slots(s: &[u8], from: Step, k: usize, count: usize, start: Node) -> NodeRead
+// The starting places of the node at address a, which fill slots 0 upward.
+fn read_slots(s: &[u8], from: Step, a: Locality, k: usize, count: usize, start: Node) -> NodeRead
     requires { ⌜ count ≤ 4 ⌝ }
-    ensures { λ r. ⌜ Went (seen (now (s .entry))) from (each count (process k) start) (r .next) (r .node) ⌝ }
+    ensures { λ r. ⌜ Went (seen (now (s .entry))) from (each count (process a k) start) (r .next) (r .node) ⌝ }
 {
     let mut node = start;
     let mut step = from;
@@ -25,7 +26,7 @@ fn read_slots(s: &[u8], from: Step, k: usize, count: usize, start: Node) -> Node
     while i < count {
         let got = read_place(s, step, k);
         let at = got.place;
-        let started = Process::starting(at);
+        let started = Process::starting(a, at);
         node.processes[i] = started;
         step = got.next;
         i += 1;
@@ -34,12 +35,12 @@ fn read_slots(s: &[u8], from: Step, k: usize, count: usize, start: Node) -> Node
 }
 
 // The processes of a node.
-fn read_processes(s: &[u8], from: Step, k: usize, start: Node) -> NodeRead
-    ensures { λ r. ⌜ Went (seen (now (s .entry))) from (processes k start) (r .next) (r .node) ⌝ }
+fn read_processes(s: &[u8], from: Step, a: Locality, k: usize, start: Node) -> NodeRead
+    ensures { λ r. ⌜ Went (seen (now (s .entry))) from (processes a k start) (r .next) (r .node) ⌝ }
 {
     let got = take(s, from, 3, 0, 5, 22);
     let next = got.next;
-    read_slots(s, next, k, got.value, start)
+    read_slots(s, next, a, k, got.value, start)
 }
 
 // The processes of each address.
@@ -51,10 +52,11 @@ pub(crate) fn read_all_processes(s: &[u8], from: Step, start: Net) -> NetRead
     let k = start.length;
     let mut net = start;
     let mut step = from;
-    let mut i = 0;
+    let mut i: usize = 0;
     while i < n {
         let node = net.nodes[i];
-        let got = read_processes(s, step, k, node);
+        let a = Locality(i as u8);
+        let got = read_processes(s, step, a, k, node);
         let filled = got.node;
         net.nodes[i] = filled;
         step = got.next;

@@ -27,6 +27,7 @@ read-all-processes-spec =
     (λ c. search (needs, begin))
     (λ c. search needs)
     (λ c. search needs)
+    (λ c. search needs)
     (λ c κs. search needs)
     (λ c. search needs)
     (λ c. search needs)

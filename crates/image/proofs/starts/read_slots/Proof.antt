@@ -11,10 +11,10 @@ use Rattle.image.proofs.starts.read_slots.Statement.{statement}
 use Rattle.image.proofs.starts.read_slots.Tie as tie
 
 abbrev Inv-loop : tie.InvT-loop
-Inv-loop s k count node₀ step₀ i₀ node step i = Loop (seen s) step₀ count (process k) node₀ step i node
+Inv-loop s a k count node₀ step₀ i₀ node step i = Loop (seen s) step₀ count (process a k) node₀ step i node
 
 abbrev μ-loop : tie.MeasureT-loop
-μ-loop s k count node₀ step₀ i₀ node step i = count - i
+μ-loop s a k count node₀ step₀ i₀ node step i = count - i
 
 pub read-slots-spec : {M : Type 1} → statement M
 unfolding withProcess
