@@ -127,22 +127,24 @@ module _ (resolve : ℕ → Place) where
         (λ j p l. ap (λ (v : ℕ). movedBy resolve v p) (getD-set-other starts (4 * a + k) (4 * i + j) w 0 (λ e. omega (arith, d)))))
         ∙ sym (node-is starts i x)
 
-    moved-start : 4 * a + k < length starts → moves (set starts (4 * a + k) w) a k (startingAt (placeOf 0)) ≡ startingAt (resolve w)
+    moved-start :
+        (o : Locality) → 4 * a + k < length starts
+        → moves (set starts (4 * a + k) w) a k (startingAt o (placeOf 0)) ≡ startingAt o (resolve w)
     unfolding movedBy startingAt movedTo choose
-    moved-start l = ap (λ (v : ℕ). startingAt (resolve v)) (getD-set-same starts (4 * a + k) w 0 l)
+    moved-start o l = ap (λ (v : ℕ). startingAt o (resolve v)) (getD-set-same starts (4 * a + k) w 0 l)
 
     node-process :
-        (x : Node) → length (x .processes) ≡ 4 → 4 * a + k < length starts
-        → movedNode resolve (set starts (4 * a + k) w) a (withProcess x k (startingAt (placeOf 0)))
-        ≡ withProcess (movedNode resolve starts a x) k (startingAt (resolve w))
+        (o : Locality) (x : Node) → length (x .processes) ≡ 4 → 4 * a + k < length starts
+        → movedNode resolve (set starts (4 * a + k) w) a (withProcess x k (startingAt o (placeOf 0)))
+        ≡ withProcess (movedNode resolve starts a x) k (startingAt o (resolve w))
     unfolding withProcess
-    node-process x e l =
-        node-is (set starts (4 * a + k) w) a (withProcess x k (startingAt (placeOf 0)))
+    node-process o x e l =
+        node-is (set starts (4 * a + k) w) a (withProcess x k (startingAt o (placeOf 0)))
         ∙ ap (withSlots x)
-        (each-set pastProcess (moves starts a) (moves (set starts (4 * a + k) w) a) 4 (x .processes) k (startingAt (placeOf 0)) e h
+        (each-set pastProcess (moves starts a) (moves (set starts (4 * a + k) w) a) 4 (x .processes) k (startingAt o (placeOf 0)) e h
         (λ j p g d. ap (λ (v : ℕ). movedBy resolve v p) (getD-set-other starts (4 * a + k) (4 * a + j) w 0 (λ q. omega (arith, d))))
-        ∙ ap (set (each pastProcess (moves starts a) 4 (x .processes)) k) (moved-start l))
-        ∙ ap (λ (y : Node). withProcess y k (startingAt (resolve w))) (sym (node-is starts a x))
+        ∙ ap (set (each pastProcess (moves starts a) 4 (x .processes)) k) (moved-start o l))
+        ∙ ap (λ (y : Node). withProcess y k (startingAt o (resolve w))) (sym (node-is starts a x))
 
 -- ---- the state while lines are read: four slots at each address, and a word for each slot
 record Sized (s : State) : Type 0 where
@@ -174,7 +176,7 @@ module _ (resolve : ℕ → Place) (place : Start → Place) (r : Resolves resol
   -- ---- one line
   process-placed :
       (t : Net) (a : Locality) (x : Node) (k : ℕ) (p q : Place) → nodeAt t a ≡ x → processCount x ≡ k → p ≡ q
-      → withNode t a (withProcess x k (startingAt p)) ≡ withNode t a (withProcess (nodeAt t a) (processCount (nodeAt t a)) (startingAt q))
+      → withNode t a (withProcess x k (startingAt a p)) ≡ withNode t a (withProcess (nodeAt t a) (processCount (nodeAt t a)) (startingAt a q))
   process-placed t a x k p q e c h = rw (e, c, h) refl
 
   moved-process :
@@ -191,7 +193,7 @@ module _ (resolve : ℕ → Place) (place : Start → Place) (r : Resolves resol
       net-set resolve (s .starts) (set (s .starts) (4 * a .0 + k) w) (s .net) a _ size h
       (λ i y l d. node-other resolve (s .starts) (a .0) k w room i y d)
       ∙ ap (withNode (movedNet resolve (s .starts) (s .net)) a)
-      (node-process resolve (s .starts) (a .0) k w room node slots (omega (arith, ok .starts-are)))
+      (node-process resolve (s .starts) (a .0) k w room a node slots (omega (arith, ok .starts-are)))
       ∙ process-placed _ a _ k _ _ (node-at resolve (s .starts) (s .net) a size h)
       (count-kept resolve (s .starts) (a .0) node slots) (start-back resolve place r (s .count) x f b)
 

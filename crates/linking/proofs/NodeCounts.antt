@@ -48,10 +48,10 @@ module _ (c m : ℕ) (x : Node) (ok : Holds c m x) where
     holds = λ j h. record { used = λ l. ok .slots j h ∙ lt-ltb j c l; unused = λ l. ok .slots j h ∙ le-ltb j c l };
   }
 
-  holds-process : (q : Place) → c < 4 → Holds (c + 1) m (withProcess x (processCount x) (startingAt q))
+  holds-process : (a : Locality) (q : Place) → c < 4 → Holds (c + 1) m (withProcess x (processCount x) (startingAt a q))
   unfolding withProcess startingAt
-  holds-process q h =
-      subst (λ (i : ℕ). Holds (c + 1) m (withProcess x i (startingAt q))) (sym (ok .processes))
+  holds-process a q h =
+      subst (λ (i : ℕ). Holds (c + 1) m (withProcess x i (startingAt a q))) (sym (ok .processes))
       (holds-first (c + 1) m _ (filled-add _ refl first-busy) (omega arith) (ok .stored) (ok .few-tuples))
 
   holds-tuple : (t : Tuple) → m < 16 → Holds c (m + 1) (withTuple x t)
@@ -133,7 +133,7 @@ module _ (ls : List Line) (s : Net) (ok : Counts ls s) where
     unfolding placed processesIn tuplesIn
     counts-process p r =
         node-set (process b p) b _ (λ a d. none-elsewhere a b d) (λ a d. refl)
-        (holds-as (omega (arith, one-there b)) (omega arith) (holds-process _ _ _ (ok .at b h) _ r))
+        (holds-as (omega (arith, one-there b)) (omega arith) (holds-process _ _ _ (ok .at b h) _ _ r))
 
     pub counts-tuple :
         (t : Tuple) → counted (tuplesIn b) ls < 16 → Counts (ls ++ (tuple b t ∷ [])) (placed place n (tuple b t) s)

@@ -69,12 +69,12 @@ unfoldable pub ruled : ℕ → List Row → Net → Net
 ruled i [] s = s
 ruled i (r ∷ rs) s = ruled (suc i) rs (withNode s (addressOf i) (withRow (nodeAt s (addressOf i)) r))
 
--- what a line puts at its node; its first instruction has the number n, and a tuple bears its own node's address (document 02,
--- slip 8)
+-- what a line puts at its node; its first instruction has the number n. A tuple bears its own node's address (document 02, slip
+-- 8), and a process has it as its origin (slip 10)
 unfoldable pub placed : (Start → Place) → ℕ → Line → Net → Net
 placed place n (definition k p) s = s
 placed place n (process a p) s =
-    withNode s a (withProcess (nodeAt s a) (processCount (nodeAt s a)) (startingAt (place (startOf n p))))
+    withNode s a (withProcess (nodeAt s a) (processCount (nodeAt s a)) (startingAt a (place (startOf n p))))
 placed place n (tuple a t) s = withNode s a (withTuple (nodeAt s a) (marked a t))
 
 unfoldable pub peopled : (Start → Place) → ℕ → List Line → Net → Net

@@ -83,7 +83,7 @@ module _ (s : List ℕ) (rows n : ℕ) where
       (uses uses′ : List Bool) (starts starts′ : List ℕ) (twice : Bool) where
     pub process-lined :
         k ≡ processCount node → Slotted s from rows n k table uses w next′ count table′ uses′
-        → starts′ ≡ set starts (4 * a .0 + k) w → people ≡ withProcess node k (startingAt (placeOf 0))
+        → starts′ ≡ set starts (4 * a .0 + k) w → people ≡ withProcess node k (startingAt a (placeOf 0))
         → Placed s from (processLine rows) n table uses twice starts a node next′ count table′ uses′ twice starts′ people
     unfolding processLine state after sizeOf placed unplaced
     process-lined c y e f =
@@ -138,8 +138,9 @@ pub roomed :
     → Went s free (Fields.tuple rows) read t → Went s read (byte 10) q tt → Roomed s p rows m q t
 roomed s p free read q rows m t a b c = record { free = free; read = read; space = a; got = b; ended = c }
 
-pub started-is : (x r : Node) (k : ℕ) (p : Process) (q : Place) → p ≡ startingAt q → r ≡ withProcess x k p → r ≡ withProcess x k (startingAt q)
-started-is x r k p q e f = f ∙ ap (withProcess x k) e
+pub started-is :
+    (x r : Node) (k : ℕ) (p : Process) (a : Locality) (q : Place) → p ≡ startingAt a q → r ≡ withProcess x k p → r ≡ withProcess x k (startingAt a q)
+started-is x r k p a q e f = f ∙ ap (withProcess x k) e
 
 -- ---- one reader in place of another that does the same
 lined-as :

@@ -153,11 +153,11 @@ fn read_process_after(
     }
 }
 
-// The node with a process in slot k, which stands at place 0 until its start is resolved.
-fn started_in(node: Node, k: usize) -> Node
-    ensures { λ r. ⌜ r ≡ withProcess node k (startingAt (placeOf 0)) ⌝ }
+// The node of address a with a process in slot k, which stands at place 0 until its start is resolved.
+fn started_in(node: Node, a: Locality, k: usize) -> Node
+    ensures { λ r. ⌜ r ≡ withProcess node k (startingAt a (placeOf 0)) ⌝ }
 {
-    let process = Process::starting(Place(0));
+    let process = Process::starting(a, Place(0));
     node.with_process(k, process)
 }
 
@@ -181,7 +181,7 @@ fn read_process_line(
     let got = read_process_after(s, from, rows, n, k, table, uses);
     let next = got.next;
     put_start(starts, a, k, got.start);
-    let people = started_in(node, k);
+    let people = started_in(node, a, k);
     LineRead {
         node: people,
         next,
