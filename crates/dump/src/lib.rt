@@ -3,12 +3,13 @@
 //
 //   addresses    1
 //   code length  2
-//   16 nodes, 542 bytes each:
+//   16 nodes, 546 bytes each:
 //     create     1
 //     16 rights  1 each: 8 take, 4 read, 2 put, 1 send
-//     4 processes, 43 bytes each:
+//     4 processes, 44 bytes each:
 //       busy     1
 //       place    2
+//       origin   1
 //       8 variables, 5 bytes each: kind 1 (0 unset, 1 reading, 2 address), value 4
 //     stored     1
 //     16 tuples, 22 bytes each:
@@ -23,8 +24,8 @@
 //     count      1
 //     4 template fields, 5 bytes each: kind 1 (0 to 5 as in document 01), value 4
 //
-// A value is a reading in two's complement, an address or a variable. In all 23,523 bytes, of which the
-// first 8,675 are the counts and the nodes.
+// A value is a reading in two's complement, an address or a variable. In all 23,587 bytes, of which the
+// first 8,739 are the counts and the nodes.
 use crate::bytes::put_count;
 use crate::bytes::put_two;
 use crate::code::put_instruction;

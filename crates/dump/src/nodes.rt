@@ -46,7 +46,8 @@ fn put_value(out: &mut [u8], at: usize, value: Value) -> usize {
 
 fn put_process(out: &mut [u8], at: usize, process: Process) -> usize {
     let busy = put_flag(out, at, process.busy);
-    let mut next = put_two(out, busy, process.at.0);
+    let placed = put_two(out, busy, process.at.0);
+    let mut next = put(out, placed, process.origin.0);
     let mut i = 0;
     while i < 8 {
         let variable = process.variables[i];

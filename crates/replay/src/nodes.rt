@@ -52,11 +52,13 @@ fn value_at(s: &[u8], at: usize) -> Value {
 fn process_at(s: &[u8], from: usize) -> Process {
     let mut process = Process::free();
     let at = Place(two_at(s, past(from, 1)));
+    let origin = Locality(byte_at(s, past(from, 3)));
     process.busy = flag_at(s, from);
     process.at = at;
+    process.origin = origin;
     let mut i = 0;
     while i < 8 {
-        let value = value_at(s, past(from, 3 + i * 5));
+        let value = value_at(s, past(from, 4 + i * 5));
         process = process.with_variable(i, value);
         i += 1;
     }
@@ -92,7 +94,7 @@ fn with_processes(s: &[u8], at: usize, node: Node) -> Node {
     let mut peopled = node;
     let mut i = 0;
     while i < 4 {
-        let process = process_at(s, past(at, i * 43));
+        let process = process_at(s, past(at, i * 44));
         peopled = peopled.with_process(i, process);
         i += 1;
     }
@@ -116,5 +118,5 @@ pub fn node_at(s: &[u8], at: usize) -> Node {
     let zero = Node::zero();
     let ruled = zero.with_row(row);
     let peopled = with_processes(s, past(at, 17), ruled);
-    with_tuples(s, past(at, 189), peopled)
+    with_tuples(s, past(at, 193), peopled)
 }

@@ -9,7 +9,7 @@ fn with_nodes(s: &[u8], net: Net) -> Net {
     let mut peopled = net;
     let mut i = 0;
     while i < 16 {
-        let node = node_at(s, 3 + i * 542);
+        let node = node_at(s, 3 + i * 546);
         peopled.nodes[i] = node;
         i += 1;
     }
@@ -20,7 +20,7 @@ fn with_code(s: &[u8], net: Net) -> Net {
     let mut coded = net;
     let mut i = 0;
     while i < 512 {
-        let instruction = instruction_at(s, 8675 + i * 29);
+        let instruction = instruction_at(s, 8739 + i * 29);
         coded.code[i] = instruction;
         i += 1;
     }

@@ -7,10 +7,10 @@ use Rattle.dump.proofs.nodes.put_process.Statement.{statement}
 use Rattle.dump.proofs.nodes.put_process.Tie as tie
 
 abbrev Inv-loop : tie.InvT-loop
-Inv-loop out₀ at process busy next₀ i₀ out next i = length out ≡ length out₀
+Inv-loop out₀ at process busy placed next₀ i₀ out next i = length out ≡ length out₀
 
 abbrev μ-loop : tie.MeasureT-loop
-μ-loop out₀ at process busy next₀ i₀ out next i = 8 - i
+μ-loop out₀ at process busy placed next₀ i₀ out next i = 8 - i
 
 pub put-process-spec : {M : Type 1} → statement M
 put-process-spec =
@@ -18,6 +18,7 @@ put-process-spec =
     (tie.spec
     Inv-loop
     μ-loop
+    (λ c κs. search needs)
     (λ c κs. search needs)
     (λ c κs. search needs)
     (λ c. search needs)

@@ -20,6 +20,8 @@ process-at-spec =
     (λ c κs. search needs)
     (λ c κs. search needs)
     (λ c κs. search needs)
+    (λ c κs. search needs)
+    (λ c κs. search needs)
     (λ c. tt)
     (λ c. search needs)
     (λ c. search needs)
