@@ -29,10 +29,10 @@ module _ (s : Net) (a : Locality) (k : ℕ) (x : Action) where
   read-outcome q Found.Nothing p = refuses Answer.NoTuple (omega arith)
 
   started-outcome :
-      (l : Locality) (p : Process) (sent q : Place) (j : Slot) → ComesTo s a k x (startedIn s a k l p sent q j)
+      (l : Locality) (p copy : Process) (q : Place) (j : Slot) → ComesTo s a k x (startedIn s a k l p copy q j)
   unfolding startedIn numberOf
-  started-outcome l p sent q (Slot.Number j) = performs _
-  started-outcome l p sent q Slot.Full = refuses Answer.NoRoom (omega arith)
+  started-outcome l p copy q (Slot.Number j) = performs _
+  started-outcome l p copy q Slot.Full = refuses Answer.NoRoom (omega arith)
 
   -- what is carriedOut, unless a test refuses
   or-refused :

@@ -7,7 +7,7 @@ use mathlib.Core.Logic.{_↔_}
 use mathlib.Core.Bool.{Bool, true, not}
 use native.Mathlib.Omega.{arith}
 use borrow.Author.Tests.{ltb-true, lt-ltb, eq-eqb, not-true, not-false}
-use Rattle.net.specs.Records.{processAt, tupleAt, nodeAt, movedTo, copiedTo, freeSlot}
+use Rattle.net.specs.Records.{processAt, tupleAt, nodeAt, movedTo, freeSlot}
 use Rattle.matching.specs.Matching.{boundOf, matchedOf}
 use Rattle.sound.specs.Soundness.{soundOf, targetSound, actionSound}
 use Rattle.matching.specs.MatchingPromise.{OldestThatFits}
@@ -138,16 +138,16 @@ module _ (s : Net) (a : Locality) (k : ℕ) (after : Net) (seat : Seat s a k) wh
 
   -- a started process found the lowest free slot
   started :
-      (l : Locality) (sent q : Place)
+      (l : Locality) (copy : Process) (q : Place)
       → ((j : ℕ)
       → LowestFree (nodeAt s l) j
-      → Reduces s a k (withHost (withHost s a k (movedTo (processIn s a k) q)) l j (copiedTo (processIn s a k) sent)))
-      → Gave Answer.Performed after (startedIn s a k l (processIn s a k) sent q (freeSlot (nodeAt s l)))
+      → Reduces s a k (withHost (withHost s a k (movedTo (processIn s a k) q)) l j copy))
+      → Gave Answer.Performed after (startedIn s a k l (processIn s a k) copy q (freeSlot (nodeAt s l)))
       → Reduces s a k after
   unfolding startedIn numberOf
-  started l sent q f =
+  started l copy q f =
       slot-cases
-      (λ j. Gave Answer.Performed after (startedIn s a k l (processIn s a k) sent q j) → Reduces s a k after)
+      (λ j. Gave Answer.Performed after (startedIn s a k l (processIn s a k) copy q j) → Reduces s a k after)
       (nodeAt s l) (λ j h g. as-performed _ g (f j h)) (λ g. absurd (refused final-0 Answer.NoRoom s (omega arith) g))
 
   -- by the action
@@ -184,12 +184,12 @@ module _ (s : Net) (a : Locality) (k : ℕ) (after : Net) (seat : Seat s a k) wh
       let r = reached _ t _ h (both-l _ _ sound) (aimed final-0 s a k _ _ _ _ g) in
       let kept = through final-0 Answer.NotWithin s _ _ (omega arith) (r .rest) in
       let within = keeps-within s (seat .ok) sent (sent-low s a k seat t sent q h) (r .l) _ (kept .test) in
-      started (r .l) sent q (λ j f. EVAL h (r .to) (r .right) within f) (kept .rest)
+      started (r .l) _ q (λ j f. EVAL h (r .to) (r .right) within f) (kept .rest)
   step-by (Action.New v q) h sound g =
       let ac = acted final-0 s a k _ _ _ g in
       let room = through final-0 Answer.NoRoom s _ _ (omega arith) (ac .rest) in
       as-performed _ (room .rest) (NEW h (ac .test) (ltb-true _ _ (room .test)))
-  step-by (Action.Fork q r) h sound g = started a r q (λ j f. FORK h f) (acted final-0 s a k _ _ _ g .rest)
+  step-by (Action.Fork q r) h sound g = started a _ q (λ j f. FORK h f) (acted final-0 s a k _ _ _ g .rest)
 
 -- a stop, and nothing else, is answered 1
 stop-by :

@@ -54,7 +54,7 @@ running n k x i h l b =
     let full = choose-e _ _ _ sound b in
     record {
       placed = ltb-true _ _ (both-l _ _ full);
-      values = all-e 8 _ (both-r _ _ full);
+      values = all-e 8 _ (both-r _ _ (both-r _ _ full));
     }
 
 -- ---- targets and next places

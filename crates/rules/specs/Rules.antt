@@ -8,7 +8,7 @@ use mathlib.Core.Path.{_≡_}
 use mathlib.Core.Logic.{_↔_}
 use mathlib.Core.Bool.{true, false}
 use mathlib.Core.List.{List}
-use Rattle.net.specs.Records.{processAt, tupleAt, marked, nodeAt, instructionAt, rowFor, movedTo, copiedTo, freeProcess}
+use Rattle.net.specs.Records.{processAt, tupleAt, marked, nodeAt, instructionAt, rowFor, movedTo, copiedTo, sentFrom, freeProcess}
 use Rattle.matching.specs.Matching.{evaluatedOf, boundOf}
 use Rattle.keeping.specs.Reaching.{Reaches}
 use Rattle.keeping.specs.Keeping.{mayTake, mayRead, mayPut, maySend, mayCreate, permits}
@@ -99,16 +99,17 @@ pub data Reduces (s : Net) (a : Locality) (k : ℕ) : Net → Type 0 where
       (withHost s a k
       (movedTo (boundOf (processIn s a k) (tupleAt (nodeAt s l) i) (templateIn s a k)) q))
   -- l :: eval(Q)@l′.P ∥ l′ :: P′ ↣ l :: P ∥ l′ :: P′ | Q.
-  -- Q is the code at the sent place, judged by the row of l′; it has a copy of the variables
+  -- Q is the code at the sent place, judged by the row of l′; it has a copy of the variables, and l as its origin (document 02,
+  -- slip 10)
   EVAL :
       {t : Target} {sent q : Place} {l : Locality} {j : ℕ}
       → Stands s a k (Action.Eval t sent q)
       → Points s a k t l
       → maySend (rowIn s a k) l ≡ true
-      → KeepsWithin (s .code) sent l (rowFor (nodeAt s l) (copiedTo (processIn s a k) sent))
+      → KeepsWithin (s .code) sent l (rowFor (nodeAt s l) (sentFrom a (processIn s a k) sent))
       → LowestFree (nodeAt s l) j
       → Reduces s a k
-      (withHost (withHost s a k (movedTo (processIn s a k) q)) l j (copiedTo (processIn s a k) sent))
+      (withHost (withHost s a k (movedTo (processIn s a k) q)) l j (sentFrom a (processIn s a k) sent))
   -- L ⊢ l :: newloc(u).P ↣ L ∪ {l′} ⊢ l :: P[l′/u] ∥ l′ :: nil, where l′ is not in L.
   -- L holds the addresses in use, and l′ is the lowest other one
   NEW :
@@ -118,7 +119,7 @@ pub data Reduces (s : Net) (a : Locality) (k : ℕ) : Net → Type 0 where
       → s .addresses < 16
       → Reduces s a k (created s a k (processIn s a k) v q)
   -- l :: P₁ | P₂ ≡ l :: P₁ ∥ l :: P₂, the law (CLONE), from left to right.
-  -- P₁ stays in its slot, and P₂ has a copy of the variables
+  -- P₁ stays in its slot, and P₂ has a copy of the variables; both keep the origin
   FORK :
       {q r : Place} {j : ℕ}
       → Stands s a k (Action.Fork q r)
