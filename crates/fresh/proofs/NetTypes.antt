@@ -69,7 +69,7 @@ tuple-fits t vs h =
 process-fits :
     (p : Process) (vs : List Val) → Is (field process.the-type .row) (process.the-type .to p) vs → processFits p ≡ true
 unfolding processFits
-process-fits p vs h = eq-eqb _ _ (long variable.the-type (p .variables) 8 _ (h .1 .1 .1 .1 .0))
+process-fits p vs h = eq-eqb _ _ (long variable.the-type (p .variables) 8 _ (h .1 .1 .1 .1 .1 .0))
 
 instruction-fits :
     (c : Instruction) (vs : List Val) → Is (field instruction.the-type .row) (instruction.the-type .to c) vs

@@ -9,7 +9,7 @@ use Rattle.net.specs.Records.{unsetVariable, freeProcess, startingAt, zeroNode,
 use Rattle.net.specs.declared.locality.Place.{Place}
 use Rattle.net.proofs.Laws.{both-i, all-i}
 use Rattle.sound.specs.Soundness.{isUnset, allUnset}
-use Rattle.fresh.specs.Types.{Node}
+use Rattle.fresh.specs.Types.{Locality, Node}
 use Rattle.fresh.specs.Fresh.{slotStarts, nodeStarts}
 
 as-tested : (b busy : Bool) → busy ≡ b → choose b busy (not busy) ≡ true
@@ -28,9 +28,9 @@ pub free-unset : allUnset freeProcess ≡ true
 unfolding allUnset variableAt freeProcess unsetVariable isUnset all both
 free-unset = refl
 
-pub starting-unset : (p : Place) → allUnset (startingAt p) ≡ true
+pub starting-unset : (a : Locality) (p : Place) → allUnset (startingAt a p) ≡ true
 unfolding allUnset variableAt startingAt unsetVariable isUnset all both
-starting-unset p = refl
+starting-unset a p = refl
 
 pub zero-node-starts : nodeStarts zeroNode ≡ true
 unfolding nodeStarts slotStarts zeroNode processAt processCount allUnset variableAt freeProcess unsetVariable isUnset fold choose all both

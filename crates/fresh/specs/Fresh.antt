@@ -1,6 +1,6 @@
 -- Nets as an image can write them (document 01, "The net", "The image", "Numbers for an image"): sound, with the
--- processes of each node in slots 0 upward and every variable unset, each tuple with its own node's mark, and each starting
--- process within its row.
+-- processes of each node in slots 0 upward and every variable unset, each process with its own node as origin and each tuple
+-- with its own node's mark, and each starting process within its row.
 use Prim.Native.Nat.{ℕ}
 use mathlib.Core.Bool.{Bool, true, not}
 use lib.ListN.{length}
@@ -61,6 +61,13 @@ slotStarts x i =
 unfoldable pub nodeStarts : Node → Bool
 nodeStarts x = all 4 (slotStarts x)
 
+-- ---- "a starting process has its own node as origin" (document 02, slip 10)
+unfoldable pub ownOrigin : Locality → Node → ℕ → Bool
+ownOrigin a x i = implies (processAt x i .busy) (eqb (processAt x i .origin .0) (a .0))
+
+unfoldable pub ownOrigins : Locality → Node → Bool
+ownOrigins a x = all 4 (ownOrigin a x)
+
 -- ---- "tuples of an image carry their own node's address" (document 02, slip 8)
 unfoldable pub ownMark : Locality → Node → ℕ → Bool
 ownMark a x i = implies (ltb i (x .stored)) (eqb (tupleAt x i .mark .0) (a .0))
@@ -70,7 +77,7 @@ ownMarks a x = all 16 (ownMark a x)
 
 -- the node at address a stands as an image starts it
 unfoldable pub startsAt : Net → Locality → Bool
-startsAt s a = both (nodeStarts (nodeAt s a)) (ownMarks a (nodeAt s a))
+startsAt s a = both (nodeStarts (nodeAt s a)) (both (ownOrigins a (nodeAt s a)) (ownMarks a (nodeAt s a)))
 
 -- ---- the whole: counts, addresses, places and variables in range, rules 26 and 27, zero or unset elsewhere (sound),
 -- processes and tuples as they start, and rule 30

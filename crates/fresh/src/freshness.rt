@@ -14,7 +14,7 @@ ghost use lib.Dec.{eqb};
 ghost use Rattle.net.specs.Choice.{choose, both, implies, all};
 ghost use Rattle.net.specs.Records.{addressOf};
 ghost use Rattle.sound.specs.Soundness.{allUnset};
-ghost use Rattle.fresh.specs.Fresh.{nodeStarts, ownMarks, startsAt, freshOf};
+ghost use Rattle.fresh.specs.Fresh.{nodeStarts, ownOrigins, ownMarks, startsAt, freshOf};
 
 // Whether a slot is busy where it is used, and free elsewhere.
 fn busy_where(used: bool, p: Process) -> bool
@@ -48,6 +48,29 @@ fn node_starts(x: Node) -> bool
     ok
 }
 
+// Whether a process, where its slot is busy, has address a as its origin.
+fn own_origin(a: Locality, p: Process) -> bool
+    ensures { λ r. ⌜ r ≡ implies (p .busy) (eqb (p .origin .0) (a .0)) ⌝ }
+{
+    let origin = p.origin;
+    if p.busy { origin.0 == a.0 } else { true }
+}
+
+// Whether each process of the node at address a does.
+fn own_origins(a: Locality, x: Node) -> bool
+    ensures { λ r. ⌜ r ≡ ownOrigins a x ⌝ }
+{
+    let mut ok = true;
+    let mut i = 0;
+    while i < 4 {
+        let p = x.processes[i];
+        let good = own_origin(a, p);
+        ok = ok & good;
+        i += 1;
+    }
+    ok
+}
+
 // Whether a tuple, where it is stored, has the mark of address a.
 fn own_mark(a: Locality, stored: bool, t: Tuple) -> bool
     ensures { λ r. ⌜ r ≡ implies stored (eqb (t .mark .0) (a .0)) ⌝ }
@@ -73,11 +96,12 @@ fn own_marks(a: Locality, x: Node) -> bool
 
 // Whether the node x at address a stands as an image starts it.
 fn starts_at(a: Locality, x: Node) -> bool
-    ensures { λ r. ⌜ r ≡ both (nodeStarts x) (ownMarks a x) ⌝ }
+    ensures { λ r. ⌜ r ≡ both (nodeStarts x) (both (ownOrigins a x) (ownMarks a x)) ⌝ }
 {
     let starting = node_starts(x);
-    let own = own_marks(a, x);
-    starting & own
+    let sent = own_origins(a, x);
+    let put = own_marks(a, x);
+    starting & (sent & put)
 }
 
 // Whether each node does.
