@@ -62,7 +62,7 @@ module _ (n k : ℕ) (few : n ≤ 16) (all : List Line) (whole : total all ≤ k
   unfolding placed sizeOf LineOk usesLine
   placed-fresh m (definition j p) s h f u ok = ok
   placed-fresh m (process a p) s h f u ok =
-      fresh-with few s ok a (f .0) _ (fresh-process n k _ (fresh-at few s ok a (f .0)) _ _ (body-below m p h u))
+      fresh-with few s ok a (f .0) _ (fresh-process n k _ (fresh-at few s ok a (f .0)) a _ _ (f .0) (body-below m p h u))
       (owned-process a _ (owned-at few s ok a (f .0)) _ _)
   placed-fresh m (tuple a t) s h f u ok =
       fresh-with few s ok a (f .0) _ (fresh-tuple n k _ (fresh-at few s ok a (f .0)) a t (f .0) (f .1))
@@ -164,7 +164,7 @@ compiled-parts x ok right =
       addresses-are = net .addresses-are;
       length-is = net .length-is;
       nodes = net .nodes;
-      marks = net .marks;
+      owned = net .owned;
       code =
           stored n k 0 (codeFrom (placeIn (x .lines)) 0 (x .lines)) _
           (omega (arith, from-length n k few (x .lines) (omega arith) right 0 (x .lines)))

@@ -5,7 +5,7 @@ use mathlib.Core.Path.{_≡_, sym, ap, subst₂, _∙_}
 use mathlib.Core.Bool.{true}
 use lib.ListN.{length}
 use lib.Dec.{ltb}
-use Rattle.net.specs.Choice.{all}
+use Rattle.net.specs.Choice.{both, all}
 use Rattle.net.specs.Records.{addressOf, processAt, nodeAt}
 use Rattle.net.proofs.Laws.{both-i, all-i}
 use Rattle.net.proofs.Every.{filled-each, filled-map}
@@ -13,7 +13,7 @@ use Rattle.sound.specs.Soundness.{allUnset, soundOf}
 use Rattle.sound.proofs.NodeFacts.{of-zero}
 use Rattle.sound.proofs.NetFacts.{NetWith, net-sound}
 use Rattle.keeping.specs.Admission.{admits}
-use Rattle.fresh.specs.Fresh.{nodeFits, instructionFits, netFits, ownMarks, startsAt, freshOf}
+use Rattle.fresh.specs.Fresh.{nodeFits, instructionFits, netFits, ownOrigins, ownMarks, startsAt, freshOf}
 use Rattle.fresh.proofs.FitLaws.{net-fits, zero-node-fits, zero-instruction-fits}
 use Rattle.fresh.proofs.StartLaws.{node-starts}
 use Rattle.linking.specs.Source.{Source}
@@ -22,7 +22,7 @@ use Rattle.linking.specs.Compiled.{total, placeIn, withCode, compiled}
 use Rattle.linking.specs.NodeCounts.{Counts}
 use Rattle.linking.proofs.NodeCounts.{counts-rows, counts-all}
 use Rattle.texts.specs.Types.{Locality}
-use Rattle.texts.proofs.FreshParts.{zero-fresh, node-fits, own-marks, NetFresh}
+use Rattle.texts.proofs.FreshParts.{zero-fresh, node-fits, own-origins, own-marks, NetFresh}
 use Rattle.texts.proofs.Lines.{SourceOk}
 use Rattle.texts.proofs.CompiledNet.{compiled-parts}
 
@@ -67,9 +67,11 @@ module _ (x : Source) (ok : SourceOk x) (right : namesRight (x .lines) ≡ true)
       filled-each {Q = λ y. (i : ℕ) → i < 4 → allUnset (processAt y i) ≡ true} (parts .nodes)
       (λ y g. g .unset .holds) (of-zero _ (zero-fresh 1 1 .unset .holds)) (a .0) h
 
-  own : (a : Locality) → a .0 < 16 → ownMarks a (nodeAt (compiled x) a) ≡ true
+  own : (a : Locality) → a .0 < 16 → both (ownOrigins a (nodeAt (compiled x) a)) (ownMarks a (nodeAt (compiled x) a)) ≡ true
   unfolding nodeAt
-  own a h = own-marks a _ (parts .marks .holds (a .0) h)
+  own a h =
+      let o = parts .owned .holds (a .0) h in
+      both-i _ _ (own-origins a _ o) (own-marks a _ o)
 
   starts : all 16 (λ a. startsAt (compiled x) (addressOf a)) ≡ true
   unfolding startsAt

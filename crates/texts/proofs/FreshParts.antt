@@ -1,5 +1,6 @@
 -- The nodes and instructions of a net that a text gives: sound (`NodeFacts.antt` and `CodeFacts.antt` of `sound`), each variable
--- unset, each reading of 32 bits and each tuple with its own node's mark; and what keeps them so. Assumes nothing.
+-- unset, each reading of 32 bits, each process with its own node as origin and each tuple with its own node's mark; and what
+-- keeps them so. Assumes nothing.
 use Prim.Native.Nat.{ℕ, _<_, _≤_}
 use mathlib.Core.Path.{_≡_, refl}
 use mathlib.Core.Bool.{true}
@@ -11,12 +12,13 @@ use Rattle.net.specs.Records.{emptyNet, marked, withRow, withProcess, withTuple
 use Rattle.net.proofs.Laws.{both-i, implies-i, all-i}
 use Rattle.net.proofs.Every.{chosen-lt, Every, Filled, every-replicate, every-set, filled-set}
 use Rattle.net.proofs.Past.{pastProcess, pastTuple, pastNode, pastInstruction}
+use Rattle.net.proofs.ReadingLaws.{never}
 use Rattle.sound.specs.Soundness.{allUnset}
 use Rattle.sound.proofs.NodeFacts.{RowOk, NodeOk, node-shaped}
 use Rattle.sound.proofs.NodeChanges.{runs, starting, zero-node, with-row, with-process, with-tuple}
 use Rattle.sound.proofs.CodeFacts.{InstructionOk}
 use Rattle.sound.proofs.NetChanges.{zero-instruction}
-use Rattle.fresh.specs.Fresh.{tupleFits, processFits, nodeFits, instructionFits, ownMark, ownMarks}
+use Rattle.fresh.specs.Fresh.{tupleFits, processFits, nodeFits, instructionFits, ownOrigin, ownOrigins, ownMark, ownMarks}
 use Rattle.fresh.proofs.FitLaws.{array-fits, action-fits, zero-instruction-fits}
 use Rattle.fresh.proofs.StartLaws.{free-unset, starting-unset}
 use Rattle.texts.specs.Types.{Locality, Place, Row, Tuple, Node, Action, Instruction, Net}
@@ -56,11 +58,11 @@ module _ (n k : ℕ) where
     unfolding withRow
     fresh-row r h = record { sound = with-row n k x (ok .sound) r h; unset = ok .unset; fit = ok .fit }
 
-    pub fresh-process : (i : ℕ) (p : Place) → p .0 < k → NodeFresh n k (withProcess x i (startingAt p))
+    pub fresh-process : (a : Locality) (i : ℕ) (p : Place) → a .0 < n → p .0 < k → NodeFresh n k (withProcess x i (startingAt a p))
     unfolding withProcess
-    fresh-process i p h = record {
-      sound = with-process n k x (ok .sound) i _ (runs n k _ (starting n k p h));
-      unset = every-set i _ (ok .unset) (λ j q d e. e) (starting-unset p);
+    fresh-process a i p l h = record {
+      sound = with-process n k x (ok .sound) i _ (runs n k _ (starting n k a p l h));
+      unset = every-set i _ (ok .unset) (λ j q d e. e) (starting-unset a p);
       fit = ok .fit;
     }
 
@@ -82,32 +84,44 @@ module _ (n k : ℕ) where
         record { size-is = shape .processes-are; holds = λ i h. eq-eqb _ _ (shape .each-process i h .variables-are) } in
         both-i _ _ (eq-eqb _ _ (shape .rights-are)) (both-i _ _ (array-fits processFits each) (array-fits tupleFits (ok .fit)))
 
--- ---- marks: each tuple of the node at address m has m's
-abbrev pub Owned : ℕ → Node → Type 0
-Owned m x = Every (λ i t. i < x .stored → t .mark .0 ≡ m) pastTuple 16 (x .tuples)
+-- ---- each process of the node at address m has m as its origin, and each tuple m's mark
+pub record Owned (m : ℕ) (x : Node) : Type 0 where
+  pub origins : Every (λ i p. p .busy ≡ true → p .origin .0 ≡ m) pastProcess 4 (x .processes)
+  pub marks : Every (λ i t. i < x .stored → t .mark .0 ≡ m) pastTuple 16 (x .tuples)
 
 zero-owned : (m : ℕ) → Owned m zeroNode
-unfolding zeroNode
-zero-owned m = every-replicate _ pastTuple 16 zeroTuple (λ i h l. absurd (omega arith))
+unfolding zeroNode freeProcess
+zero-owned m = record {
+  origins = every-replicate _ pastProcess 4 freeProcess (λ i h e. never e);
+  marks = every-replicate _ pastTuple 16 zeroTuple (λ i h l. absurd (omega arith));
+}
 
 module _ (a : Locality) (x : Node) (ok : Owned (a .0) x) where
   pub owned-row : (r : Row) → Owned (a .0) (withRow x r)
   unfolding withRow
-  owned-row r = ok
+  owned-row r = record { origins = ok .origins; marks = ok .marks }
 
-  pub owned-process : (i : ℕ) (p : Place) → Owned (a .0) (withProcess x i (startingAt p))
-  unfolding withProcess
-  owned-process i p = ok
+  pub owned-process : (i : ℕ) (p : Place) → Owned (a .0) (withProcess x i (startingAt a p))
+  unfolding withProcess startingAt
+  owned-process i p = record { origins = every-set i _ (ok .origins) (λ j q d e. e) (λ _. refl); marks = ok .marks }
 
   pub owned-tuple : (t : Tuple) → Owned (a .0) (withTuple x (marked a t))
   unfolding withTuple marked
   owned-tuple t =
       chosen-lt (Owned (a .0)) (x .stored) 16 _ _
-      (λ _. every-set (x .stored) (marked a t) ok (λ j u d e l. e (omega arith)) (λ _. refl)) (λ _. ok)
+      (λ _. record {
+        origins = ok .origins;
+        marks = every-set (x .stored) (marked a t) (ok .marks) (λ j u d e l. e (omega arith)) (λ _. refl);
+      })
+      (λ _. ok)
+
+  pub own-origins : ownOrigins a x ≡ true
+  unfolding ownOrigins ownOrigin processAt
+  own-origins = all-i 4 _ (λ i h. implies-i _ _ (λ e. eq-eqb _ _ (ok .origins .holds i h e)))
 
   pub own-marks : ownMarks a x ≡ true
   unfolding ownMarks ownMark tupleAt
-  own-marks = all-i 16 _ (λ i h. implies-i _ _ (λ e. eq-eqb _ _ (ok .holds i h (ltb-true _ _ e))))
+  own-marks = all-i 16 _ (λ i h. implies-i _ _ (λ e. eq-eqb _ _ (ok .marks .holds i h (ltb-true _ _ e))))
 
 -- ---- a net with n addresses and k instructions
 abbrev pub CodeFresh : ℕ → ℕ → List Instruction → Type 0
@@ -117,7 +131,7 @@ pub record NetFresh (n k : ℕ) (s : Net) : Type 0 where
   pub addresses-are : s .addresses ≡ n
   pub length-is : s .length ≡ k
   pub nodes : Every (Filled (NodeFresh n k) (λ x. x ≡ zeroNode) n) pastNode 16 (s .nodes)
-  pub marks : Every Owned pastNode 16 (s .nodes)
+  pub owned : Every Owned pastNode 16 (s .nodes)
   pub code : CodeFresh n k (s .code)
 
 pub empty-fresh : (n k : ℕ) → NetFresh n k (withCounts emptyNet n k)
@@ -126,7 +140,7 @@ empty-fresh n k = record {
   addresses-are = refl;
   length-is = refl;
   nodes = every-replicate _ pastNode 16 zeroNode (λ a _. record { used = λ _. zero-fresh n k; unused = λ _. refl });
-  marks = every-replicate _ pastNode 16 zeroNode (λ a _. zero-owned a);
+  owned = every-replicate _ pastNode 16 zeroNode (λ a _. zero-owned a);
   code =
       every-replicate _ pastInstruction 512 zeroInstruction
       (λ p _. record { used = λ _. (zero-instruction n k, zero-instruction-fits); unused = λ _. refl });
@@ -139,7 +153,7 @@ module _ {n k : ℕ} (few : n ≤ 16) (s : Net) (ok : NetFresh n k s) (a : Local
 
   pub owned-at : Owned (a .0) (nodeAt s a)
   unfolding nodeAt
-  owned-at = ok .marks .holds (a .0) (omega arith)
+  owned-at = ok .owned .holds (a .0) (omega arith)
 
   pub fresh-with : (x : Node) → NodeFresh n k x → Owned (a .0) x → NetFresh n k (withNode s a x)
   unfolding withNode
@@ -147,6 +161,6 @@ module _ {n k : ℕ} (few : n ≤ 16) (s : Net) (ok : NetFresh n k s) (a : Local
     addresses-are = ok .addresses-are;
     length-is = ok .length-is;
     nodes = filled-set (a .0) x h g (ok .nodes);
-    marks = every-set (a .0) x (ok .marks) (λ j y d e. e) o;
+    owned = every-set (a .0) x (ok .owned) (λ j y d e. e) o;
     code = ok .code;
   }
