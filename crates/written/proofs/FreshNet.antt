@@ -1,5 +1,5 @@
 -- The nets that the layout of an image gives (`WrittenWhole.antt`) pass the tests of `specs/Fresh.antt` on arrays, readings,
--- starting processes and marks; and a net that passes these and is sound is one of them. Assumes nothing.
+-- starting processes, origins and marks; and a net that passes these and is sound is one of them. Assumes nothing.
 use Prim.Native.Nat.{ℕ, zero, suc, _<_, _≤_}
 use mathlib.Core.Path.{_≡_, refl, sym, ap, _∙_}
 use mathlib.Core.Bool.{Bool, true, false}
@@ -7,7 +7,7 @@ use mathlib.Core.List.{List}
 use native.Mathlib.Omega.{arith}
 use native.Mathlib.Decide.{decLe}
 use lib.ListN.{getD}
-use lib.Dec.{ltb}
+use lib.Dec.{ltb, eqb}
 use borrow.Author.Tests.{eq-eqb, ltb-true}
 use Rattle.net.specs.Choice.{both, implies, all}
 use Rattle.net.specs.Records.{startingAt, zeroField, zeroTuple, freeProcess, zeroNode, addressOf}
@@ -16,7 +16,7 @@ use Rattle.net.specs.Records.{instructionAt, withAction}
 use Rattle.written.specs.Types.{Locality, Place, Tuple, Process, Node, Target, Action, Instruction, Net}
 use Rattle.sound.specs.Soundness.{allUnset, soundOf}
 use Rattle.fresh.specs.Fresh.{readingFits, itemFits, patternFits, tupleFits, processFits, nodeFits, instructionFits}
-use Rattle.fresh.specs.Fresh.{netFits, nodeStarts, ownMark, ownMarks, startsAt}
+use Rattle.fresh.specs.Fresh.{netFits, nodeStarts, ownOrigin, ownOrigins, ownMark, ownMarks, startsAt}
 use Rattle.net.proofs.Laws.{both-i, both-l, both-r, implies-i, all-i, all-e}
 use Rattle.net.proofs.Every.{Every, Filled, filled-at}
 use Rattle.net.proofs.SlotLaws.{slot-busy}
@@ -56,15 +56,15 @@ unfolding tupleFits fieldAt zeroField itemFits readingFits
 tuple-fits a n t ok =
     array-fits (λ f. itemFits (f .item)) (passes (λ f. itemFits (f .item)) (ok .fields-ok) (λ f i. i .fits) refl)
 
-starts-fit : (k : ℕ) (p : Process) → Starts k p → processFits p ≡ true
+starts-fit : (a : Locality) (k : ℕ) (p : Process) → Starts a k p → processFits p ≡ true
 unfolding processFits startingAt
-starts-fit k p s = ap (λ (q : Process). processFits q) (sym (s .is))
+starts-fit a k p s = ap (λ (q : Process). processFits q) (sym (s .is))
 
 node-fits : (a n k : ℕ) (x : Node) → WithTuples a n k x → nodeFits x ≡ true
 unfolding nodeFits processAt tupleAt processFits freeProcess tupleFits zeroTuple fieldAt zeroField itemFits readingFits all both
 node-fits a n k x ok =
     both-i _ _ (eq-eqb _ _ (ok .row-ok .rights-ok .size-is))
-    (both-i _ _ (array-fits processFits (passes processFits (ok .slots-ok .slots .slots-ok) (starts-fit k) refl))
+    (both-i _ _ (array-fits processFits (passes processFits (ok .slots-ok .slots .slots-ok) (starts-fit _ k) refl))
     (array-fits tupleFits (passes tupleFits (ok .store-ok .tuples-ok) (tuple-fits _ n) refl)))
 
 template-fits : (formals : Bool) (n : ℕ) (c : Instruction) → TemplateOk formals n c → instructionFits c ≡ true
@@ -101,12 +101,29 @@ net-fits s ok =
     (passes instructionFits (ok .code-ok) (instruction-fits _ _) zero-instruction-fits)
 
 -- ---- starting processes
-node-starts : (k c : ℕ) (x : Node) → ProcessesOk k c x → nodeStarts x ≡ true
+node-starts : (a : Locality) (k c : ℕ) (x : Node) → ProcessesOk a k c x → nodeStarts x ≡ true
 unfolding processAt
-node-starts k c x ok =
+node-starts a k c x ok =
     StartLaws.node-starts x
-    (λ i h. slot-busy x c (first-busy k c x ok) i h ∙ ap (ltb i) (sym (count-is k c x ok)))
-    (passes allUnset (ok .slots-ok) (λ p s. ap allUnset (sym (s .is)) ∙ starting-unset _) free-unset .holds)
+    (λ i h. slot-busy x c (first-busy a k c x ok) i h ∙ ap (ltb i) (sym (count-is a k c x ok)))
+    (passes allUnset (ok .slots-ok) (λ p s. ap allUnset (sym (s .is)) ∙ starting-unset _ _) free-unset .holds)
+
+-- ---- processes with their own node as origin
+comesFrom : Locality → Process → Bool
+comesFrom a p = implies (p .busy) (eqb (p .origin .0) (a .0))
+
+starting-own : (a : Locality) (p : Place) → comesFrom a (startingAt a p) ≡ true
+unfolding comesFrom startingAt
+starting-own a p = implies-i _ _ (λ _. eq-eqb (a .0) (a .0) refl)
+
+free-own : (a : Locality) → comesFrom a freeProcess ≡ true
+unfolding comesFrom freeProcess implies
+free-own a = refl
+
+own-origins : (a : Locality) (k c : ℕ) (x : Node) → ProcessesOk a k c x → ownOrigins a x ≡ true
+unfolding ownOrigins ownOrigin processAt comesFrom
+own-origins a k c x ok =
+    all-i 4 _ (passes (comesFrom a) (ok .slots-ok) (λ p s. ap (comesFrom a) (sym (s .is)) ∙ starting-own a _) (free-own a) .holds)
 
 -- ---- tuples with their own node's mark
 own-marks : (a : Locality) (n : ℕ) (x : Node) → TuplesOk a n x → ownMarks a x ≡ true
@@ -115,17 +132,19 @@ own-marks a n x ok =
     all-i 16 _ (λ i h. implies-i (ltb i (x .stored)) _ (λ e.
     eq-eqb _ _ (ap (λ (l : Locality). l .0) (sym (ok .tuples-ok .holds i h .used (ltb-true i (x .stored) e) .mark-is)))))
 
-zero-node-owns : (a : Locality) → ownMarks a zeroNode ≡ true
-unfolding ownMarks ownMark zeroNode implies all both
+zero-node-owns : (a : Locality) → both (ownOrigins a zeroNode) (ownMarks a zeroNode) ≡ true
+unfolding ownOrigins ownOrigin ownMarks ownMark zeroNode processAt freeProcess implies all both
 zero-node-owns a = refl
 
 pub net-starts : (s : Net) → NetOk s → all 16 (λ a. startsAt s (addressOf a)) ≡ true
 unfolding startsAt nodeAt
 net-starts s ok =
     all-i 16 _
-    (passes-at (λ a x. both (nodeStarts x) (ownMarks (addressOf a) x)) (ok .nodes-ok)
+    (passes-at (λ a x. both (nodeStarts x) (both (ownOrigins (addressOf a) x) (ownMarks (addressOf a) x))) (ok .nodes-ok)
     (λ a x g.
-    both-i _ _ (node-starts (s .length) (g .slots-ok .count) x (g .slots-ok .slots)) (own-marks _ _ x (g .store-ok)))
+    let slots = g .slots-ok .slots in
+    both-i _ _ (node-starts _ (s .length) (g .slots-ok .count) x slots)
+    (both-i _ _ (own-origins _ (s .length) (g .slots-ok .count) x slots) (own-marks _ _ x (g .store-ok))))
     (λ a. both-i _ _ zero-node-starts (zero-node-owns (addressOf a))) .holds)
 
 -- ---- and back
@@ -139,12 +158,15 @@ fresh-ok s f h g =
       length-ok = record { above = ok .length-least; below = omega (arith, ok .length-most) };
       nodes-ok = record {
         size-is = ok .nodes-ok .size-is;
-        holds = λ a l. let b = all-e 16 _ g a l in record {
-          used = λ u.
-              node-ok _ _ _ (fit .each-node a l) (ok .nodes-ok .holds a l .used u) (both-l _ _ b) a
-              (both-r (nodeStarts (nodeAt s (addressOf a))) _ b);
-          unused = λ u. sym (ok .nodes-ok .holds a l .unused u);
-        };
+        holds = λ a l.
+            let b = all-e 16 _ g a l in
+            let own = both-r (nodeStarts (nodeAt s (addressOf a))) _ b in
+            record {
+              used = λ u.
+                  node-ok _ _ _ (fit .each-node a l) (ok .nodes-ok .holds a l .used u) (both-l _ _ b) a
+                  (both-l _ _ own) (both-r (ownOrigins (addressOf a) (nodeAt s (addressOf a))) _ own);
+              unused = λ u. sym (ok .nodes-ok .holds a l .unused u);
+            };
       };
       code-ok = filled-at (ok .code-ok) (λ p l. instruction-ok _ _ _ (fit .each-instruction p l)) (λ c. sym);
     }

@@ -13,7 +13,7 @@ use Rattle.net.specs.Shape.{ShapedProcess}
 use Rattle.written.specs.Types.{Locality, Tuple, Process, Node}
 use Rattle.sound.specs.Soundness.{allUnset}
 use Rattle.net.specs.Records.{processCount}
-use Rattle.fresh.specs.Fresh.{tupleFits, nodeFits, slotStarts, nodeStarts, ownMark, ownMarks}
+use Rattle.fresh.specs.Fresh.{tupleFits, nodeFits, slotStarts, nodeStarts, ownOrigin, ownOrigins, ownMark, ownMarks}
 use Rattle.net.proofs.Laws.{both-l, both-r, implies-e, choose-e, choose-else, all-e}
 use Rattle.net.proofs.Every.{chosen, filled-at, filled-map}
 use Rattle.sound.proofs.ZeroClaims.{not-true, all-unset}
@@ -43,12 +43,18 @@ count-small x (suc i) =
     let h = count-small x i in
     chosen (λ (m : ℕ). m ≤ suc i) (processAt x i .busy) _ _ (λ _. omega arith) (λ _. omega arith)
 
-starts : (n k : ℕ) (p : Process) → ShapedProcess p → sound.Running n k p → allUnset p ≡ true → Starts k p
+starts : (a : Locality) (n k : ℕ) (p : Process) → ShapedProcess p → sound.Running n k p → allUnset p ≡ true
+    → eqb (p .origin .0) (a .0) ≡ true → Starts a k p
 unfolding startingAt
-starts n k p shape r u = record {
+starts a n k p shape r u o = record {
   first = p .at;
   within = r .place;
-  is = λ d. record { busy = sym (r .is-busy) d; at = p .at; variables = sym (all-unset p shape u) d };
+  is = λ d. record {
+    busy = sym (r .is-busy) d;
+    at = p .at;
+    origin = record { 0 = sym (eqb-true (p .origin .0) (a .0) o) d };
+    variables = sym (all-unset p shape u) d;
+  };
 }
 
 module _ (n k : ℕ) (x : Node) (f : nodeFits x ≡ true) (ok : sound.NodeOk n k x) (s : nodeStarts x ≡ true) where
@@ -71,9 +77,9 @@ module _ (n k : ℕ) (x : Node) (f : nodeFits x ≡ true) (ok : sound.NodeOk n k
   unset-slot i l =
       both-r (choose (ltb i (processCount x)) (processAt x i .busy) (not (processAt x i .busy))) _ (slot i l)
 
-  slots-ok : Slots k x
-  unfolding processCount processAt
-  slots-ok = record {
+  slots-ok : (a : Locality) → ownOrigins a x ≡ true → Slots a k x
+  unfolding processCount processAt ownOrigins ownOrigin
+  slots-ok a own = record {
     count = processCount x;
     slots = record {
       few = count-small x 4;
@@ -81,19 +87,20 @@ module _ (n k : ℕ) (x : Node) (f : nodeFits x ≡ true) (ok : sound.NodeOk n k
         size-is = ok .processes-ok .size-is;
         holds = λ i l. record {
           used = λ u.
-              starts n k _ (node-fit x f .shaped .each-process i l)
-              (ok .processes-ok .holds i l .running (busy-slot i l u)) (unset-slot i l);
+              starts a n k _ (node-fit x f .shaped .each-process i l)
+              (ok .processes-ok .holds i l .running (busy-slot i l u)) (unset-slot i l)
+              (implies-e (processAt x i .busy) _ (all-e 4 _ own i l) (busy-slot i l u));
           unused = λ u. sym (ok .processes-ok .holds i l .free (idle-slot i l u));
         };
       };
     };
   }
 
-  pub node-ok : (a : ℕ) → ownMarks (addressOf a) x ≡ true → WithTuples a n k x
+  pub node-ok : (a : ℕ) → ownOrigins (addressOf a) x ≡ true → ownMarks (addressOf a) x ≡ true → WithTuples a n k x
   unfolding ownMarks ownMark tupleAt
-  node-ok a own = record {
+  node-ok a sent own = record {
     row-ok = record { rights-ok = filled-map (λ r u. u) (λ r. sym) (ok .row-ok) };
-    slots-ok = slots-ok;
+    slots-ok = slots-ok (addressOf a) sent;
     store-ok = record {
       few = ok .room;
       tuples-ok = record {

@@ -10,7 +10,7 @@ use borrow.Author.Tests.{eq-eqb, lt-ltb}
 use Rattle.net.specs.Choice.{choose, both, implies, all, fold}
 use Rattle.net.specs.Records.{startingAt, zeroField, unsetVariable, allRights, zeroTemplateField, addressOf, placeOf, processCount}
 use Rattle.net.specs.Records.{fieldAt, variableAt, rightsAt, processAt, tupleAt, patternAt, nodeAt, instructionAt, rowFor}
-use Rattle.written.specs.Types.{Locality, Place, Tuple, Node, Target, Action, Instruction, Net}
+use Rattle.written.specs.Types.{Locality, Place, Tuple, Process, Node, Target, Action, Instruction, Net}
 use Rattle.net.specs.Choice.{inRange}
 use Rattle.sound.specs.Soundness.{itemSound, fieldsSound, tupleSound, tuplesSound, rowSound, isUnset, allUnset, valueSound}
 use Rattle.sound.specs.Soundness.{processSound, nodeSound, targetSound, patternSound, templateSound, isActual}
@@ -25,7 +25,7 @@ use Rattle.written.specs.ImageOf.{processesBits, itemBits, tupleBits, tu
 use Rattle.written.specs.ImageOf.{templateBits, actionBits, instructionBits, rowsBits, allProcessesBits, allTuplesBits}
 use Rattle.written.specs.ImageOf.{codeBits, netBits, imageOf}
 use Rattle.fresh.specs.Fresh.{readingFits, itemFits, patternFits, tupleFits, processFits, nodeFits, instructionFits}
-use Rattle.fresh.specs.Fresh.{netFits, slotStarts, nodeStarts, ownMark, ownMarks, startsAt, freshOf}
+use Rattle.fresh.specs.Fresh.{netFits, slotStarts, nodeStarts, ownOrigin, ownOrigins, ownMark, ownMarks, startsAt, freshOf}
 use Rattle.written.specs.WrittenClaims.{Bytes, LongestIsReached}
 use Rattle.accepted.specs.LengthClaims.{longestImage}
 use Rattle.net.proofs.Laws.{both-i, implies-i, all-i}
@@ -34,7 +34,7 @@ use Rattle.sound.proofs.NodeFacts.{node-apart}
 use Rattle.sound.proofs.CodeFacts.{instruction-apart}
 use Rattle.sound.proofs.NetFacts as sound
 use Rattle.written.proofs.FreshFits.{node-fit, instruction-fit}
-use Rattle.net.proofs.Past.{pastTuple, pastNode, pastInstruction}
+use Rattle.net.proofs.Past.{pastProcess, pastTuple, pastNode, pastInstruction}
 use Rattle.written.proofs.WrittenBytes.{listed, listed-length, listed-at, bytes-length, bytes-small}
 use Rattle.written.proofs.AcceptedWritten.{fresh-accepted}
 
@@ -45,7 +45,7 @@ fullTuple a = record { count = 4; fields = replicate 4 zeroField; mark = a }
 fullNode : Locality → Node
 fullNode a = record {
   row = record { create = false; rights = replicate 16 allRights };
-  processes = replicate 4 (startingAt (placeOf 0));
+  processes = replicate 4 (startingAt a (placeOf 0));
   stored = 16;
   tuples = replicate 16 (fullTuple a);
 }
@@ -85,6 +85,12 @@ node-sound a h = rw (lt-ltb (a .0) 16 h)
 node-starts : (a : Locality) → nodeStarts (fullNode a) ≡ true
 unfolding nodeStarts slotStarts fullNode processCount processAt startingAt allUnset variableAt unsetVariable isUnset fold all both choose
 node-starts a = refl
+
+node-sent : (a : Locality) → ownOrigins a (fullNode a) ≡ true
+unfolding ownOrigins ownOrigin fullNode processAt startingAt
+node-sent a =
+    all-i 4 _ (λ i h. implies-i _ _ (λ _.
+    eq-eqb _ _ (ap (λ (p : Process). p .origin .0) (getD-replicate 4 i (startingAt a (placeOf 0)) pastProcess h))))
 
 node-owns : (a : Locality) → ownMarks a (fullNode a) ≡ true
 unfolding ownMarks ownMark fullNode tupleAt fullTuple
@@ -170,7 +176,8 @@ net-fresh =
     (both-i _ _ net-sound
     (both-i _ _ (all-i 16 _ (λ a h.
     let e = node-is-full (addressOf a) h in
-    both-i _ _ (ap nodeStarts e ∙ node-starts _) (ap (ownMarks (addressOf a)) e ∙ node-owns _))) net-admitted))
+    both-i _ _ (ap nodeStarts e ∙ node-starts _)
+    (both-i _ _ (ap (ownOrigins (addressOf a)) e ∙ node-sent _) (ap (ownMarks (addressOf a)) e ∙ node-owns _)))) net-admitted))
 
 -- ---- its bits
 joined-length : (m w : ℕ) (f : ℕ → List Bool) → ((i : ℕ) → i < m → length (f i) ≡ w) → length (joined m f) ≡ m * w

@@ -108,12 +108,12 @@ free = replicate 4 freeProcess
 abbrev pub vacated : Node → Node
 vacated x = record { row = x .row; processes = free; stored = x .stored; tuples = x .tuples }
 
-pub record Slots (k : ℕ) (x : Node) : Type 0 where
+pub record Slots (a : Locality) (k : ℕ) (x : Node) : Type 0 where
   pub count : ℕ
-  pub slots : ProcessesOk k count x
+  pub slots : ProcessesOk a k count x
 
 unfoldable pub ProcessesPass : Net → Net → Type 0
-ProcessesPass s₀ = Through (passOver s₀ (λ a. Slots (s₀ .length)) vacated) s₀ (s₀ .addresses)
+ProcessesPass s₀ = Through (passOver s₀ (λ a. Slots (addressOf a) (s₀ .length)) vacated) s₀ (s₀ .addresses)
 
 -- a node that is bare once its processes are gone
 bare-again : (x y : Node) → vacated x ≡ y → y ≡ bareNode (y .row) free → bareNode (y .row) (x .processes) ≡ x
@@ -132,22 +132,24 @@ module _ (s₀ : Net) (h : s₀ .addresses ≤ 16) (k : s₀ .length ≤ 512) (l
     → getD (s₀ .nodes) a pastNode ≡ bareNode (getD (s₀ .nodes) a pastNode .row) free) where
   reads-slots : (a : ℕ) → a < s₀ .addresses → (s : Net) → Beside s₀ s
       → getD (s₀ .nodes) a pastNode ≡ getD (s .nodes) a pastNode
-      → Reads (processes (s .length) (getD (s .nodes) a pastNode)) processesBits
-      (Peopled (s₀ .length) (getD (s₀ .nodes) a pastNode .row))
+      → Reads (processes (addressOf a) (s .length) (getD (s .nodes) a pastNode)) processesBits
+      (Peopled (addressOf a) (s₀ .length) (getD (s₀ .nodes) a pastNode .row))
   reads-slots a m s e b =
       let r : Row = getD (s₀ .nodes) a pastNode .row in
-      subst (λ (j : ℕ). Reads (processes j (getD (s .nodes) a pastNode)) processesBits (Peopled (s₀ .length) r))
+      let own : Locality = addressOf a in
+      subst (λ (j : ℕ). Reads (processes own j (getD (s .nodes) a pastNode)) processesBits (Peopled own (s₀ .length) r))
       (e .length-is)
-      (subst (λ (x : Node). Reads (processes (s₀ .length) x) processesBits (Peopled (s₀ .length) r))
-      (sym (bare a m) ∙ b) (reads-processes (s₀ .length) r k))
+      (subst (λ (x : Node). Reads (processes own (s₀ .length) x) processesBits (Peopled own (s₀ .length) r))
+      (sym (bare a m) ∙ b) (reads-processes own (s₀ .length) r k))
 
   pub reads-allProcesses :
       Reads (allProcesses s₀) (λ b. joined (s₀ .addresses) (λ a. processesBits (nodeAt b (addressOf a)))) (ProcessesPass s₀)
   unfolding allProcesses eachAddress processesOf nodeAt ProcessesPass withNode
   reads-allProcesses =
-      reads-cells (passOver s₀ (λ a. Slots (s₀ .length)) vacated) s₀ (λ a. processesOf (addressOf a)) (s₀ .addresses) processesBits
+      let good : ℕ → Node → Type 0 = λ a. Slots (addressOf a) (s₀ .length) in
+      reads-cells (passOver s₀ good vacated) s₀ (λ a. processesOf (addressOf a)) (s₀ .addresses) processesBits
       (filling-pass s₀ _ _ _ _ h l (λ a m s e b g.
-      reads-turn (passOver s₀ (λ _. Slots (s₀ .length)) vacated) s₀ a s processesBits (λ x. x)
+      reads-turn (passOver s₀ good vacated) s₀ a s processesBits (λ x. x)
       (omega arith) (λ x. refl) (reads-slots a m s e b)
       (λ x ok. (record { count = ok .count; slots = ok .slots }, vacated-bare x _ (ok .bare) ∙ sym (bare a m), tt))
       (λ x ok. refl)

@@ -6,7 +6,7 @@ use mathlib.Core.List.{List, _++_}
 use native.Mathlib.Omega.{arith}
 use lib.ListN.{getD, set, replicate, length-replicate, getD-replicate}
 use lib.Seq.{set-getD, set-set}
-use Rattle.written.specs.Types.{Place, Tuple, Row, Process, Node}
+use Rattle.written.specs.Types.{Locality, Place, Tuple, Row, Process, Node}
 use Rattle.net.specs.Records.{startingAt, freeProcess, zeroTuple, processAt, processCount}
 use Rattle.net.specs.Records.{withProcess}
 use Rattle.image.specs.Image.{row, process, processes, stored, tuples}
@@ -20,15 +20,16 @@ use Rattle.written.proofs.ReadsCells.{Arrayed, Through, Filling, reads-
 use Rattle.written.proofs.ReadsCells.{rewritten-filled, filled-rewritten}
 use Rattle.written.proofs.WrittenFields.{reads-place}
 
-pub record Starts (k : ℕ) (p : Process) : Type 0 where
+-- a process of the node at address a, whose origin is that node
+pub record Starts (a : Locality) (k : ℕ) (p : Process) : Type 0 where
   pub first : Place
   pub within : first .0 < k
-  pub is : startingAt first ≡ p
+  pub is : startingAt a first ≡ p
 
 -- c processes fill slots 0 upward
-pub record ProcessesOk (k c : ℕ) (x : Node) : Type 0 where
+pub record ProcessesOk (a : Locality) (k c : ℕ) (x : Node) : Type 0 where
   pub few : c ≤ 4
-  pub slots-ok : Every (Filled (Starts k) (λ p. freeProcess ≡ p) c) pastProcess 4 (x .processes)
+  pub slots-ok : Every (Filled (Starts a k) (λ p. freeProcess ≡ p) c) pastProcess 4 (x .processes)
 
 -- a node is what its parts are
 pub node-is : (x : Node) (r : Row) (ps : List Process) (m : ℕ) (ts : List Tuple) → r ≡ x .row → ps ≡ x .processes
@@ -43,13 +44,13 @@ node-is x r ps m ts a b c d =
 unfoldable pub bareNode : Row → List Process → Node
 bareNode r ps = record { row = r; processes = ps; stored = 0; tuples = replicate 16 zeroTuple }
 
-abbrev processesIn : ℕ → Row → Arrayed Node Process
-processesIn k r = record {
+abbrev processesIn : Locality → ℕ → Row → Arrayed Node Process
+processesIn a k r = record {
   cells = λ x. x .processes;
   put = λ i x p. withProcess x i p;
   cut = λ i x p. withProcess x i p;
   past = pastProcess;
-  Good = λ i. Starts k;
+  Good = λ i. Starts a k;
   undo = λ p. freeProcess;
   Frame = λ i x. bareNode r (x .processes) ≡ x;
   Extra = λ i x p. Unit {0};
@@ -65,8 +66,8 @@ replaced r x i p e = ap (λ (y : Node). withProcess y i p) e
 start : Row → Node
 start r = bareNode r (replicate 4 freeProcess)
 
-module _ (k : ℕ) (r : Row) (h : k ≤ 512) where
-  filling-processes : (c : ℕ) → c ≤ 4 → Filling (processesIn k r) (start r) (process k) c (λ p. placeBits (p .at))
+module _ (a : Locality) (k : ℕ) (r : Row) (h : k ≤ 512) where
+  filling-processes : (c : ℕ) → c ≤ 4 → Filling (processesIn a k r) (start r) (process a k) c (λ p. placeBits (p .at))
   unfolding process start withProcess bareNode startingAt
   filling-processes c l = record {
     room = l;
@@ -74,7 +75,7 @@ module _ (k : ℕ) (r : Row) (h : k ≤ 512) where
     begins = refl;
     starts = λ x e d. ap (bareNode r) d ∙ e;
     turn = λ i m x e b s.
-        reads-turn (processesIn k r) (start r) i x (λ p. placeBits (p .at)) startingAt (omega arith) (λ p. refl)
+        reads-turn (processesIn a k r) (start r) i x (λ p. placeBits (p .at)) (startingAt a) (omega arith) (λ p. refl)
         (reads-place k h)
         (λ p g. (
           record { first = p; within = g; is = refl },
@@ -93,7 +94,7 @@ module _ (k : ℕ) (r : Row) (h : k ≤ 512) where
   }
 
 -- the first slots are the busy ones
-module _ (k c : ℕ) (x : Node) (ok : ProcessesOk k c x) where
+module _ (a : Locality) (k c : ℕ) (x : Node) (ok : ProcessesOk a k c x) where
   pub first-busy : FirstBusy c x
   unfolding startingAt freeProcess
   first-busy =
@@ -104,31 +105,31 @@ module _ (k c : ℕ) (x : Node) (ok : ProcessesOk k c x) where
   count-is = slots-counted x c first-busy (ok .few)
 
 -- a node whose row r alone was read becomes one with processes
-pub record Peopled (k : ℕ) (r : Row) (x : Node) : Type 0 where
+pub record Peopled (a : Locality) (k : ℕ) (r : Row) (x : Node) : Type 0 where
   pub count : ℕ
-  pub slots : ProcessesOk k count x
+  pub slots : ProcessesOk a k count x
   pub bare : bareNode r (x .processes) ≡ x
 
-module _ (k : ℕ) (r : Row) (h : k ≤ 512) where
-  through-processes : (c : ℕ) (x : Node) → c < 5 → Through (processesIn k r) (start r) c x → ProcessesOk k c x
+module _ (a : Locality) (k : ℕ) (r : Row) (h : k ≤ 512) where
+  through-processes : (c : ℕ) (x : Node) → c < 5 → Through (processesIn a k r) (start r) c x → ProcessesOk a k c x
   unfolding start bareNode
   through-processes c x l g = record { few = omega arith; slots-ok = rewritten-filled refl (g .cells-ok) }
 
-  processes-through : (x : Node) (g : Peopled k r x) → Through (processesIn k r) (start r) (g .count) x
+  processes-through : (x : Node) (g : Peopled a k r x) → Through (processesIn a k r) (start r) (g .count) x
   unfolding start bareNode
   processes-through x g = record { frame = g .bare; cells-ok = filled-rewritten refl (g .slots .slots-ok) }
 
-  pub reads-processes : Reads (processes k (bareNode r (replicate 4 freeProcess))) processesBits (Peopled k r)
+  pub reads-processes : Reads (processes a k (bareNode r (replicate 4 freeProcess))) processesBits (Peopled a k r)
   unfolding processes processesBits processAt start
   reads-processes =
       reads-then (reads-field 3 0 5 22 (omega arith))
-      (λ c l. reads-cells (processesIn k r) (start r) (process k) c (λ p. placeBits (p .at))
-      (filling-processes k r h c (omega (arith, l .below))))
+      (λ c l. reads-cells (processesIn a k r) (start r) (process a k) c (λ p. placeBits (p .at))
+      (filling-processes a k r h c (omega (arith, l .below))))
       (record {
         keeps = λ c x l g. record { count = c; slots = through-processes c x (l .below) g; bare = g .frame };
         writes = λ c x l g.
             ap (λ (m : ℕ). bitsOf 3 m ++ joined m (λ i. placeBits (getD (x .processes) i pastProcess .at)))
-            (count-is k c x (through-processes c x (l .below) g));
+            (count-is a k c x (through-processes c x (l .below) g));
         parts = λ x g.
             (g .count, record { above = omega arith; below = omega (arith, g .slots .few) }, processes-through x g);
       })

@@ -41,12 +41,12 @@ pub record WithRow (a n k : ℕ) (x : Node) : Type 0 where
 
 pub record WithProcesses (a n k : ℕ) (x : Node) : Type 0 where
   pub row-ok : RowOk n (x .row)
-  pub slots-ok : Slots k x
+  pub slots-ok : Slots (addressOf a) k x
   pub bare : x ≡ emptied x
 
 pub record WithTuples (a n k : ℕ) (x : Node) : Type 0 where
   pub row-ok : RowOk n (x .row)
-  pub slots-ok : Slots k x
+  pub slots-ok : Slots (addressOf a) k x
   pub store-ok : TuplesOk (addressOf a) n x
 
 -- a pass takes one stage to the next
@@ -103,8 +103,8 @@ peopled s₀ s g t =
     })
 
 -- slots are a matter of the processes alone
-slots-as : (k : ℕ) (x y : Node) → x .processes ≡ y .processes → Slots k x → Slots k y
-slots-as k x y e g = record {
+slots-as : (a : Locality) (k : ℕ) (x y : Node) → x .processes ≡ y .processes → Slots a k x → Slots a k y
+slots-as a k x y e g = record {
   count = g .count;
   slots = record { few = g .slots .few; slots-ok = subst (Every _ _ 4) e (g .slots .slots-ok) };
 }
@@ -115,7 +115,7 @@ stocked s₀ s g t =
     staged-pass s₀ s g t
     (λ a x y b ok u. record {
       row-ok = subst (RowOk (s₀ .addresses)) (ap (λ (z : Node). z .row) (sym u)) (b .row-ok);
-      slots-ok = slots-as (s₀ .length) y x (ap (λ (z : Node). z .processes) (sym u)) (b .slots-ok);
+      slots-ok = slots-as (addressOf a) (s₀ .length) y x (ap (λ (z : Node). z .processes) (sym u)) (b .slots-ok);
       store-ok = ok;
     })
 
