@@ -55,8 +55,16 @@ make-spec =
     (λ c. search needs)
     (λ c. search needs)
     (λ c κs. search needs)
-    (λ c. search needs)
-    (λ c. search needs)
+    (λ c.
+    let n = c .before .before .before .before .before in
+    let t = n .before .before .before .before in
+    let h = t .before .before .before .before .before in
+    search (needs, h .host-of .ensures .1))
+    (λ c.
+    let n = c .before .before .before .before .before in
+    let t = n .before .before .before .before in
+    let h = t .before .before .before .before .before in
+    search (needs, h .host-of .ensures .1))
     (λ c κs. search needs)
     (λ c.
     let n = c .before .before .before .before .before .before in
