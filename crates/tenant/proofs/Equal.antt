@@ -1,6 +1,6 @@
 -- Two nets that an image can write and that agree below their counts (`specs/TenantRule.antt`) have one code, and one node
--- at each outside address: what stands past a count is zero in both, every variable is unset, and every mark is the node's
--- own.
+-- at each outside address: what stands past a count is zero in both, every variable is unset, and every origin and every mark is
+-- the node's own.
 -- Assumes nothing.
 use Prim.Native.Nat.{ℕ, zero, suc, _<_, _≤_}
 use mathlib.Core.Path.{_≡_, refl, sym, ap, subst, _∙_}
@@ -80,30 +80,31 @@ tuples-same a n m x x′ ok ok′ same =
     filled-same pastTuple 16 (x .stored) (x′ .stored) (x .tuples) (x′ .tuples) (same .count) (ok .tuples-ok)
     (ok′ .tuples-ok) (λ j h t u. tuple-same a n m _ _ t u (same .tuples j h))
 
--- ---- starting processes: a slot is free, or its process stands at its first place with every variable unset
-unfoldable begun : Process → Process
-begun p = choose (p .busy) (startingAt (p .at)) freeProcess
+-- ---- starting processes of the node at address a: a slot is free, or its process stands at its first place with every variable
+-- unset and a as its origin
+unfoldable begun : Locality → Process → Process
+begun a p = choose (p .busy) (startingAt a (p .at)) freeProcess
 
 slot-begun :
-    (k c j : ℕ) (p : Process) → Filled (Starts k) (λ y. freeProcess ≡ y) c j p → begun p ≡ p
+    (a : Locality) (k c j : ℕ) (p : Process) → Filled (Starts a k) (λ y. freeProcess ≡ y) c j p → begun a p ≡ p
 unfolding begun startingAt freeProcess choose
-slot-begun k c j p f =
-    under j c (λ l. subst (λ (y : Process). begun y ≡ y) (f .used l .is) refl)
-    (λ l. subst (λ (y : Process). begun y ≡ y) (f .unused l) refl)
+slot-begun a k c j p f =
+    under j c (λ l. subst (λ (y : Process). begun a y ≡ y) (f .used l .is) refl)
+    (λ l. subst (λ (y : Process). begun a y ≡ y) (f .unused l) refl)
 
-start-same : (p p′ : Process) → SameStart p p′ → begun p ≡ begun p′
+start-same : (a : Locality) (p p′ : Process) → SameStart p p′ → begun a p ≡ begun a p′
 unfolding begun
-start-same p p′ same =
-    choose-both (p .busy) _ _ _ _ (λ h. ap startingAt (same .place h)) refl
-    ∙ ap (λ (b : Bool). choose b (startingAt (p′ .at)) freeProcess) (same .busy)
+start-same a p p′ same =
+    choose-both (p .busy) _ _ _ _ (λ h. ap (startingAt a) (same .place h)) refl
+    ∙ ap (λ (b : Bool). choose b (startingAt a (p′ .at)) freeProcess) (same .busy)
 
 slots-same :
-    (k c k′ c′ : ℕ) (x x′ : Node) → ProcessesOk k c x → ProcessesOk k′ c′ x′
+    (a : Locality) (k c k′ c′ : ℕ) (x x′ : Node) → ProcessesOk a k c x → ProcessesOk a k′ c′ x′
     → ((j : ℕ) → j < 4 → SameStart (processAt x j) (processAt x′ j)) → x .processes ≡ x′ .processes
 unfolding processAt
-slots-same k c k′ c′ x x′ ok ok′ same =
+slots-same a k c k′ c′ x x′ ok ok′ same =
     every-same pastProcess 4 (x .processes) (x′ .processes) (ok .slots-ok) (ok′ .slots-ok)
-    (λ j h a b. sym (slot-begun k c j _ a) ∙ start-same _ _ (same j h) ∙ slot-begun k′ c′ j _ b)
+    (λ j h f g. sym (slot-begun a k c j _ f) ∙ start-same a _ _ (same j h) ∙ slot-begun a k′ c′ j _ g)
 
 -- ---- nodes
 node-same :
@@ -111,7 +112,7 @@ node-same :
 node-same a n k m l x x′ e ok ok′ same =
     node-is x′ _ _ _ _
     (row-same n m (x .row) (x′ .row) e (ok .row-ok) (ok′ .row-ok) (same .policy))
-    (slots-same k _ l _ x x′ (ok .slots-ok .slots) (ok′ .slots-ok .slots) (same .processes))
+    (slots-same (addressOf a) k _ l _ x x′ (ok .slots-ok .slots) (ok′ .slots-ok .slots) (same .processes))
     (same .tuples .count)
     (tuples-same (addressOf a) n m x x′ (ok .store-ok) (ok′ .store-ok) (same .tuples))
 

@@ -82,11 +82,11 @@ module _ (tenant : Locality → Bool) where
     read-out q Found.Nothing p = simp outward
 
     started-out :
-        (l : Locality) (p : Process) (sent q : Place) (j : Slot) → tenant l ≡ false
-        → seen tenant (startedIn s a k l p sent q j) ≡ startedIn (view tenant s) a k l p sent q j
+        (l : Locality) (p copy : Process) (q : Place) (j : Slot) → tenant l ≡ false
+        → seen tenant (startedIn s a k l p copy q j) ≡ startedIn (view tenant s) a k l p copy q j
     unfolding startedIn
-    started-out l p sent q (Slot.Number j) h = simp outward
-    started-out l p sent q Slot.Full h = simp outward
+    started-out l p copy q (Slot.Number j) h = simp outward
+    started-out l p copy q Slot.Full h = simp outward
 
     stopped-out : seen tenant (stopped s a k) ≡ stopped (view tenant s) a k
     unfolding stopped seen
@@ -168,10 +168,10 @@ module _ (tenant : Locality → Bool) where
     read-in q Found.Nothing p = unseen-unchanged s _
 
     started-in :
-        (l : Locality) (p : Process) (sent q : Place) (j : Slot) → tenant l ≡ true → Unseen s (startedIn s a k l p sent q j)
+        (l : Locality) (p copy : Process) (q : Place) (j : Slot) → tenant l ≡ true → Unseen s (startedIn s a k l p copy q j)
     unfolding startedIn
-    started-in l p sent q (Slot.Number j) h = unseen-performed s _ (simp inward)
-    started-in l p sent q Slot.Full h = unseen-unchanged s _
+    started-in l p copy q (Slot.Number j) h = unseen-performed s _ (simp inward)
+    started-in l p copy q Slot.Full h = unseen-unchanged s _
 
     done-in :
         (p : Process) (e : Evaluated) (r : Request) → granted (rowFor (nodeAt s a) p) r ≡ true → Unseen s (carriedOut s a k p e r)
@@ -185,10 +185,10 @@ module _ (tenant : Locality → Bool) where
     done-in p e (Request.Read l q) h = read-in q _ _
     done-in p e (Request.Eval l sent q) h =
         chosen (Unseen s) _ _ _
-        (λ _. started-in _ p sent q _ (target-in l _ h (f .rows a .no-send l o)))
+        (λ _. started-in _ p _ q _ (target-in l _ h (f .rows a .no-send l o)))
         (λ _. unseen-unchanged s _)
     done-in p e (Request.New v q) h = never _ h (f .rows a .no-creation o)
-    done-in p e (Request.Fork q r) h = started-in a p r q _ o
+    done-in p e (Request.Fork q r) h = started-in a p _ q _ o
 
   step-unseen : (s : Net) (b : ℕ) → Fence tenant s → tenant (hostOf b) ≡ true → Unseen s (stepOf s b)
   unfolding stepOf slotStep processStep acting

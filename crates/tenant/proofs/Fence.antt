@@ -136,10 +136,10 @@ module _ (tenant : Locality → Bool) where
     read-kept q (Found.At i) p = performed-kept _ (with-host s a k _ f)
     read-kept q Found.Nothing p = same-kept s _ f
 
-    started-kept : (l : Locality) (p : Process) (sent q : Place) (j : Slot) → Kept (startedIn s a k l p sent q j)
+    started-kept : (l : Locality) (p copy : Process) (q : Place) (j : Slot) → Kept (startedIn s a k l p copy q j)
     unfolding startedIn
-    started-kept l p sent q (Slot.Number j) = performed-kept _ (with-host _ l j _ (with-host s a k _ f))
-    started-kept l p sent q Slot.Full = same-kept s _ f
+    started-kept l p copy q (Slot.Number j) = performed-kept _ (with-host _ l j _ (with-host s a k _ f))
+    started-kept l p copy q Slot.Full = same-kept s _ f
 
     done-kept :
         (p : Process) (e : Evaluated) (r : Request) → granted (rowFor (nodeAt s a) p) r ≡ true → Kept (carriedOut s a k p e r)
@@ -151,12 +151,12 @@ module _ (tenant : Locality → Bool) where
     done-kept p e (Request.In l q) h = in-kept _ q _ _
     done-kept p e (Request.Read l q) h = read-kept q _ _
     done-kept p e (Request.Eval l sent q) h =
-        chosen Kept _ _ _ (λ _. started-kept _ p sent q _) (λ _. same-kept s _ f)
+        chosen Kept _ _ _ (λ _. started-kept _ p _ q _) (λ _. same-kept s _ f)
     done-kept p e (Request.New v q) h =
         chosen Kept _ _ _
         (λ _. performed-kept _ (created-kept s a k p v q f
         (tested (tenant a) (λ t. never _ h (f .rows a .no-creation t)) (λ t. t)))) (λ _. same-kept s _ f)
-    done-kept p e (Request.Fork q r) h = started-kept a p r q _
+    done-kept p e (Request.Fork q r) h = started-kept a p _ q _
 
   step-kept : (s : Net) (b : ℕ) → Fence tenant s → Kept (stepOf s b)
   unfolding stepOf slotStep processStep acting

@@ -55,7 +55,7 @@ pub record SameTuples (x x′ : Node) : Type 0 where
   pub tuples : (i : ℕ) → i < x .stored → SameTuple (tupleAt x i) (tupleAt x′ i)
 
 -- a starting process in its slot and place: the slot is free in both or busy in both, and where it is busy the process
--- stands at one place
+-- stands at one place. Its origin needs no word: "a starting process has its own node as origin" (slip 10), in both images
 pub record SameStart (p p′ : Process) : Type 0 where
   pub busy : p .busy ≡ p′ .busy
   pub place : p .busy ≡ true → p .at ≡ p′ .at
