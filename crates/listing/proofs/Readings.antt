@@ -14,7 +14,7 @@ use lib.IntN.{ℤ}
 use Rattle.net.specs.Choice.{choose, all}
 use Rattle.net.specs.Records.{fieldAt, variableAt, processAt, tupleAt, patternAt, nodeAt, instructionAt, addressOf}
 use Rattle.net.specs.Records.{zeroField, zeroTuple, unsetVariable, freeProcess, zeroNode, withField, marked, withVariable, withRow, withProcess}
-use Rattle.net.specs.Records.{withTuple, withNode, movedTo, copiedTo, afterTaking, withoutTuple, processCount}
+use Rattle.net.specs.Records.{withTuple, withNode, movedTo, copiedTo, sentFrom, afterTaking, withoutTuple, processCount}
 use Rattle.net.specs.Records.{zeroTemplateField, zeroInstruction, emptyNet}
 use Rattle.net.specs.declared.instruction.TemplateField.{TemplateField}
 use Rattle.net.proofs.Laws.{both-l, both-r, all-e}
@@ -109,6 +109,10 @@ module _ (p : Process) (ok : ProcessOk p) where
   copied : (q : Place) → ProcessOk (copiedTo p q)
   unfolding copiedTo variableAt
   copied q = record { each = ok .each }
+
+  sent : (a : Locality) (q : Place) → ProcessOk (sentFrom a p q)
+  unfolding sentFrom variableAt
+  sent a q = record { each = ok .each }
 
   with-variable : (v : ℕ) (x : Value) → ItemOk (heldItem x) → ProcessOk (withVariable p v x)
   unfolding withVariable variableAt
@@ -269,11 +273,10 @@ module _ (s : Net) (ok : NetOk s) where
     read-after q (Found.At i) r g = does _ (with-host s ok a k _ (moved r g q))
     read-after q Found.Nothing r g = stays _
 
-    start-after : (l : Locality) (sent q : Place) (j : Slot) → After (startedIn s a k l p sent q j)
+    start-after : (l : Locality) (copy : Process) (q : Place) → ProcessOk copy → (j : Slot) → After (startedIn s a k l p copy q j)
     unfolding startedIn
-    start-after l sent q (Slot.Number j) =
-        does _ (with-host _ (with-host s ok a k _ (moved p h q)) l j _ (copied p h sent))
-    start-after l sent q Slot.Full = stays _
+    start-after l copy q g (Slot.Number j) = does _ (with-host _ (with-host s ok a k _ (moved p h q)) l j _ g)
+    start-after l copy q g Slot.Full = stays _
 
     done : (e : Evaluated) → WantsOk (e .wants) → (r : Request) → After (carriedOut s a k p e r)
     unfolding carriedOut stopped out added input read eval fork create
@@ -285,9 +288,9 @@ module _ (s : Net) (ok : NetOk s) where
         (λ _. stays _)
     done e g (Request.In l q) = in-after l q _ _ (matched p (nodeAt s l) e h (ok .nodes l))
     done e g (Request.Read l q) = read-after q _ _ (matched p (nodeAt s l) e h (ok .nodes l))
-    done e g (Request.Eval l sent q) = chosen After _ _ _ (λ _. start-after l sent q _) (λ _. stays _)
+    done e g (Request.Eval l r q) = chosen After _ _ _ (λ _. start-after l _ q (sent p h a r) _) (λ _. stays _)
     done e g (Request.New v q) = chosen After _ _ _ (λ _. does _ (created-ok s ok a k p v q h)) (λ _. stays _)
-    done e g (Request.Fork q r) = start-after a r q _
+    done e g (Request.Fork q r) = start-after a _ q (copied p h r) _
 
   step-after : (a : Locality) (k : ℕ) → After (slotStep s a k)
   unfolding slotStep processStep acting evaluatedOf

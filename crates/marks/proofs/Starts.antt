@@ -21,7 +21,7 @@ use Rattle.sound.proofs.NetChanges.{node-at}
 use Rattle.image.specs.Image.{openedOf}
 use Rattle.accepted.specs.ImageClaims.{AcceptedIsSound}
 use Rattle.accepted.proofs.AcceptedSound.{accepted-is-sound}
-use Rattle.fresh.specs.Fresh.{nodeStarts, ownMark, ownMarks, startsAt, netFits, freshOf}
+use Rattle.fresh.specs.Fresh.{nodeStarts, ownOrigins, ownMark, ownMarks, startsAt, netFits, freshOf}
 use Rattle.texts.specs.TextClaims.{TextIsFresh}
 use Rattle.texts.proofs.TextClaims.{textIsFresh}
 use Rattle.written.proofs.FreshFits.{net-fit}
@@ -98,7 +98,8 @@ own-marks s g a i h =
     let ok = sound-apart s (z .shaped) (z .sound) in
     let l = in-use s ok a i h in
     let few = node-at s ok a l .room in
-    let here = both-r (nodeStarts (nodeAt s a)) _ (all-e 16 _ (z .starts) (a .0) (omega (arith, ok .addresses-most))) in
+    let own = both-r (nodeStarts (nodeAt s a)) _ (all-e 16 _ (z .starts) (a .0) (omega (arith, ok .addresses-most))) in
+    let here = both-r (ownOrigins a (nodeAt s a)) _ own in
     let e = eqb-true _ _ (implies-e _ _ (all-e 16 _ here i (omega arith)) (lt-ltb _ _ h)) in
     λ j. record { 0 = e j }
 

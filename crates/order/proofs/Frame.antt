@@ -103,11 +103,11 @@ module _ {A B : Locality → Type 0} (away : (l : Locality) → A l → B l → 
     read-through q Found.Nothing p = simp passing
 
     started-through :
-        (l : Locality) (p : Process) (sent q : Place) (j : Slot) → B l
-        → through e (startedIn s a k l p sent q j) ≡ startedIn (done e s) a k l p sent q j
+        (l : Locality) (p copy : Process) (q : Place) (j : Slot) → B l
+        → through e (startedIn s a k l p copy q j) ≡ startedIn (done e s) a k l p copy q j
     unfolding startedIn
-    started-through l p sent q (Slot.Number j) h = simp passing
-    started-through l p sent q Slot.Full h = simp passing
+    started-through l p copy q (Slot.Number j) h = simp passing
+    started-through l p copy q Slot.Full h = simp passing
 
     stopped-through : through e (stopped s a k) ≡ stopped (done e s) a k
     unfolding stopped through

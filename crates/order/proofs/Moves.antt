@@ -50,10 +50,10 @@ module _ {A : Locality → Type 0} (s : Net) where
     read-edits new q Found.Nothing p = refuses new _
 
     started-edits :
-        (new : Bool) (l : Locality) (p : Process) (sent q : Place) (j : Slot) → A l → Edited A s new (startedIn s a k l p sent q j)
+        (new : Bool) (l : Locality) (p copy : Process) (q : Place) (j : Slot) → A l → Edited A s new (startedIn s a k l p copy q j)
     unfolding startedIn withHost
-    started-edits new l p sent q (Slot.Number j) h = puts-two new _ l _ h
-    started-edits new l p sent q Slot.Full h = refuses new _
+    started-edits new l p copy q (Slot.Number j) h = puts-two new _ l _ h
+    started-edits new l p copy q Slot.Full h = refuses new _
 
     stopped-edits : (new : Bool) → Edited A s new (stopped s a k)
     unfolding stopped withHost done openings
@@ -76,9 +76,9 @@ module _ {A : Locality → Type 0} (s : Net) where
     done-edits p t (Request.In l q) h = in-edits _ l q _ _ (h .each l (first-among l))
     done-edits p t (Request.Read l q) h = read-edits _ q _ _
     done-edits p t (Request.Eval l sent q) h =
-        chosen (Edited A s _) _ _ _ (λ _. started-edits _ l p sent q _ (h .each l (first-among l))) (λ _. refuses _ _)
+        chosen (Edited A s _) _ _ _ (λ _. started-edits _ l p _ q _ (h .each l (first-among l))) (λ _. refuses _ _)
     done-edits p t (Request.New v q) h = chosen (Edited A s true) _ _ _ (λ _. created-edits p v q (h .next refl)) (λ _. refuses _ _)
-    done-edits p t (Request.Fork q r) h = started-edits _ a p r q _ hosted
+    done-edits p t (Request.Fork q r) h = started-edits _ a p _ q _ hosted
 
     acting-edits : (p : Process) (t : Evaluated) (r : Request) → Covered A s r → Edited A s (isNew r) (acting s a k p t r)
     unfolding acting

@@ -12,7 +12,7 @@ use lib.Seq.{map-set-same, getD-set-same, getD-set-other}
 use lib.Dec.{eqb}
 use borrow.Author.Tests.{lt-ltb}
 use Rattle.net.specs.Choice.{choose, fold}
-use Rattle.net.specs.Records.{processAt, nodeAt, withProcess, withTuple, withNode, withRow, withoutTuple, zeroNode, movedTo, copiedTo, addressOf}
+use Rattle.net.specs.Records.{processAt, nodeAt, withProcess, withTuple, withNode, withRow, withoutTuple, zeroNode, movedTo, addressOf}
 use Rattle.net.specs.Shape.{Shaped}
 use Rattle.net.proofs.Laws.{choose-true, choose-false, split}
 use Rattle.net.proofs.Every.{chosen, chosen-lt}
@@ -217,11 +217,11 @@ module _ (s : Net) (ok : NetOk s) (a : Locality) (k : ℕ) (hosted : a .0 < s .a
     read-moves q (Found.At i) r = same _ (host-tuples s a k _)
     read-moves q Found.Nothing r = refuses s x Answer.NoTuple refl
 
-    start-moves : (l : Locality) (sent q : Place) (j : Slot) → Moves s x (startedIn s a k l p sent q j)
+    start-moves : (l : Locality) (copy : Process) (q : Place) (j : Slot) → Moves s x (startedIn s a k l p copy q j)
     unfolding startedIn numberOf
-    start-moves l sent q (Slot.Number j) =
-        same _ (host-tuples (withHost s a k (movedTo p q)) l j (copiedTo p sent) ∙ host-tuples s a k (movedTo p q))
-    start-moves l sent q Slot.Full = refuses s x Answer.NoRoom refl
+    start-moves l copy q (Slot.Number j) =
+        same _ (host-tuples (withHost s a k (movedTo p q)) l j copy ∙ host-tuples s a k (movedTo p q))
+    start-moves l copy q Slot.Full = refuses s x Answer.NoRoom refl
 
   -- the new address has no tuples
   created-counts : (v : ℕ) (q : Place) → counts (created s a k p v q) ≡ set (counts s) (s .addresses) 0
@@ -282,10 +282,10 @@ module _ (s : Net) (ok : NetOk s) (a : Locality) (k : ℕ) (hosted : a .0 < s .a
   asked-moves e (Action.Eval t sent q) h =
       at-acts e _ _ (λ l. Request.Eval l sent q)
       (λ l g. acts e _ _
-      (chosen (Moves s (Action.Eval t sent q)) _ _ _ (λ _. start-moves _ refl refl l sent q _)
+      (chosen (Moves s (Action.Eval t sent q)) _ _ _ (λ _. start-moves _ refl refl l _ q _)
       (λ _. refuses s _ Answer.NotWithin refl))) h
   asked-moves e (Action.New v q) h = acts e _ _ (create-moves v q)
-  asked-moves e (Action.Fork q r) h = acts e _ _ (start-moves _ refl refl a r q _)
+  asked-moves e (Action.Fork q r) h = acts e _ _ (start-moves _ refl refl a _ q _)
 
 -- ---- a pick
 slot-below : (b : ℕ) → slotOf b < 4
