@@ -90,7 +90,7 @@ pub fn stops(addresses: u8, length: u16) -> Net {
 pub fn net(addresses: u8, code: &[Instruction]) -> Net {
     let mut net = stops(addresses, code.len() as u16 + 1);
     net.code[..code.len()].copy_from_slice(code);
-    net.nodes[0].processes[0] = Process::starting(Place(0));
+    net.nodes[0].processes[0] = Process::starting(Place(0), Locality(0));
     net
 }
 
@@ -131,7 +131,8 @@ pub fn longest() -> Net {
         let node = &mut net.nodes[at];
         node.row.create = true;
         node.row.rights = [Rights::ALL; ADDRESSES];
-        node.processes = [0, 100, 300, 511].map(|at| Process::starting(Place(at)));
+        let own = Locality(at as u8);
+        node.processes = [0, 100, 300, 511].map(|place| Process::starting(Place(place), own));
         let tuples = [0; TUPLES].map(|_| readings(&[0; 4].map(|_| reading())));
         fill(&mut net, at, &tuples);
     }

@@ -333,7 +333,7 @@ mod tests {
             put: true,
             send: false,
         };
-        net.nodes[0].processes[0] = Process::starting(Place(258));
+        net.nodes[0].processes[0] = Process::starting(Place(258), Locality(0));
         net.nodes[0].processes[0].variables[7] = Value::Address(Locality(1));
         net.nodes[0].tuple_count = 1;
         net.nodes[0].tuples[0] = Tuple::of(&[Field::Reading(-2)]).marked(Locality(1));

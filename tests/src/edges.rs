@@ -142,7 +142,7 @@ pub fn stops_image(addresses: usize, length: usize) -> Vec<u8> {
 // The most instructions, and a process at the last of them.
 fn at_the_last_place() -> Net {
     let mut net = stops(1, 512);
-    net.nodes[0].processes[0] = Process::starting(Place(511));
+    net.nodes[0].processes[0] = Process::starting(Place(511), Locality(0));
     net
 }
 
@@ -206,7 +206,7 @@ fn eval_to_itself(starts: &[u16]) -> Net {
     let mut net = net(1, &[eval(OWN, 2, 0), eval(written(0), 2, 1)]);
     grant(&mut net, 0, 0, SEND);
     for (process, start) in net.nodes[0].processes.iter_mut().zip(starts) {
-        *process = Process::starting(Place(*start));
+        *process = Process::starting(Place(*start), Locality(0));
     }
     net
 }
@@ -230,8 +230,8 @@ fn barred_at_full_target() -> Net {
     grant(&mut net, 0, 0, READ);
     fill(&mut net, 0, &[one_address(1)]);
     fill(&mut net, 1, &[readings(&[3]); TUPLES]);
-    net.nodes[0].processes = [0, 2, 4, 6].map(|at| Process::starting(Place(at)));
-    net.nodes[1].processes = [Process::starting(Place(8)); SLOTS];
+    net.nodes[0].processes = [0, 2, 4, 6].map(|at| Process::starting(Place(at), Locality(0)));
+    net.nodes[1].processes = [Process::starting(Place(8), Locality(1)); SLOTS];
     net
 }
 

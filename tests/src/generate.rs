@@ -51,7 +51,8 @@ pub fn sound_net(random: &mut Random) -> Net {
         for slot in 0..SLOTS {
             if random.percent(50) {
                 let at = place(random, net.code_length);
-                net.nodes[address].processes[slot] = Process::starting(at);
+                let own = Locality(address as u8);
+                net.nodes[address].processes[slot] = Process::starting(at, own);
             }
             if net.nodes[address].processes[slot].busy {
                 let variables = variables(random, net.address_count);
@@ -200,10 +201,11 @@ fn fill_rows(random: &mut Random, net: &mut Net) {
 fn fill_processes(random: &mut Random, net: &mut Net) {
     let count = net.address_count as usize;
     let length = net.code_length;
-    for node in &mut net.nodes[..count] {
+    for (address, node) in net.nodes[..count].iter_mut().enumerate() {
         let busy = random.choose(&[0, 0, 1, 1, 1, 1, 2, 2, 3, 4]);
         for process in &mut node.processes[..busy] {
-            *process = Process::starting(start(random, length));
+            let own = Locality(address as u8);
+            *process = Process::starting(start(random, length), own);
         }
     }
 }

@@ -1,5 +1,5 @@
 //! The records of a net (document 01, "The net"; document 02, slip 8: the
-//! mark of a tuple).
+//! mark of a tuple; slip 10: the origin of a process).
 
 /// Most addresses in a net.
 pub const ADDRESSES: usize = 16;
@@ -70,6 +70,9 @@ pub struct Row {
 pub struct Process {
     pub busy: bool,
     pub at: Place,
+    /// The origin: for a starting process its own node, for sent code the
+    /// node that sent it; a fork keeps it. A free slot has 0.
+    pub origin: Locality,
     pub variables: [Value; VARIABLES],
 }
 
@@ -213,14 +216,17 @@ impl Process {
     pub const FREE: Process = Process {
         busy: false,
         at: Place(0),
+        origin: Locality(0),
         variables: [Value::Unset; VARIABLES],
     };
 
-    /// A process at its first place, all variables unset.
-    pub fn starting(at: Place) -> Process {
+    /// A process at its first place, all variables unset, that starts at
+    /// this node and so has it as origin.
+    pub fn starting(at: Place, node: Locality) -> Process {
         Process {
             busy: true,
             at,
+            origin: node,
             ..Process::FREE
         }
     }
@@ -309,7 +315,7 @@ mod tests {
         node.processes[2].busy = true;
         assert_eq!(node.free_slot(), Some(1));
         assert_eq!(node.busy_slots(), 2);
-        node.processes = [Process::starting(Place(0)); SLOTS];
+        node.processes = [Process::starting(Place(0), Locality(0)); SLOTS];
         assert_eq!(node.free_slot(), None);
     }
 

@@ -68,13 +68,14 @@ pub fn busy() -> Net {
         node.row.create = true;
         node.row.rights[..15].fill(Rights::ALL);
         let places = [0, 8, 16, 24].map(|place| (place + 32 * at as u16) % 504);
-        node.processes = places.map(|place| Process::starting(Place(place)));
+        let own = Locality(at as u8);
+        node.processes = places.map(|place| Process::starting(Place(place), own));
     }
     for first in (0..504).step_by(8) {
         net.code[first as usize..][..8].copy_from_slice(&round(first));
     }
     net.code[504] = new(7, 511);
-    net.nodes[0].processes[3] = Process::starting(Place(504));
+    net.nodes[0].processes[3] = Process::starting(Place(504), Locality(0));
     net
 }
 

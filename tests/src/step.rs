@@ -1,5 +1,5 @@
 //! One pick (document 01, "One pick"; document 02, slip 6: taking covers
-//! reading).
+//! reading; slip 10: the origin of sent and of forked code).
 
 use crate::matching::{bind, evaluate, evaluate_tuple, oldest_fitting};
 use crate::net::*;
@@ -163,7 +163,8 @@ impl Run<'_> {
         Ok((target, index))
     }
 
-    // The sent code is judged by the target's row, self meaning the target.
+    // The sent code is judged by the target's row, self meaning the target;
+    // its origin is the host, wherever the sending code came from.
     fn eval(&mut self, target: Target, sent: Place, next: Place) -> Result<(), u8> {
         let target = self.resolve(target)?;
         require(self.rights(target).send)?;
@@ -171,22 +172,25 @@ impl Run<'_> {
         if !keeps_within(&self.net.code[..], self.net.code_length, sent, target, row) {
             return Err(SENT_CODE_BARRED);
         }
-        self.start_copy(target, sent)?;
+        self.start_copy(target, sent, self.host)?;
         self.process_mut().at = next;
         Ok(())
     }
 
+    // Both branches keep the origin.
     fn fork(&mut self, first: Place, second: Place) -> Result<(), u8> {
-        self.start_copy(self.host, second)?;
+        self.start_copy(self.host, second, self.process().origin)?;
         self.process_mut().at = first;
         Ok(())
     }
 
-    // Starts a process with a copy of the variables in the lowest free slot.
-    fn start_copy(&mut self, target: Locality, at: Place) -> Result<(), u8> {
+    // Starts a process of this origin with a copy of the variables in the
+    // lowest free slot.
+    fn start_copy(&mut self, target: Locality, at: Place, origin: Locality) -> Result<(), u8> {
         let copy = Process {
             busy: true,
             at,
+            origin,
             variables: self.process().variables,
         };
         let slot = self.node(target).free_slot().ok_or(NO_ROOM)?;

@@ -188,9 +188,9 @@ fn fork_fills_a_slot_of_its_node() {
     let filled = made(&net, &[0x08]);
     assert_eq!(filled.answers, [0]);
     let processes = &filled.net.nodes[0].processes;
-    assert_eq!(processes[0], Process::starting(Place(0)));
-    assert_eq!(processes[2], Process::starting(Place(1)));
-    net.nodes[0].processes = [Process::starting(Place(0)); SLOTS];
+    assert_eq!(processes[0], Process::starting(Place(0), Locality(0)));
+    assert_eq!(processes[2], Process::starting(Place(1), Locality(0)));
+    net.nodes[0].processes = [Process::starting(Place(0), Locality(0)); SLOTS];
     assert_eq!(unchanged(&net), 3);
 }
 
@@ -204,7 +204,7 @@ fn sent_code_is_judged_by_the_target_s_row() {
     let sent = made(&net, &[0, 0x10]);
     assert_eq!(sent.answers, [0, 0]);
     assert_eq!(sent.net.nodes[1].tuples[0], from(1, one_address(1)));
-    net.nodes[1].processes = [Process::starting(Place(2)); SLOTS];
+    net.nodes[1].processes = [Process::starting(Place(2), Locality(1)); SLOTS];
     assert_eq!(unchanged(&net), 3);
     net.nodes[0].row.rights[1].send = false;
     assert_eq!(unchanged(&net), 4);
@@ -240,7 +240,7 @@ fn creation_at_15_is_0_and_at_16_is_3_or_4() {
 #[test]
 fn stop_zeroes_the_slot() {
     let mut net = net(1, NONE, &[]);
-    net.nodes[0].processes[2] = Process::starting(Place(0));
+    net.nodes[0].processes[2] = Process::starting(Place(0), Locality(0));
     set(&mut net, 4, Value::Reading(1));
     let ended = made(&net, &[0, 0]);
     assert_eq!(ended.answers, [1, 7]);

@@ -23,8 +23,9 @@ const ADDRESS_COUNT: usize = 4;
 const READING: TemplateField = TemplateField::FormalReading(0);
 const ADDRESS: TemplateField = TemplateField::FormalAddress(1);
 
-fn starting(at: usize) -> Process {
-    Process::starting(Place(at as u16))
+// A process at a place, starting at an address.
+fn starting(place: usize, at: usize) -> Process {
+    Process::starting(Place(place as u16), Locality(at as u8))
 }
 
 fn work(name: &'static str, net: &Net, picks: Vec<u8>) -> Work {
@@ -67,7 +68,7 @@ pub fn communication() -> Work {
             take(target, &held, place),
         ];
         net.code[3 * at..3 * at + 3].copy_from_slice(&code);
-        net.nodes[at].processes = [starting(3 * at); SLOTS];
+        net.nodes[at].processes = [starting(3 * at, at); SLOTS];
         let rights = Rights {
             send: false,
             ..Rights::ALL
@@ -101,7 +102,7 @@ pub fn refused() -> Work {
         let mut tuples = [readings(&[1]); TUPLES];
         tuples[15] = one_address(((at + 1) % ADDRESS_COUNT) as u8);
         fill(&mut net, at, &tuples);
-        net.nodes[at].processes = [0, 1, 2, 4].map(starting);
+        net.nodes[at].processes = [0, 1, 2, 4].map(|place| starting(place, at));
     }
     net.nodes[3].processes[3] = Process::FREE;
     let mut random = Random::new(402);
@@ -120,7 +121,7 @@ pub fn evals() -> Work {
     for at in 0..ADDRESS_COUNT {
         let next = (at + 1) % ADDRESS_COUNT;
         net.code[at] = eval(written(next as u8), ADDRESS_COUNT as u16, at as u16);
-        net.nodes[at].processes[0] = starting(at);
+        net.nodes[at].processes[0] = starting(at, at);
         grant(&mut net, at, next, SEND);
     }
     work("evals", &net, performing(&net))
@@ -137,7 +138,7 @@ pub fn long_evals() -> Work {
     for at in 0..ADDRESS_COUNT {
         let next = (at + 1) % ADDRESS_COUNT;
         net.code[at] = eval(written(next as u8), first, at as u16);
-        net.nodes[at].processes = [starting(at); SLOTS];
+        net.nodes[at].processes = [starting(at, at); SLOTS];
         grant(&mut net, at, next, SEND);
         grant(&mut net, at, at, PUT);
     }

@@ -7,7 +7,7 @@ use crate::net::*;
 
 fn start(net: &mut Net, at: usize, place: u16) {
     let slot = net.nodes[at].free_slot().expect("at most four processes");
-    net.nodes[at].processes[slot] = Process::starting(Place(place));
+    net.nodes[at].processes[slot] = Process::starting(Place(place), Locality(at as u8));
 }
 
 pub fn put_and_take() -> Example {

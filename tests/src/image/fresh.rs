@@ -1,5 +1,6 @@
 //! Which nets an accepted image gives, so that they can be written as one
-//! (document 02, slip 13 for the number; slip 8 for the marks).
+//! (document 02, slip 13 for the number; slip 8 for the marks;
+//! slip 10 for the origins).
 
 use super::starts_keep_within;
 use crate::net::*;
@@ -7,7 +8,7 @@ use crate::sound::sound;
 
 /// Whether an accepted image gives this net: it is sound, its processes stand
 /// in the lowest slots with no variable set and keep within their rows, and
-/// each tuple has the mark of its own node.
+/// each has its own node as origin, as each tuple has it as mark.
 pub fn fresh(net: &Net) -> bool {
     sound(net) && starts_keep_within(net) && nodes_fresh(net)
 }
@@ -15,12 +16,12 @@ pub fn fresh(net: &Net) -> bool {
 fn nodes_fresh(net: &Net) -> bool {
     let addresses = (0..ADDRESSES as u8).map(Locality);
     let mut nodes = addresses.zip(net.nodes.iter());
-    nodes.all(|(address, node)| processes_fresh(node) && tuples_own(address, node))
+    nodes.all(|(address, node)| processes_fresh(address, node) && tuples_own(address, node))
 }
 
-fn processes_fresh(node: &Node) -> bool {
+fn processes_fresh(address: Locality, node: &Node) -> bool {
     let (started, others) = node.processes.split_at(node.busy_slots());
-    let starting = |process: &Process| *process == Process::starting(process.at);
+    let starting = |process: &Process| *process == Process::starting(process.at, address);
     started.iter().all(starting) && others.iter().all(|process| *process == Process::FREE)
 }
 
@@ -44,7 +45,7 @@ mod tests {
     fn small() -> Net {
         let mut net = net(2, &[out(written(1), &[TemplateField::Own], 1)]);
         grant(&mut net, 0, 1, PUT);
-        net.nodes[0].processes[1] = Process::starting(Place(1));
+        net.nodes[0].processes[1] = Process::starting(Place(1), Locality(0));
         fill(&mut net, 0, &[readings(&[5])]);
         fill(&mut net, 1, &[readings(&[5])]);
         net
@@ -77,6 +78,29 @@ mod tests {
         for (target, own) in [(0, true), (1, false)] {
             let mut net = net(2, &[out(written(target), &[TemplateField::Own], 1)]);
             grant(&mut net, 0, target.into(), PUT);
+            assert_eq!(pick(&mut net, 0), 0);
+            assert_eq!(image_of(&net).is_ok(), own);
+        }
+    }
+
+    /// Though the net is sound, and its image is accepted.
+    #[test]
+    fn a_net_with_a_foreign_origin_is_36() {
+        for slot in [0, 1] {
+            let mut net = small();
+            net.nodes[0].processes[slot].origin = Locality(1);
+            assert!(sound(&net));
+            assert_eq!(read_image(&write_image(&net)), Ok(small()));
+            assert_eq!(image_of(&net), REFUSED);
+        }
+    }
+
+    /// Code sent to another node no image gives; to its own node one does.
+    #[test]
+    fn a_net_after_an_eval_to_another_node_is_36() {
+        for (target, own) in [(0, true), (1, false)] {
+            let mut net = net(2, &[eval(written(target), 1, 1)]);
+            grant(&mut net, 0, target.into(), SEND);
             assert_eq!(pick(&mut net, 0), 0);
             assert_eq!(image_of(&net).is_ok(), own);
         }

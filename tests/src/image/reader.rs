@@ -147,12 +147,13 @@ impl ImageReader<'_> {
         })
     }
 
-    // Part 3: the starting processes, in slots 0 upward.
+    // Part 3: the starting processes, in slots 0 upward, each with its own
+    // node as origin.
     fn processes(&mut self) -> Result<(), Fault> {
         for address in 0..self.net.address_count {
             for slot in 0..self.count(3, 0, SLOTS as u32)? as usize {
                 let start = self.start(Locality(address))?;
-                let process = Process::starting(start.place);
+                let process = Process::starting(start.place, start.address);
                 self.net.nodes[address as usize].processes[slot] = process;
                 self.starts.push(start);
             }

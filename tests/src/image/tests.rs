@@ -297,9 +297,23 @@ fn processes_fill_slots_from_0() {
     let slots = net.nodes[1].processes;
     assert_eq!(
         slots[..2],
-        [Process::starting(Place(1)), Process::starting(Place(0))]
+        [1, 0].map(|place| Process::starting(Place(place), Locality(1)))
     );
     assert_eq!(slots[2..], [Process::FREE; 2]);
+}
+
+/// Three addresses with a process each, and two at the last.
+#[test]
+fn starting_processes_have_their_own_node_as_origin() {
+    let rows = "0 0000 0000 0000".repeat(3);
+    let start = "000000000";
+    let starts = format!("001 {start} 001 {start} 010 {start} {start}");
+    let head = format!("0001 00011 0000000001 {rows}");
+    let bytes = bits(&format!("{head} {starts} 00000 00000 00000 000"));
+    let net = read_image(&bytes).unwrap();
+    let origins = |at: usize| net.nodes[at].processes.map(|process| process.origin.0);
+    assert_eq!([0, 1, 2].map(origins), [[0; 4], [1, 0, 0, 0], [2, 2, 0, 0]]);
+    assert_eq!(net.nodes[2].busy_slots(), 2);
 }
 
 /// Three addresses, of which the last two hold tuples.

@@ -50,7 +50,7 @@ impl Compiler<'_> {
                 let place = self.lay(process, base);
                 let node = &mut self.net.nodes[at.0 as usize];
                 let slot = node.free_slot().expect("at most four processes");
-                node.processes[slot] = net::Process::starting(place);
+                node.processes[slot] = net::Process::starting(place, *at);
             }
             Line::Held(at, tuple) => {
                 let node = &mut self.net.nodes[at.0 as usize];

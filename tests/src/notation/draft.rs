@@ -114,9 +114,11 @@ impl Draft {
         net.address_count = self.address_count;
         net.code_length = self.code.len() as u16;
         net.nodes[..self.nodes.len()].clone_from_slice(&self.nodes);
-        for (node, starts) in net.nodes.iter_mut().zip(&self.starts) {
-            for (process, entry) in node.processes.iter_mut().zip(starts) {
-                *process = Process::starting(firsts.place(*entry));
+        for (address, starts) in self.starts.iter().enumerate() {
+            let processes = &mut net.nodes[address].processes;
+            for (process, entry) in processes.iter_mut().zip(starts) {
+                let own = Locality(address as u8);
+                *process = Process::starting(firsts.place(*entry), own);
             }
         }
         for (instruction, drafted) in net.code.iter_mut().zip(&self.code) {

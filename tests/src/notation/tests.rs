@@ -148,18 +148,27 @@ fn lines_in_any_order() {
     let mut expected = stops(2, 5);
     expected.nodes[1].row.create = true;
     expected.code[1] = new(7, 2);
-    let started = |places: &[u16]| {
+    let started = |at: u8, places: &[u16]| {
         let mut processes = [Process::FREE; SLOTS];
         for (process, place) in processes.iter_mut().zip(places) {
-            *process = Process::starting(Place(*place));
+            *process = Process::starting(Place(*place), Locality(at));
         }
         processes
     };
-    expected.nodes[0].processes = started(&[3]);
-    expected.nodes[1].processes = started(&[0, 1, 4]);
+    expected.nodes[0].processes = started(0, &[3]);
+    expected.nodes[1].processes = started(1, &[0, 1, 4]);
     fill(&mut expected, 0, &[Tuple::of(&[address(1), reading(-2)])]);
     fill(&mut expected, 1, &[readings(&[1]), readings(&[2])]);
     assert_eq!(read_text(text.as_bytes()), Ok(expected));
+}
+
+#[test]
+fn starting_processes_have_their_own_node_as_origin() {
+    let text = "0 has\n1 has\n2 has\n2 :: nil\n1 :: nil\n0 :: nil\n2 :: nil\n";
+    let net = read_text(text.as_bytes()).expect("it is accepted");
+    let origins = |at: usize| net.nodes[at].processes.map(|process| process.origin.0);
+    assert_eq!([0, 1, 2].map(origins), [[0; 4], [1, 0, 0, 0], [2, 2, 0, 0]]);
+    assert_eq!(net.nodes[2].busy_slots(), 2);
 }
 
 #[test]

@@ -49,7 +49,7 @@ fn net_showing(run: &Run) -> Net {
     let mut net = stops(count as u8, 2);
     net.code[0] = fork(0, 1);
     for (at, seen) in run.iter().enumerate().take(count) {
-        net.nodes[at].processes[0] = Process::starting(Place(0));
+        net.nodes[at].processes[0] = Process::starting(Place(0), Locality(at as u8));
         fill(
             &mut net,
             at,

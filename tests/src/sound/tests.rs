@@ -136,9 +136,9 @@ fn small() -> Net {
     ];
     net.code[0] = Instruction::with(read, &fields);
     net.code[1] = out(Target::Written(Locality(1)), 2);
-    for node in &mut net.nodes[..2] {
+    for (address, node) in net.nodes[..2].iter_mut().enumerate() {
         node.row.rights[1] = Rights::ALL;
-        node.processes[2] = Process::starting(Place(2));
+        node.processes[2] = Process::starting(Place(2), Locality(address as u8));
         node.processes[2].variables[7] = Value::Address(Locality(1));
         node.tuples[0] = Tuple::of(&[Field::Address(Locality(1)), Field::Reading(3)]);
         node.tuple_count = 1;
@@ -329,24 +329,29 @@ fn writable(net: &Net) -> bool {
         && net.code.iter().all(fields)
 }
 
-// Variables unset, busy slots moved to the front and tuples from their own
-// node, as an image has them. A mark that is not sound stays.
+// Variables unset, busy slots moved to the front, processes and tuples from
+// their own node, as an image has them. An origin or a mark that is not sound
+// stays.
 fn as_started(net: &mut Net) {
     let count = net.address_count;
     for (address, node) in net.nodes.iter_mut().enumerate() {
-        node.processes
-            .iter_mut()
-            .for_each(|process| process.variables = Process::FREE.variables);
+        let own = Locality(address as u8);
+        for process in &mut node.processes {
+            process.variables = Process::FREE.variables;
+            if process.busy && process.origin.0 < count {
+                process.origin = own;
+            }
+        }
         node.processes.sort_by_key(|process| !process.busy);
         let held = node.tuples.iter_mut().take(node.tuple_count as usize);
         held.filter(|tuple| tuple.from.0 < count)
-            .for_each(|tuple| tuple.from = Locality(address as u8));
+            .for_each(|tuple| tuple.from = own);
     }
 }
 
-/// A net with no variables set and no tuple from another node is sound
-/// exactly when it is written as an image without faults 21 to 29 and read
-/// back the same.
+/// A net with no variables set and no process or tuple from another node is
+/// sound exactly when it is written as an image without faults 21 to 29 and
+/// read back the same.
 #[test]
 fn soundness_is_what_an_image_can_hold() {
     let mut random = Random::new(12);

@@ -39,7 +39,7 @@ fn a_pick_has_address_slot_and_two_zero_bits() {
     assert_eq!((pick_address(0x0C), pick_slot(0x0C)), (Locality(0), 3));
     let mut net = net(3, &[]);
     net.nodes[0].processes[0] = Process::FREE;
-    net.nodes[2].processes[1] = Process::starting(Place(0));
+    net.nodes[2].processes[1] = Process::starting(Place(0), Locality(2));
     assert_eq!(pick(&mut net, 0x20), 7);
     assert_eq!(pick(&mut net, 0x24), 1);
     assert_eq!(pick(&mut net, 0x24), 7);
@@ -73,7 +73,7 @@ fn the_empty_net_answers_10() {
 #[test]
 fn stop_frees_the_slot() {
     let mut net = net(1, &[]);
-    net.nodes[0].processes[2] = Process::starting(Place(0));
+    net.nodes[0].processes[2] = Process::starting(Place(0), Locality(0));
     set(&mut net, 4, Value::Reading(1));
     let (answer, after) = picked(&net);
     assert_eq!(answer, 1);
@@ -373,8 +373,8 @@ fn eval_starts_a_copy_at_the_target() {
     grant(&mut net, 0, 1, SEND);
     grant(&mut net, 1, 1, PUT);
     set(&mut net, 3, Value::Reading(8));
-    net.nodes[1].processes[0] = Process::starting(Place(2));
-    net.nodes[1].processes[2] = Process::starting(Place(2));
+    net.nodes[1].processes[0] = Process::starting(Place(2), Locality(1));
+    net.nodes[1].processes[2] = Process::starting(Place(2), Locality(1));
     let (answer, mut after) = picked(&net);
     assert_eq!(answer, 0);
     let mut expected = net.clone();
@@ -422,7 +422,7 @@ fn eval_without_a_free_slot_is_3_after_5() {
     let code = [eval(FAR, 1, 2), out(Target::Own, &[TemplateField::Own], 2)];
     let mut net = net(2, &code);
     grant(&mut net, 0, 1, SEND);
-    net.nodes[1].processes = [Process::starting(Place(2)); 4];
+    net.nodes[1].processes = [Process::starting(Place(2), Locality(1)); 4];
     assert_eq!(unchanged(&net), 5);
     grant(&mut net, 1, 1, PUT);
     assert_eq!(unchanged(&net), 3);
@@ -444,8 +444,8 @@ fn eval_to_itself_with_four_busy_slots_is_3() {
 #[test]
 fn fork_keeps_the_first_branch() {
     let mut net = net(1, &[fork(1, 0)]);
-    net.nodes[0].processes[1] = Process::starting(Place(1));
-    net.nodes[0].processes[3] = Process::starting(Place(1));
+    net.nodes[0].processes[1] = Process::starting(Place(1), Locality(0));
+    net.nodes[0].processes[3] = Process::starting(Place(1), Locality(0));
     set(&mut net, 5, Value::Reading(2));
     let (answer, after) = picked(&net);
     assert_eq!(answer, 0);
@@ -453,7 +453,7 @@ fn fork_keeps_the_first_branch() {
     expected.nodes[0].processes[2] = *process(&mut net);
     process(&mut expected).at = Place(1);
     assert_eq!(after, expected);
-    net.nodes[0].processes[2] = Process::starting(Place(1));
+    net.nodes[0].processes[2] = Process::starting(Place(1), Locality(0));
     assert_eq!(unchanged(&net), 3);
 }
 
@@ -462,8 +462,14 @@ fn a_fork_from_another_slot_uses_slot_0() {
     let mut net = net(1, &[fork(1, 0)]);
     net.nodes[0].processes.swap(0, 2);
     assert_eq!(pick(&mut net, 0x08), 0);
-    assert_eq!(net.nodes[0].processes[0], Process::starting(Place(0)));
-    assert_eq!(net.nodes[0].processes[2], Process::starting(Place(1)));
+    assert_eq!(
+        net.nodes[0].processes[0],
+        Process::starting(Place(0), Locality(0))
+    );
+    assert_eq!(
+        net.nodes[0].processes[2],
+        Process::starting(Place(1), Locality(0))
+    );
 }
 
 #[test]
