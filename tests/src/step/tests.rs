@@ -1,6 +1,7 @@
 //! The answers to a pick and the net after it, on nets written by hand.
 
 mod marks;
+mod origins;
 
 use super::*;
 use crate::by_hand::*;
