@@ -1,6 +1,7 @@
 //! Soundness of a net (document 01, "One pick"), and what code reaches
 //! and whether it keeps within a row ("Reaching and rights"; document 02,
-//! slip 6: taking covers reading; slip 8: marks are addresses of the net).
+//! slip 6: taking covers reading; slips 8 and 10: marks and origins are
+//! addresses of the net).
 
 use crate::net::*;
 
@@ -142,7 +143,9 @@ fn process_sound(net: &Net, process: &Process) -> bool {
         return *process == Process::FREE;
     }
     let mut variables = process.variables.iter();
-    place_sound(net, process.at) && variables.all(|value| value_sound(net, value))
+    place_sound(net, process.at)
+        && address_sound(net, process.origin)
+        && variables.all(|value| value_sound(net, value))
 }
 
 fn value_sound(net: &Net, value: &Value) -> bool {

@@ -225,6 +225,24 @@ fn marks_lie_below_the_count() {
 }
 
 #[test]
+fn origins_lie_below_the_count() {
+    let of = |origin: u8| move |net: &mut Net| net.nodes[0].processes[2].origin = Locality(origin);
+    assert!(after(of(0)));
+    assert!(after(of(1)));
+    assert!(!after(of(2)));
+    assert!(!after(of(16)));
+    assert!(!after(of(255)));
+    let of_16 = |origin: u8| {
+        move |net: &mut Net| {
+            net.address_count = 16;
+            net.nodes[1].processes[2].origin = Locality(origin);
+        }
+    };
+    assert!(after(of_16(15)));
+    assert!(!after(of_16(16)));
+}
+
+#[test]
 fn places_lie_below_the_length() {
     assert!(!after(|net| net.nodes[1].processes[2].at = Place(3)));
     assert!(!after(|net| net.code[1].action = out(Target::Own, 3).action));
@@ -286,6 +304,10 @@ fn records_past_a_count_or_in_a_free_slot_are_zero() {
     assert!(!after(
         |net| net.nodes[0].processes[0].variables[3] = Value::Reading(0)
     ));
+    assert!(!after(|net| net.nodes[0].processes[0].origin = Locality(1)));
+    assert!(!after(|net| net.nodes[1].processes[3].origin = Locality(1)));
+    assert!(!after(|net| net.nodes[1].processes[3].origin = Locality(2)));
+    assert!(!after(|net| net.nodes[2].processes[0].origin = Locality(1)));
     assert!(!after(|net| net.nodes[2].processes[0].busy = true));
     assert!(!after(|net| net.nodes[2].tuple_count = 1));
     assert!(!after(|net| net.nodes[0].tuples[1].count = 1));

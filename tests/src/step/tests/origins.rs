@@ -1,4 +1,5 @@
-//! The origins of processes: which a step gives, and which it keeps.
+//! The origins of processes: which a step gives, which it keeps, and which
+//! are not sound.
 
 use super::*;
 
@@ -140,4 +141,29 @@ fn code_sent_from_a_new_address_has_it_as_origin() {
     assert_eq!([0, 0, 0xF0].map(|byte| pick(&mut net, byte)), [0; 3]);
     assert_eq!([origin(&net, 15, 0), origin(&net, 0, 1)], [0, 15]);
     assert!(sound(&net));
+}
+
+/// Not below the address count, or not 0 in a free slot.
+#[test]
+fn an_unsound_origin_is_10() {
+    let sound = three(&[]);
+    for (at, slot, bad) in [
+        (0, 0, 3),
+        (0, 0, 16),
+        (0, 0, 255),
+        (0, 1, 1),
+        (0, 3, 3),
+        (2, 0, 2),
+        (3, 0, 1),
+        (15, 3, 15),
+    ] {
+        let mut damaged = sound.clone();
+        damaged.nodes[at].processes[slot].origin = Locality(bad);
+        assert_eq!(unchanged(&damaged), 10);
+    }
+    for good in 0..3 {
+        let mut net = sound.clone();
+        net.nodes[0].processes[0].origin = Locality(good);
+        assert_eq!(picked(&net).0, 1);
+    }
 }
