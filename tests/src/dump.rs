@@ -7,10 +7,13 @@ use crate::program::start;
 use std::io::{Read, Write};
 use std::process::ChildStdout;
 
+// The byte of a process that is its origin: after its busy mark and place.
+const ORIGIN: usize = 3;
+
 // Bytes of the records.
 const COUNTS: usize = 3;
 const ROW: usize = 1 + ADDRESSES;
-const PROCESS: usize = 3 + 5 * VARIABLES;
+const PROCESS: usize = ORIGIN + 1 + 5 * VARIABLES;
 const TUPLE: usize = 1 + 5 * FIELDS + 1;
 const NODE: usize = ROW + SLOTS * PROCESS + 1 + TUPLES * TUPLE;
 const INSTRUCTION: usize = 9 + 5 * FIELDS;
@@ -80,9 +83,11 @@ fn put_node(out: &mut Vec<u8>, node: &Node) {
     }
 }
 
+// Whether it is busy, the place, the origin and the variables.
 fn put_process(out: &mut Vec<u8>, process: &Process) {
     out.push(process.busy as u8);
     put_two(out, process.at.0);
+    out.push(process.origin.0);
     for value in &process.variables {
         match *value {
             Value::Unset => put_kind(out, 0, 0),
@@ -162,6 +167,8 @@ fn record_of_node(byte: usize) -> String {
     let tuples = count + 1;
     if byte < processes {
         format!("row, byte {byte}")
+    } else if byte < count && (byte - processes) % PROCESS == ORIGIN {
+        format!("origin of process {}", (byte - processes) / PROCESS)
     } else if byte < count {
         one_of("process", byte - processes, PROCESS)
     } else if byte < tuples {
@@ -249,8 +256,10 @@ mod tests {
 
     #[test]
     fn a_dump_has_its_length() {
-        assert_eq!(DUMP_BYTES, 23_523);
+        assert_eq!((PROCESS, NODE), (44, 546));
+        assert_eq!(DUMP_BYTES, 23_587);
         assert_eq!(dump(&Net::empty()).len(), DUMP_BYTES);
+        assert_eq!(dump_state(&Net::empty()).len(), 8_739);
     }
 
     /// The records in which the dump of a changed empty net is another.
@@ -263,12 +272,12 @@ mod tests {
         differs.map(record_at).collect()
     }
 
-    const MARK: Locality = Locality(9);
+    const NINE: Locality = Locality(9);
     /// The value whose only byte that is not 0 is the last.
     const LAST: i32 = 1 << 24;
 
     /// Changes of one byte each, and the record that it is of.
-    const CHANGES: [(fn(&mut Net), &str); 9] = [
+    const CHANGES: [(fn(&mut Net), &str); 13] = [
         (|net| net.code_length = 1, "counts, byte 1"),
         (
             |net| net.nodes[4].row.rights[15] = SEND,
@@ -278,9 +287,25 @@ mod tests {
             |net| net.nodes[4].processes[3].busy = true,
             "node 4, process 3, byte 0",
         ),
+        (
+            |net| net.nodes[4].processes[0].at = Place(256),
+            "node 4, process 0, byte 2",
+        ),
+        (
+            |net| net.nodes[4].processes[0].origin = NINE,
+            "node 4, origin of process 0",
+        ),
+        (
+            |net| net.nodes[15].processes[3].origin = NINE,
+            "node 15, origin of process 3",
+        ),
+        (
+            |net| net.nodes[4].processes[1].variables[0] = Value::Reading(0),
+            "node 4, process 1, byte 4",
+        ),
         (|net| net.nodes[4].tuple_count = 1, "node 4, tuple count"),
         (
-            |net| net.nodes[0].tuples[0].from = MARK,
+            |net| net.nodes[0].tuples[0].from = NINE,
             "node 0, mark of tuple 0",
         ),
         (
@@ -292,7 +317,7 @@ mod tests {
             "node 2, tuple 3, byte 20",
         ),
         (
-            |net| net.nodes[15].tuples[15].from = MARK,
+            |net| net.nodes[15].tuples[15].from = NINE,
             "node 15, mark of tuple 15",
         ),
         (
@@ -333,7 +358,7 @@ mod tests {
             put: true,
             send: false,
         };
-        net.nodes[0].processes[0] = Process::starting(Place(258), Locality(0));
+        net.nodes[0].processes[0] = Process::starting(Place(258), NINE);
         net.nodes[0].processes[0].variables[7] = Value::Address(Locality(1));
         net.nodes[0].tuple_count = 1;
         net.nodes[0].tuples[0] = Tuple::of(&[Field::Reading(-2)]).marked(Locality(1));
@@ -344,12 +369,15 @@ mod tests {
         let bytes = dump(&net);
         assert_eq!(bytes[..3], [2, 44, 1]);
         assert_eq!(bytes[3..6], [0, 0, 10]);
-        assert_eq!(bytes[20..23], [1, 2, 1]);
-        assert_eq!(bytes[58..63], [2, 1, 0, 0, 0]);
-        assert_eq!(bytes[192..199], [1, 1, 1, 0xFE, 0xFF, 0xFF, 0xFF]);
+        // Busy, the place, the origin, and the first variable's kind.
+        assert_eq!(bytes[20..25], [1, 2, 1, 9, 0]);
+        assert_eq!(bytes[59..64], [2, 1, 0, 0, 0]);
+        // The next process is free.
+        assert_eq!(bytes[64..108], [0; 44]);
+        assert_eq!(bytes[196..203], [1, 1, 1, 0xFE, 0xFF, 0xFF, 0xFF]);
         // The last field, the mark, and the count of the next tuple.
-        assert_eq!(bytes[209..216], [1, 0, 0, 0, 0, 1, 0]);
-        let code = &bytes[3 + 16 * 542..];
+        assert_eq!(bytes[213..220], [1, 0, 0, 0, 0, 1, 0]);
+        let code = &bytes[8_739..];
         assert_eq!(code[..9], [4, 2, 3, 1, 1, 5, 0, 0, 0]);
         assert_eq!(code[9..14], [5, 6, 0, 0, 0]);
     }

@@ -122,6 +122,38 @@ pub fn digest(bytes: &[u8]) -> u64 {
 #[cfg(test)]
 mod tests {
     use super::*;
+    use crate::by_hand;
+    use crate::net::Locality;
+
+    /// The origin of the process in slot 2 of node 1 is in the net's bytes.
+    #[test]
+    fn a_run_is_its_net_and_its_picks() {
+        let mut net = by_hand::net(3, &[]);
+        net.nodes[1].processes[2].origin = Locality(2);
+        let picks = vec![7; 258];
+        let framed = Run { net, picks }.framed();
+        assert_eq!(framed.len(), 23_587 + 2 + 258);
+        assert_eq!(framed[3 + 546 + 17 + 2 * 44 + 3], 2);
+        assert_eq!(framed[23_587..][..3], [2, 1, 7]);
+    }
+
+    /// After a fork, which hands the origin on: in the digest, and in the net
+    /// in both branches. The answer is the same.
+    #[test]
+    fn an_origin_shows_in_what_is_expected() {
+        let mut net = by_hand::net(2, &[by_hand::fork(0, 1)]);
+        let picks = vec![0];
+        let own = expected(&Run {
+            net: net.clone(),
+            picks: picks.clone(),
+        });
+        net.nodes[0].processes[0].origin = Locality(1);
+        let foreign = expected(&Run { net, picks });
+        assert_eq!([own[0], foreign[0]], [0, 0]);
+        assert_ne!(own[1..9], foreign[1..9]);
+        let after = |run: &[u8]| [run[9 + 23], run[9 + 23 + 44]];
+        assert_eq!([after(&own), after(&foreign)], [[0, 0], [1, 1]]);
+    }
 
     #[test]
     fn digests_differ_where_bytes_do() {
