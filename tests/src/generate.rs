@@ -43,7 +43,8 @@ pub fn valid_image(random: &mut Random) -> Vec<u8> {
 }
 
 /// A sound net, mostly one that no run reaches: any slots busy, any
-/// variables set, full nodes, rows that bar the code, tuples from anywhere.
+/// variables set, full nodes, rows that bar the code, processes and tuples
+/// from anywhere.
 pub fn sound_net(random: &mut Random) -> Net {
     let mut net = image_net(random);
     mark_tuples(random, &mut net);
@@ -60,7 +61,21 @@ pub fn sound_net(random: &mut Random) -> Net {
             }
         }
     }
+    set_origins(random, &mut net);
     net
+}
+
+/// Gives none, some or all of the busy processes any address in use as
+/// origin; a sound net stays sound.
+pub fn set_origins(random: &mut Random, net: &mut Net) {
+    let moved = random.choose(&[0, 50, 100]);
+    let count = net.address_count;
+    let processes = net.nodes.iter_mut().flat_map(|node| &mut node.processes);
+    for process in processes.filter(|process| process.busy) {
+        if random.percent(moved) {
+            process.origin = address(random, count);
+        }
+    }
 }
 
 /// A sound net some picks after its start.
@@ -198,6 +213,7 @@ fn fill_rows(random: &mut Random, net: &mut Net) {
     }
 }
 
+// Processes of an image have their own nodes as origins.
 fn fill_processes(random: &mut Random, net: &mut Net) {
     let count = net.address_count as usize;
     let length = net.code_length;

@@ -225,12 +225,13 @@ fn change_row(random: &mut Random, net: &mut Net) {
 
 fn change_process(random: &mut Random, net: &mut Net) {
     let node = any_node(random, net);
-    let value = wild_value(random, net);
+    let (value, origin) = (wild_value(random, net), wild_address(random, net));
     let place = wild_place(random, net);
     let process = &mut net.nodes[node].processes[random.below(SLOTS)];
-    match random.below(4) {
+    match random.below(6) {
         0 => process.busy = !process.busy,
         1 => process.at = place,
+        2 | 3 => process.origin = origin,
         _ => process.variables[random.below(VARIABLES)] = value,
     }
 }

@@ -223,6 +223,58 @@ fn random_nets_are_not_sound_by_a_mark() {
     assert!(met.iter().all(|count| *count > 20), "{met:?}");
 }
 
+// A net whose processes all have address 0 as origin.
+fn without_origins(net: &Net) -> Net {
+    let mut net = net.clone();
+    let processes = net.nodes.iter_mut().flat_map(|node| &mut node.processes);
+    processes.for_each(|process| process.origin = Locality(0));
+    net
+}
+
+// Whether a free slot has an origin that is not 0.
+fn free_slot_with_origin(net: &Net) -> bool {
+    let mut processes = net.nodes.iter().flat_map(|node| &node.processes);
+    processes.any(|process| !process.busy && process.origin != Locality(0))
+}
+
+/// Some nets are not sound by an origin alone: in a free slot, or not below
+/// the address count.
+#[test]
+fn random_nets_are_not_sound_by_an_origin() {
+    let mut random = Random::new(18);
+    let mut met = [0; 2];
+    for _ in 0..4000 {
+        let net = random_net(&mut random);
+        if !sound(&net) && sound(&without_origins(&net)) {
+            met[free_slot_with_origin(&net) as usize] += 1;
+        }
+    }
+    assert!(met.iter().all(|count| *count > 20), "{met:?}");
+}
+
+// The number of processes that have another origin than their own node.
+fn foreign_origins(net: &Net) -> usize {
+    let foreign = |(address, node): (usize, &Node)| {
+        let busy = node.processes.iter().filter(|process| process.busy);
+        busy.filter(|process| process.origin.0 as usize != address)
+            .count()
+    };
+    net.nodes.iter().enumerate().map(foreign).sum()
+}
+
+/// Processes of images are their own nodes', and runs send some to others.
+#[test]
+fn processes_from_other_nodes_are_met() {
+    let mut random = Random::new(19);
+    let (mut placed, mut reached) = (0, 0);
+    for _ in 0..500 {
+        assert_eq!(foreign_origins(&valid_net(&mut random)), 0);
+        placed += foreign_origins(&sound_net(&mut random));
+        reached += foreign_origins(&net_after_picks(&mut random));
+    }
+    assert!(placed > 1000 && reached > 20, "{placed} {reached}");
+}
+
 // The number of tuples that are from another node than their own.
 fn foreign_marks(net: &Net) -> usize {
     let foreign = |(address, node): (usize, &Node)| {

@@ -1,7 +1,9 @@
-//! The origins of processes: which a step gives, which it keeps, and which
-//! are not sound.
+//! The origins of processes: which a step gives, which it keeps, which are
+//! not sound, and that no answer rests on the others.
 
 use super::*;
+use crate::generate::{picks, set_origins, sound_net};
+use crate::random::Random;
 
 const FIVE: [TemplateField; 1] = [TemplateField::Reading(5)];
 
@@ -166,4 +168,31 @@ fn an_unsound_origin_is_10() {
         net.nodes[0].processes[0].origin = Locality(good);
         assert_eq!(picked(&net).0, 1);
     }
+}
+
+/// A net whose processes all have address 0 as origin.
+fn without_origins(net: &Net) -> Net {
+    let mut net = net.clone();
+    let processes = net.nodes.iter_mut().flat_map(|node| &mut node.processes);
+    processes.for_each(|process| process.origin = Locality(0));
+    net
+}
+
+/// Two sound nets that differ in nothing but origins answer the same to every
+/// pick, and still differ in nothing but origins.
+#[test]
+fn no_answer_rests_on_an_origin() {
+    let mut random = Random::new(22);
+    let mut differ = 0;
+    for _ in 0..300 {
+        let mut net = sound_net(&mut random);
+        let mut other = net.clone();
+        set_origins(&mut random, &mut other);
+        for byte in picks(&mut random, &net, 60) {
+            assert_eq!(pick(&mut net, byte), pick(&mut other, byte));
+            assert_eq!(without_origins(&net), without_origins(&other));
+        }
+        differ += usize::from(net != other);
+    }
+    assert!(differ > 50, "{differ}");
 }
