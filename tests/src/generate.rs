@@ -2,8 +2,10 @@
 
 mod code;
 mod damage;
+mod sending;
 
 pub use damage::{change_record, damaged_image, random_net};
+pub use sending::sending_net;
 
 use crate::image::write_image;
 use crate::net::*;
