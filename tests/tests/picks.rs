@@ -6,7 +6,9 @@ use cavindorum_tests::by_hand::{
     self, eval, fill, fill_marked, fork, from, grant, new, one_address, out, read, readings, take,
     written, NONE, OWN, PUT, READ, SEND, TAKE,
 };
-use cavindorum_tests::generate::{net_after_picks, pick_byte, picks, random_net, sound_net};
+use cavindorum_tests::generate::{
+    net_after_picks, pick_byte, picks, random_net, sending_net, set_origins, sound_net,
+};
 use cavindorum_tests::net::*;
 use cavindorum_tests::random::Random;
 use cavindorum_tests::replay::{replay, Made, Run};
@@ -364,6 +366,115 @@ fn an_unsound_mark_is_10() {
     assert_eq!(made(&foreign.net, &[0]).answers, [1]);
 }
 
+// Origins.
+
+/// A net by hand of three addresses with all rights over all of them, whose
+/// process stands at address 1.
+fn three(code: &[Instruction]) -> Net {
+    let mut net = net(3, NONE, code);
+    net.nodes[..3]
+        .iter_mut()
+        .for_each(|node| node.row.rights[..3].fill(Rights::ALL));
+    net.nodes[0].processes[0] = Process::FREE;
+    net.nodes[1].processes[0] = Process::starting(Place(0), Locality(1));
+    net
+}
+
+/// The origins of a node's four slots.
+fn origins(net: &Net, at: usize) -> [u8; SLOTS] {
+    net.nodes[at].processes.map(|process| process.origin.0)
+}
+
+/// Node 1 sends to 2, where the code sends on to 0 and then back to 1.
+#[test]
+fn code_sent_on_has_the_node_between_as_origin() {
+    let sent = [eval(written(2), 1, 3), eval(written(0), 3, 2)];
+    let net = three(&[&sent[..], &[eval(written(1), 3, 3)]].concat());
+    let sent = made(&net, &[0x10, 0x20, 0x20]);
+    assert_eq!(sent.answers, [0; 3]);
+    assert_eq!(origins(&sent.net, 0), [2, 0, 0, 0]);
+    assert_eq!(origins(&sent.net, 1), [1, 2, 0, 0]);
+    assert_eq!(origins(&sent.net, 2), [1, 0, 0, 0]);
+}
+
+/// Both branches keep it, and a branch that stops frees its slot to 0.
+#[test]
+fn a_fork_of_sent_code_keeps_its_origin() {
+    let net = three(&[eval(written(2), 1, 3), fork(2, 1), fork(1, 3)]);
+    let forked = made(&net, &[0x10, 0x20, 0x24, 0x20]);
+    assert_eq!(forked.answers, [0; 4]);
+    assert_eq!(origins(&forked.net, 2), [1; 4]);
+    let stopped = made(&forked.net, &[0x2C]);
+    assert_eq!(stopped.answers, [1]);
+    assert_eq!(origins(&stopped.net, 2), [1, 1, 1, 0]);
+    assert_eq!(stopped.net.nodes[2].processes[3], Process::FREE);
+}
+
+/// Whatever it is, and only an eval gives another, to the code that it sends.
+#[test]
+fn every_other_step_keeps_the_origin() {
+    let field = [TemplateField::Reading(5)];
+    let code = [
+        out(OWN, &field, 1),
+        read(OWN, &field, 2),
+        take(OWN, &field, 3),
+        new(0, 4),
+        eval(HELD, 5, 5),
+    ];
+    for origin in 0..3 {
+        let mut net = three(&code);
+        net.nodes[1].row.create = true;
+        net.nodes[1].processes[0].origin = Locality(origin);
+        let kept = made(&net, &[0x10; 5]);
+        assert_eq!(kept.answers, [0; 5]);
+        assert_eq!(origins(&kept.net, 1), [origin, 0, 0, 0]);
+        assert_eq!(origins(&kept.net, 3), [1, 0, 0, 0]);
+    }
+}
+
+/// An origin that is not below the address count, and one that is not 0 in a
+/// free slot: at each node and in each slot.
+#[test]
+fn an_unsound_origin_is_10() {
+    let mut sound = net(2, NONE, &[]);
+    sound.nodes[1].processes[2] = Process::starting(Place(0), Locality(1));
+    let changed = |at: usize, slot: usize, origin: u8| {
+        let mut net = sound.clone();
+        net.nodes[at].processes[slot].origin = Locality(origin);
+        let picks = vec![0];
+        Run { net, picks }
+    };
+    let mut runs = Vec::new();
+    for at in 0..ADDRESSES {
+        for slot in 0..SLOTS {
+            let least = if sound.nodes[at].processes[slot].busy {
+                2
+            } else {
+                1
+            };
+            runs.extend([least, 16, 255].map(|origin| changed(at, slot, origin)));
+        }
+    }
+    for (run, made) in runs.iter().zip(replay(&runs)) {
+        assert_eq!(made.answers, [10]);
+        assert_eq!(made.net, run.net);
+    }
+    for (at, slot) in [(0, 0), (1, 2)] {
+        let both = [0, 1].map(|origin| changed(at, slot, origin));
+        assert!(replay(&both).iter().all(|made| made.answers == [1]));
+    }
+}
+
+/// With 16 addresses in use the highest may be an origin.
+#[test]
+fn address_15_as_an_origin() {
+    let mut net = net(16, NONE, &[]);
+    net.nodes[0].processes[0].origin = Locality(15);
+    assert_eq!(made(&net, &[0]).answers, [1]);
+    net.nodes[0].processes[0].origin = Locality(16);
+    assert_eq!(unchanged(&net), 10);
+}
+
 /// Each of the 256 picks on one net.
 #[test]
 fn every_pick() {
@@ -438,6 +549,34 @@ fn picks_from_damaged_nets() {
     let met = compare_many(203, 8_000, from_random_net);
     assert!(met[10] > 4_000 && met[10] < 28_000, "{met:?}");
     println!("answers 0 to 10: {met:?}");
+}
+
+fn from_sending_net(random: &mut Random) -> Run {
+    let net = sending_net(random);
+    let picks = picks(random, &net, 60);
+    Run { net, picks }
+}
+
+/// Code is sent, sent on and forked.
+#[test]
+fn picks_of_sent_code() {
+    let met = compare_many(205, 2_000, from_sending_net);
+    assert!(met[0] > 20_000 && met[10] == 0, "{met:?}");
+    println!("answers 0 to 10: {met:?}");
+}
+
+/// Two nets that differ in nothing but origins have the same answers.
+#[test]
+fn no_answer_rests_on_an_origin() {
+    let mut random = Random::new(206);
+    let ones: Vec<_> = (0..200).map(|_| from_sound_net(&mut random)).collect();
+    let mut others = ones.clone();
+    for other in &mut others {
+        set_origins(&mut random, &mut other.net);
+    }
+    for (one, other) in replay(&ones).iter().zip(replay(&others)) {
+        assert_eq!(one.answers, other.answers);
+    }
 }
 
 /// A net that is not sound comes back as it was.
