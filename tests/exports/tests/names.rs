@@ -1,7 +1,7 @@
 //! The exported calls with station names beside the model: the number of the
 //! lists' first fault, and whole buffers.
 
-use cavindorum_exports::{names_fault, named_register_in, named_register_text_in, STACK};
+use cavindorum_exports::{named_register_in, named_register_text_in, names_fault, STACK};
 use cavindorum_tests::examples::examples;
 use cavindorum_tests::image::write_image;
 use cavindorum_tests::names::by_hand::longest;
