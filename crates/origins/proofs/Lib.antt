@@ -1,0 +1,4 @@
+pub mod Forgetting
+pub mod Matching
+pub mod OriginClaims
+pub mod Steps

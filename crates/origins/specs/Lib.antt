@@ -1,0 +1,2 @@
+pub mod OriginClaims
+pub mod Types
