@@ -18,7 +18,8 @@ use Rattle.text.specs.Joined.{joined}
 use Rattle.registers.specs.Types.{Item, Tuple}
 use Rattle.lines.specs.Words.{Word, name, number, wordText, spaced, lineText, printed}
 use Rattle.lines.specs.Shown.{allParts}
-use Rattle.lines.specs.Lines.{itemWord, markWords}
+use Rattle.names.specs.NameClaims.{Letters}
+use Rattle.lines.specs.Lines.{nameWords, itemWord, markWords}
 use Rattle.lines.proofs.WordLaws.{spaced-both, printed-both}
 use Rattle.totals.specs.TextLines.{before, linesOf, lastOr, opensWith, opening}
 
@@ -78,6 +79,20 @@ word-more {w} {ws} h g = record { is-clean = clean-both (wordText w) (spaced ws)
 
 pub number-more : {n : ℕ} {ws : List Word} → Plain ws → Plain (number n ∷ ws)
 number-more {n} g = word-more (number-clean n) g
+
+-- a name, where it is of an entry's bytes
+letters-clean : (text : List ℕ) → Letters text → clean text ≡ true
+unfolding clean
+letters-clean [] h = refl
+letters-clean (b ∷ text) h =
+    let low = h .each 0 (omega arith) .low in
+    both-i _ _ (ap not (ne-eqb b 10 (λ e. omega (arith, low, e))))
+    (letters-clean text (record { each = λ i l. h .each (suc i) (omega arith) }))
+
+pub name-plain : (text : List ℕ) → Letters text → Plain (nameWords text)
+unfolding nameWords wordText
+name-plain [] h = no-words
+name-plain (b ∷ text) h = word-more {w = name (b ∷ text)} (letters-clean (b ∷ text) h) no-words
 
 pub plain-both : (a b : List Word) → Plain a → Plain b → Plain (a ++ b)
 plain-both a b h g = record { is-clean = ap clean (spaced-both a b) ∙ clean-both _ _ (h .is-clean) (g .is-clean) }

@@ -13,7 +13,7 @@ use Rattle.image.specs.Image.{openedOf}
 use Rattle.notation.specs.Text.{readOf}
 use Rattle.plans.specs.Answer.{numberOf}
 use Rattle.step.specs.Pick.{hostOf, slotOf, pickOf}
-use Rattle.registers.specs.Register.{registerOf, registerTextOf}
+use Rattle.registers.specs.Register.{registerOf, registerTextOf, namedRegisterOf, namedRegisterTextOf}
 use Rattle.totals.specs.Types.{Net, Action, Instruction, Verdict, TextVerdict, Answer}
 use Rattle.totals.specs.TextLines.{linesOf, lastOr, opening}
 
@@ -86,6 +86,15 @@ pub record EachRegister (P : Net → List ℕ → List ℕ → Type 0) : Type 0 
       (text picks : List ℕ)
       → readOf text .answer ≡ TextVerdict.Accepted
       → P (readOf text .net) (take 65536 picks) (registerTextOf text picks)
+  -- with the names that any two lists give (slip 14)
+  pub of-named-image :
+      (site office image picks : List ℕ)
+      → openedOf image .answer ≡ Verdict.Accepted
+      → P (openedOf image .net) (take 65536 picks) (namedRegisterOf site office image picks)
+  pub of-named-text :
+      (site office text picks : List ℕ)
+      → readOf text .answer ≡ TextVerdict.Accepted
+      → P (readOf text .net) (take 65536 picks) (namedRegisterTextOf site office text picks)
 
 -- the total is the number of lines that open with `tuple `
 unfoldable pub TotalIsLines : Type 0
