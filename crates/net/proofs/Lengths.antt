@@ -18,12 +18,13 @@ use Rattle.net.proofs.instruction.TemplateField as templateField
 use Rattle.net.proofs.network.Net as net
 use Rattle.net.proofs.node.Node as node
 use Rattle.net.proofs.policy.Rights as rights
+use Rattle.net.proofs.policy.Row as row
 use Rattle.net.proofs.process.Process as process
 use Rattle.net.proofs.tuple.Field as tupleField
 use Rattle.net.proofs.tuple.Tuple as tuple
 use Rattle.net.proofs.tuple.Variable as variable
-use Rattle.net.specs.Records.{Tuple, Process, Node, Instruction, Net, processAt, tupleAt, nodeAt, instructionAt}
-use Rattle.net.specs.Shape.{ShapedTuple, ShapedProcess, ShapedNode, ShapedInstruction, Shaped}
+use Rattle.net.specs.Records.{Tuple, Row, Process, Node, Instruction, Net, rowAt, processAt, tupleAt, nodeAt, instructionAt}
+use Rattle.net.specs.Shape.{ShapedTuple, ShapedRow, ShapedProcess, ShapedNode, ShapedInstruction, Shaped}
 
 -- ---- an array of a declared type
 module _ (T : Declared) where
@@ -57,16 +58,20 @@ instruction-shaped :
     → ShapedInstruction c
 instruction-shaped c vs h = record { template-is = long templateField.the-type (c .template) 4 _ (h .1 .1 .1 .1 .0) }
 
+row-shaped : (r : Row) (vs : List Val) → Is (field row.the-type .row) (row.the-type .to r) vs → ShapedRow r
+row-shaped r vs h = record { rights-are = long rights.the-type (r .rights) 16 _ (h .1 .1 .1 .0) }
+
 node-shaped : (x : Node) (vs : List Val) → Is (field node.the-type .row) (node.the-type .to x) vs → ShapedNode x
-unfolding processAt tupleAt
+unfolding rowAt processAt tupleAt
 node-shaped x vs h =
-    let row-known = h .1 .1 .0 in
+    let rows-known = h .1 .1 .0 in
     let processes-known = h .1 .1 .1 .0 in
     let tuples-known = h .1 .1 .1 .1 .1 .0 in
     record {
-      rights-are = long rights.the-type (x .row .rights) 16 _ (row-known .1 .1 .1 .0);
+      rows-are = long row.the-type (x .rows) 16 _ rows-known;
       processes-are = long process.the-type (x .processes) 4 _ processes-known;
       tuples-are = long tuple.the-type (x .tuples) 16 _ tuples-known;
+      each-row = λ o. element row.the-type ShapedRow row-shaped (x .rows) 16 _ rows-known _ (o .0);
       each-process = element process.the-type ShapedProcess process-shaped (x .processes) 4 _ processes-known _;
       each-tuple = element tuple.the-type ShapedTuple tuple-shaped (x .tuples) 16 _ tuples-known _;
     }
@@ -74,8 +79,8 @@ node-shaped x vs h =
 pub net-shaped : (s : Net) (vs : List Val) → Is (field net.the-type .row) (net.the-type .to s) vs → Shaped s
 unfolding nodeAt instructionAt
 net-shaped s vs h =
-    let nodes-known = h .1 .1 .1 .1 .0 in
-    let code-known = h .1 .1 .1 .1 .1 .0 in
+    let nodes-known = h .1 .1 .1 .1 .1 .0 in
+    let code-known = h .1 .1 .1 .1 .1 .1 .0 in
     record {
       nodes-are = long node.the-type (s .nodes) 16 _ nodes-known;
       code-is = long instruction.the-type (s .code) 512 _ code-known;

@@ -3,7 +3,7 @@
 use mathlib.Core.Bool.{false}
 use mathlib.Core.List.{[]}
 use lib.IntN.{ℤ}
-use Rattle.net.specs.Records.{Value, Variable, Item, Field, Tuple, Rights, Process, Node}
+use Rattle.net.specs.Records.{Value, Variable, Item, Field, Tuple, Rights, Row, Process, Node}
 use Rattle.net.specs.Records.{Pattern, TemplateField, Action, Instruction}
 
 abbrev pub pastField : Field
@@ -21,8 +21,11 @@ pastProcess = record { busy = false; at = record { 0 = 0 }; origin = record { 0 
 abbrev pub pastRights : Rights
 pastRights = record { take = false; read = false; put = false; send = false }
 
+abbrev pub pastRow : Row
+pastRow = record { create = false; rights = [] }
+
 abbrev pub pastNode : Node
-pastNode = record { row = record { create = false; rights = [] }; processes = []; stored = 0; tuples = [] }
+pastNode = record { rows = []; processes = []; stored = 0; tuples = [] }
 
 abbrev pub pastTemplate : TemplateField
 pastTemplate = record { pattern = Pattern.Reading (ℤ.pos 0) }

@@ -53,8 +53,12 @@ allRights = record { take = true; read = true; put = true; send = true }
 unfoldable pub zeroRow : Row
 zeroRow = record { create = false; rights = replicate 16 noRights }
 
+-- one row for every origin
+unfoldable pub alike : Row → List Row
+alike r = replicate 16 r
+
 unfoldable pub zeroNode : Node
-zeroNode = record { row = zeroRow; processes = replicate 4 freeProcess; stored = 0; tuples = replicate 16 zeroTuple }
+zeroNode = record { rows = alike zeroRow; processes = replicate 4 freeProcess; stored = 0; tuples = replicate 16 zeroTuple }
 
 unfoldable pub zeroTemplateField : TemplateField
 zeroTemplateField = record { pattern = Pattern.Reading (ℤ.pos 0) }
@@ -63,7 +67,7 @@ unfoldable pub zeroInstruction : Instruction
 zeroInstruction = record { action = Action.Stop; count = 0; template = replicate 4 zeroTemplateField }
 
 unfoldable pub emptyNet : Net
-emptyNet = record { addresses = 0; length = 0; nodes = replicate 16 zeroNode; code = replicate 512 zeroInstruction }
+emptyNet = record { format = 0; addresses = 0; length = 0; nodes = replicate 16 zeroNode; code = replicate 512 zeroInstruction }
 
 -- ---- an address and a code place, each made from its number: two types, never mixed
 abbrev pub addressOf : ℕ → Locality
@@ -83,6 +87,10 @@ variableAt p v = getD (p .variables) v (record { value = Value.Unset }) .value
 unfoldable pub rightsAt : Row → Locality → Rights
 rightsAt r l = getD (r .rights) (l .0) (record { take = false; read = false; put = false; send = false })
 
+-- a node's row for an origin
+unfoldable pub rowAt : Node → Locality → Row
+rowAt n o = getD (n .rows) (o .0) (record { create = false; rights = [] })
+
 unfoldable pub processAt : Node → ℕ → Process
 processAt n k =
     getD (n .processes) k (record { busy = false; at = record { 0 = 0 }; origin = record { 0 = 0 }; variables = [] })
@@ -96,14 +104,15 @@ patternAt c i = getD (c .template) i (record { pattern = Pattern.Reading (ℤ.po
 unfoldable pub nodeAt : Net → Locality → Node
 nodeAt s a =
     getD (s .nodes) (a .0)
-    (record { row = record { create = false; rights = [] }; processes = []; stored = 0; tuples = [] })
+    (record { rows = []; processes = []; stored = 0; tuples = [] })
 
 unfoldable pub instructionAt : List Instruction → Place → Instruction
 instructionAt code p = getD code (p .0) (record { action = Action.Stop; count = 0; template = [] })
 
--- the row that a process of the node is judged by: the node's only one
+-- the row that a process of the node is judged by: the one for its origin (document 02, slip 10); an empty one where no
+-- address is its origin, which no sound net has
 unfoldable pub rowFor : Node → Process → Row
-rowFor n p = n .row
+rowFor n p = choose (ltb (p .origin .0) 16) (rowAt n (p .origin)) zeroRow
 
 -- ---- replacing a part
 unfoldable pub withField : Tuple → Field → Tuple
@@ -121,18 +130,22 @@ withVariable p v x =
 unfoldable pub withRights : Row → Locality → Rights → Row
 withRights r l x = record { create = r .create; rights = set (r .rights) (l .0) x }
 
-unfoldable pub withRow : Node → Row → Node
-withRow n r = record { row = r; processes = n .processes; stored = n .stored; tuples = n .tuples }
+unfoldable pub withRows : Node → List Row → Node
+withRows n rs = record { rows = rs; processes = n .processes; stored = n .stored; tuples = n .tuples }
+
+-- the node with another row for an origin
+unfoldable pub withRow : Node → Locality → Row → Node
+withRow n o r = withRows n (set (n .rows) (o .0) r)
 
 unfoldable pub withProcess : Node → ℕ → Process → Node
 withProcess n k p =
-    record { row = n .row; processes = set (n .processes) k p; stored = n .stored; tuples = n .tuples }
+    record { rows = n .rows; processes = set (n .processes) k p; stored = n .stored; tuples = n .tuples }
 
 -- the tuple added as the newest, where there is room for it
 unfoldable pub withTuple : Node → Tuple → Node
 withTuple n t =
     choose (ltb (n .stored) 16)
-    (record { row = n .row; processes = n .processes; stored = n .stored + 1; tuples = set (n .tuples) (n .stored) t })
+    (record { rows = n .rows; processes = n .processes; stored = n .stored + 1; tuples = set (n .tuples) (n .stored) t })
     n
 
 unfoldable pub withPattern : Instruction → TemplateField → Instruction
@@ -145,15 +158,28 @@ unfoldable pub withAction : Instruction → Action → Instruction
 withAction c a = record { action = a; count = c .count; template = c .template }
 
 unfoldable pub withNode : Net → Locality → Node → Net
-withNode s a n =
-    record { addresses = s .addresses; length = s .length; nodes = set (s .nodes) (a .0) n; code = s .code }
+withNode s a n = record {
+  format = s .format;
+  addresses = s .addresses;
+  length = s .length;
+  nodes = set (s .nodes) (a .0) n;
+  code = s .code;
+}
 
 unfoldable pub withInstruction : Net → Place → Instruction → Net
-withInstruction s p c =
-    record { addresses = s .addresses; length = s .length; nodes = s .nodes; code = set (s .code) (p .0) c }
+withInstruction s p c = record {
+  format = s .format;
+  addresses = s .addresses;
+  length = s .length;
+  nodes = s .nodes;
+  code = set (s .code) (p .0) c;
+}
 
 unfoldable pub withCounts : Net → ℕ → ℕ → Net
-withCounts s n k = record { addresses = n; length = k; nodes = s .nodes; code = s .code }
+withCounts s n k = record { format = s .format; addresses = n; length = k; nodes = s .nodes; code = s .code }
+
+unfoldable pub withFormat : Net → ℕ → Net
+withFormat s f = record { format = f; addresses = s .addresses; length = s .length; nodes = s .nodes; code = s .code }
 
 -- ---- changes that a step makes
 
@@ -175,7 +201,7 @@ afterTaking x i j = choose (ltb j i) (tupleAt x j) (choose (ltb j 15) (tupleAt x
 
 unfoldable pub withoutTuple : Node → ℕ → Node
 withoutTuple x i = record {
-  row = x .row;
+  rows = x .rows;
   processes = x .processes;
   stored = x .stored - 1;
   tuples = fold 16 (λ j ts. set ts j (afterTaking x i j)) (x .tuples);

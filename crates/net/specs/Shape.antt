@@ -3,8 +3,8 @@
 use Prim.Native.Nat.{ℕ, _<_}
 use mathlib.Core.Path.{_≡_}
 use lib.ListN.{length}
-use Rattle.net.specs.Records.{Locality, Place, Tuple, Process, Node, Instruction, Net}
-use Rattle.net.specs.Records.{processAt, tupleAt, nodeAt, instructionAt}
+use Rattle.net.specs.Records.{Locality, Place, Tuple, Row, Process, Node, Instruction, Net}
+use Rattle.net.specs.Records.{rowAt, processAt, tupleAt, nodeAt, instructionAt}
 
 pub record ShapedTuple (t : Tuple) : Type 0 where
   pub fields-are : length (t .fields) ≡ 4
@@ -12,10 +12,14 @@ pub record ShapedTuple (t : Tuple) : Type 0 where
 pub record ShapedProcess (p : Process) : Type 0 where
   pub variables-are : length (p .variables) ≡ 8
 
+pub record ShapedRow (r : Row) : Type 0 where
+  pub rights-are : length (r .rights) ≡ 16
+
 pub record ShapedNode (x : Node) : Type 0 where
-  pub rights-are : length (x .row .rights) ≡ 16
+  pub rows-are : length (x .rows) ≡ 16
   pub processes-are : length (x .processes) ≡ 4
   pub tuples-are : length (x .tuples) ≡ 16
+  pub each-row : (o : Locality) → o .0 < 16 → ShapedRow (rowAt x o)
   pub each-process : (i : ℕ) → i < 4 → ShapedProcess (processAt x i)
   pub each-tuple : (i : ℕ) → i < 16 → ShapedTuple (tupleAt x i)
 

@@ -1,4 +1,5 @@
 // Nodes (document 01, "The net").
+use crate::locality::Locality;
 use crate::policy::Row;
 use crate::process::Process;
 use crate::tuple::Tuple;
@@ -6,12 +7,12 @@ ghost use Prim.Native.Nat.{_+_, _-_, _<_, _≤_};
 ghost use mathlib.Core.Path.{_≡_};
 ghost use lib.Dec.{ltb};
 ghost use Rattle.net.specs.Choice.{choose};
-ghost use Rattle.net.specs.Records.{zeroTuple, zeroNode, rowFor, withRow, withProcess, withoutTuple, freeSlot};
-ghost use Rattle.net.specs.Records.{processCount, putIn, takenFrom, startedOn};
+ghost use Rattle.net.specs.Records.{zeroTuple, zeroNode, rowFor, withRow, withRows, withProcess, withoutTuple};
+ghost use Rattle.net.specs.Records.{freeSlot, processCount, putIn, takenFrom, startedOn};
 
-// A node: its policy, its process slots and its tuple space, oldest tuple first.
+// A node: its policy, which is a row for each origin, its process slots and its tuple space, oldest tuple first.
 pub struct Node {
-    pub row: Row,
+    pub rows: [Row; 16],
     pub processes: [Process; 4],
     pub stored: usize,
     pub tuples: [Tuple; 16],
@@ -38,7 +39,7 @@ impl Node {
         let free = Process::free();
         let tuple = Tuple::zero();
         Node {
-            row,
+            rows: [row; 16],
             processes: [free; 4],
             stored: 0,
             tuples: [tuple; 16],
@@ -110,19 +111,34 @@ impl Node {
         n
     }
 
-    // The row that a process of the node is judged by: the node's only one.
+    // The row that a process of the node is judged by: the one for its origin.
     pub fn row_for(self, p: Process) -> Row
         ensures { λ r. ⌜ r ≡ rowFor self p ⌝ }
     {
-        self.row
+        let origin = p.origin;
+        let at = origin.0 as usize;
+        if at < 16 { self.rows[at] } else { Row::zero() }
     }
 
-    // The node with another row.
-    pub fn with_row(mut self, row: Row) -> Node
-        ensures { λ r. ⌜ r ≡ withRow self row ⌝ }
+    // The node with other rows.
+    pub fn with_rows(mut self, rows: [Row; 16]) -> Node
+        ensures { λ r. ⌜ r ≡ withRows self rows ⌝ }
     {
-        self.row = row;
+        self.rows = rows;
         self
+    }
+
+    // The node with another row for an origin, or as it was past the last one.
+    pub fn with_row(mut self, o: Locality, row: Row) -> Node
+        ensures { λ r. ⌜ r ≡ withRow self o row ⌝ }
+    {
+        let at = o.0 as usize;
+        if at < 16 {
+            self.rows[at] = row;
+            self
+        } else {
+            self
+        }
     }
 
     // The node with another process in a slot, or as it was past the last slot.

@@ -1,7 +1,7 @@
 // Policies (document 01, "The net"): what the processes hosted at a node may do.
 use crate::locality::Locality;
 ghost use mathlib.Core.Path.{_≡_};
-ghost use Rattle.net.specs.Records.{noRights, allRights, zeroRow, withRights};
+ghost use Rattle.net.specs.Records.{noRights, allRights, zeroRow, alike, withRights};
 
 // The rights over one address: i (take), r (read), o (put), e (send code).
 pub struct Rights {
@@ -11,7 +11,7 @@ pub struct Rights {
     pub send: bool,
 }
 
-// A node's row: the right n (create), and the rights over each address.
+// A node's row for an origin: the right n (create), and the rights over each address.
 pub struct Row {
     pub create: bool,
     pub rights: [Rights; 16],
@@ -52,6 +52,13 @@ impl Row {
             create: false,
             rights: [none; 16],
         }
+    }
+
+    // The row for every origin.
+    pub fn alike(self) -> [Row; 16]
+        ensures { λ rs. ⌜ rs ≡ alike self ⌝ }
+    {
+        [self; 16]
     }
 
     // The row with other rights over an address, or as it was past the last one.

@@ -1,11 +1,11 @@
 -- `net::node::Node::zero` meets its contract. Assumes nothing.
-use Rattle.net.specs.Records.{zeroNode}
+use Rattle.net.specs.Records.{zeroNode, alike}
 use borrow.Author.Needs.{needs}
 use Rattle.net.proofs.node.Node.zero.Statement.{statement}
 use Rattle.net.proofs.node.Node.zero.Tie as tie
 
 pub zero-spec : {M : Type 1} → statement M
-unfolding zeroNode
+unfolding zeroNode alike
 zero-spec =
     tie.close
     (tie.spec
