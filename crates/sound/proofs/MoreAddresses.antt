@@ -3,13 +3,14 @@
 use Prim.Native.Nat.{ℕ, _≤_}
 use mathlib.Core.Path.{_≡_, refl}
 use mathlib.Core.Bool.{Bool, true}
+use mathlib.Core.List.{List}
 use native.Mathlib.Omega.{arith}
 use lib.Dec.{ltb}
 use borrow.Author.Tests.{ltb-true, lt-ltb}
-use Rattle.sound.specs.Types.{Value, Item, Tuple, Process, Node, Target, Pattern, Action, Instruction}
+use Rattle.sound.specs.Types.{Value, Item, Tuple, Row, Process, Node, Target, Pattern, Action, Instruction}
 use Rattle.sound.specs.Soundness.{itemSound, valueSound, targetSound, patternSound}
 use Rattle.net.proofs.Every.{every-weaken, filled-map}
-use Rattle.sound.proofs.NodeFacts.{TupleOk, Running, ProcessOk, NodeOk}
+use Rattle.sound.proofs.NodeFacts.{TupleOk, RowOk, RowsOk, Running, ProcessOk, NodeOk}
 use Rattle.sound.proofs.CodeFacts.{TemplateOk, Tested, Acts, InstructionOk}
 
 module _ (m n : ℕ) (l : m ≤ n) where
@@ -47,9 +48,19 @@ module _ (m n : ℕ) (l : m ≤ n) where
   process-more : (k : ℕ) (p : Process) → ProcessOk m k p → ProcessOk n k p
   process-more k p ok = record { running = λ e. running-more k p (ok .running e); free = ok .free }
 
-  pub node-more : (k : ℕ) (x : Node) → NodeOk m k x → NodeOk n k x
-  node-more k x ok = record {
-    row-ok = every-weaken (ok .row-ok) (λ a r f. record { used = λ _. tt; unused = λ u. f .unused (omega arith) });
+  pub row-more : (r : Row) → RowOk m r → RowOk n r
+  row-more r ok = every-weaken ok (λ a x g. record { used = λ _. tt; unused = λ u. g .unused (omega arith) })
+
+  pub rows-more : (f : ℕ) (rows : List Row) → RowsOk f m rows → RowsOk f n rows
+  rows-more f rows ok = record {
+    each-ok = every-weaken (ok .each-ok) (λ o. row-more);
+    as-first = ok .as-first;
+    barred = λ e o u h. ok .barred e o (omega arith) h;
+  }
+
+  pub node-more : (f k : ℕ) (x : Node) → NodeOk f m k x → NodeOk f n k x
+  node-more f k x ok = record {
+    rows-ok = rows-more f (x .rows) (ok .rows-ok);
     processes-ok = every-weaken (ok .processes-ok) (λ i. process-more k);
     room = ok .room;
     tuples-ok = filled-map tuple-more (λ t e. e) (ok .tuples-ok);

@@ -16,11 +16,11 @@ use Rattle.sound.specs.Types.{Value, Variable, Item, Field, Tuple, Right
 use Rattle.sound.specs.Types.{Pattern, TemplateField, Action, Instruction}
 use Rattle.net.specs.Records.{zeroField, zeroTuple, unsetVariable, freeProcess, noRights, zeroRow, zeroNode}
 use Rattle.net.specs.Records.{zeroTemplateField, zeroInstruction, withAction}
-use Rattle.net.specs.Records.{fieldAt, variableAt, rightsAt, processAt, tupleAt, patternAt}
+use Rattle.net.specs.Records.{fieldAt, variableAt, rightsAt, rowAt, processAt, tupleAt, patternAt, addressOf, alike}
 use Rattle.net.specs.Readings.{sameReading}
-use Rattle.sound.specs.Soundness.{isZeroItem, noFields, isZeroTuple, isUnset, allUnset, isFree, isNone, isZeroRow, isZeroNode}
+use Rattle.sound.specs.Soundness.{isZeroItem, noFields, isZeroTuple, isUnset, allUnset, isFree, isNone, isZeroRow, noRows, isZeroNode}
 use Rattle.sound.specs.Soundness.{isZeroPattern, noTemplate, isStop, isZeroInstruction}
-use Rattle.net.specs.Shape.{ShapedTuple, ShapedProcess, ShapedNode, ShapedInstruction}
+use Rattle.net.specs.Shape.{ShapedTuple, ShapedRow, ShapedProcess, ShapedNode, ShapedInstruction}
 use Rattle.sound.specs.ZeroClaims.{ZeroIsZero}
 use Rattle.net.proofs.Laws.{both-i, both-l, both-r, all-i, all-e}
 use Rattle.net.proofs.ReadingLaws.{never, reading-equal}
@@ -122,32 +122,33 @@ no-rights r h =
       send = not-true (r .send) (both-r (not (r .put)) _ g) d;
     }
 
-row-passes : isZeroRow zeroRow ≡ true
+pub row-passes : isZeroRow zeroRow ≡ true
 unfolding isZeroRow zeroRow both all rightsAt isNone noRights
 row-passes = refl
 
-zero-row : (r : Row) → length (r .rights) ≡ 16 → isZeroRow r ≡ true → r ≡ zeroRow
+zero-row : (r : Row) → ShapedRow r → isZeroRow r ≡ true → r ≡ zeroRow
 unfolding isZeroRow zeroRow rightsAt
-zero-row r e h = λ d. record {
+zero-row r shape h = λ d. record {
   create = not-true (r .create) (both-l _ _ h) d;
-  rights = zeros noRights _ 16 (r .rights) e (λ l i. no-rights _ (all-e 16 _ (both-r (not (r .create)) _ h) l i)) d;
+  rights = zeros noRights _ 16 (r .rights) (shape .rights-are) (λ l i. no-rights _ (all-e 16 _ (both-r (not (r .create)) _ h) l i)) d;
 }
 
 -- ---- nodes
 pub node-passes : isZeroNode zeroNode ≡ true
-unfolding isZeroNode zeroNode processAt tupleAt
+unfolding isZeroNode noRows zeroNode alike rowAt processAt tupleAt
 node-passes =
-    both-i _ _ row-passes
+    both-i _ _ (all-i 16 _ (λ j h. rw getD-replicate row-passes))
     (both-i _ _ (all-i 4 _ (λ j h. rw getD-replicate process-passes))
     (both-i _ _ refl (all-i 16 _ (λ j h. rw getD-replicate tuple-passes))))
 
 zero-node : (x : Node) → ShapedNode x → isZeroNode x ≡ true → x ≡ zeroNode
-unfolding isZeroNode zeroNode processAt tupleAt
+unfolding isZeroNode noRows zeroNode alike rowAt processAt tupleAt
 zero-node x shape h =
-    let g = both-r (isZeroRow (x .row)) _ h in
+    let g = both-r (noRows x) _ h in
     let k = both-r (all 4 (λ i. isFree (processAt x i))) _ g in
     λ d. record {
-      row = zero-row (x .row) (shape .rights-are) (both-l _ _ h) d;
+      rows = zeros zeroRow _ 16 (x .rows) (shape .rows-are)
+          (λ o l. zero-row _ (shape .each-row (addressOf o) l) (all-e 16 _ (both-l _ _ h) o l)) d;
       processes = zeros freeProcess _ 4 (x .processes) (shape .processes-are)
           (λ i l. free-process _ (shape .each-process i l) (all-e 4 _ (both-l _ _ g) i l)) d;
       stored = eqb-true (x .stored) 0 (both-l _ _ k) d;
@@ -213,7 +214,7 @@ zeroIsZero = record {
   variable = λ x. exactly (λ y. isUnset (y .value)) unsetVariable variable-passes x (unset-variable x);
   process = λ p shape. exactly isFree freeProcess process-passes p (free-process p shape);
   rights = λ r. exactly isNone noRights rights-pass r (no-rights r);
-  row = λ r e. exactly isZeroRow zeroRow row-passes r (zero-row r e);
+  row = λ r shape. exactly isZeroRow zeroRow row-passes r (zero-row r shape);
   node = λ x shape. exactly isZeroNode zeroNode node-passes x (zero-node x shape);
   templateField = λ f.
       exactly (λ x. isZeroPattern (x .pattern)) zeroTemplateField template-field-passes f (zero-template-field f);

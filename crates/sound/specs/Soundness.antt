@@ -1,6 +1,7 @@
 -- Soundness of a net (document 01, "One pick"): counts in range, addresses below the address count, places below the
 -- code length, variables below 8, rules 26 and 27, no right held by or over an unused address, and every record past a
--- count or in a free slot zero or unset. In what follows n is the address count and k the code length.
+-- count or in a free slot zero or unset. "A sound net is of format 1 with all 16 rows of a node equal, or of format 2 with no
+-- right for an unused origin" (document 02, slip 10). In what follows f is the format, n the address count and k the code length.
 use Prim.Native.Nat.{ℕ}
 use mathlib.Core.Bool.{Bool, true, false, not}
 use lib.Dec.{eqb, leb, ltb}
@@ -8,7 +9,7 @@ use lib.IntN.{ℤ}
 use Rattle.net.specs.Choice.{choose, both, implies, all, inRange}
 use Rattle.sound.specs.Types.{Value, Item, Tuple, Rights, Row, Process, Node}
 use Rattle.sound.specs.Types.{Target, Pattern, Action, Instruction, Net}
-use Rattle.net.specs.Records.{fieldAt, variableAt, rightsAt, processAt, tupleAt, patternAt, nodeAt, instructionAt, addressOf, placeOf}
+use Rattle.net.specs.Records.{fieldAt, variableAt, rightsAt, rowAt, processAt, tupleAt, patternAt, nodeAt, instructionAt, addressOf, placeOf}
 use Rattle.net.specs.Readings.{sameReading}
 
 -- ---- tuples
@@ -49,6 +50,36 @@ rowSound n r = all 16 (λ l. implies (leb n l) (isNone (rightsAt r (addressOf l)
 unfoldable pub isZeroRow : Row → Bool
 isZeroRow r = both (not (r .create)) (all 16 (λ l. isNone (rightsAt r (addressOf l))))
 
+-- ---- the rows of a node
+unfoldable pub sameBool : Bool → Bool → Bool
+sameBool a b = choose a b (not b)
+
+unfoldable pub sameRights : Rights → Rights → Bool
+sameRights r q =
+    both (both (sameBool (r .take) (q .take)) (sameBool (r .read) (q .read)))
+    (both (sameBool (r .put) (q .put)) (sameBool (r .send) (q .send)))
+
+unfoldable pub sameRow : Row → Row → Bool
+sameRow r q =
+    both (sameBool (r .create) (q .create))
+    (all 16 (λ l. sameRights (rightsAt r (addressOf l)) (rightsAt q (addressOf l))))
+
+-- format 1: one row for every origin
+unfoldable pub rowsAlike : Node → Bool
+rowsAlike x = all 16 (λ o. sameRow (rowAt x (addressOf o)) (rowAt x (addressOf 0)))
+
+-- format 2: no right in the row for an unused origin
+unfoldable pub unusedBarred : ℕ → Node → Bool
+unusedBarred n x = all 16 (λ o. implies (leb n o) (isZeroRow (rowAt x (addressOf o))))
+
+-- each row by itself, and the rows beside one another
+unfoldable pub rowsSound : ℕ → ℕ → Node → Bool
+rowsSound f n x =
+    both (all 16 (λ o. rowSound n (rowAt x (addressOf o)))) (choose (eqb f 1) (rowsAlike x) (unusedBarred n x))
+
+unfoldable pub noRows : Node → Bool
+noRows x = all 16 (λ o. isZeroRow (rowAt x (addressOf o)))
+
 -- ---- processes
 unfoldable pub valueSound : ℕ → Value → Bool
 valueSound n Value.Unset = true
@@ -73,12 +104,12 @@ processSound n k p =
     (isFree p)
 
 -- ---- nodes
-unfoldable pub nodeSound : ℕ → ℕ → Node → Bool
-nodeSound n k x = both (rowSound n (x .row)) (both (all 4 (λ i. processSound n k (processAt x i))) (tuplesSound n x))
+unfoldable pub nodeSound : ℕ → ℕ → ℕ → Node → Bool
+nodeSound f n k x = both (rowsSound f n x) (both (all 4 (λ i. processSound n k (processAt x i))) (tuplesSound n x))
 
 unfoldable pub isZeroNode : Node → Bool
 isZeroNode x =
-    both (isZeroRow (x .row))
+    both (noRows x)
     (both (all 4 (λ i. isFree (processAt x i)))
     (both (eqb (x .stored) 0) (all 16 (λ i. isZeroTuple (tupleAt x i)))))
 
@@ -186,7 +217,9 @@ isZeroInstruction c = both (isStop (c .action)) (noTemplate c)
 unfoldable pub nodesSound : Net → Bool
 nodesSound s =
     all 16
-    (λ a. choose (ltb a (s .addresses)) (nodeSound (s .addresses) (s .length) (nodeAt s (addressOf a))) (isZeroNode (nodeAt s (addressOf a))))
+    (λ a. choose (ltb a (s .addresses))
+    (nodeSound (s .format) (s .addresses) (s .length) (nodeAt s (addressOf a)))
+    (isZeroNode (nodeAt s (addressOf a))))
 
 unfoldable pub codeSound : Net → Bool
 codeSound s =
@@ -197,4 +230,5 @@ codeSound s =
 
 unfoldable pub soundOf : Net → Bool
 soundOf s =
-    both (both (inRange 1 (s .addresses) 16) (inRange 1 (s .length) 512)) (both (nodesSound s) (codeSound s))
+    both (inRange 1 (s .format) 2)
+    (both (both (inRange 1 (s .addresses) 16) (inRange 1 (s .length) 512)) (both (nodesSound s) (codeSound s)))

@@ -3,13 +3,12 @@
 use mathlib.Core.Path.{_≡_}
 use mathlib.Core.Logic.{_↔_}
 use mathlib.Core.Bool.{true}
-use lib.ListN.{length}
 use Rattle.sound.specs.Types.{Variable, Field, Tuple, Rights, Row, Process, Node, TemplateField, Instruction}
 use Rattle.net.specs.Records.{zeroField, zeroTuple, unsetVariable, freeProcess, noRights, zeroRow, zeroNode}
 use Rattle.net.specs.Records.{zeroTemplateField, zeroInstruction, withAction}
 use Rattle.sound.specs.Soundness.{isZeroItem, isZeroTuple, isUnset, isFree, isNone, isZeroRow, isZeroNode}
 use Rattle.sound.specs.Soundness.{isZeroPattern, noTemplate, isZeroInstruction}
-use Rattle.net.specs.Shape.{ShapedTuple, ShapedProcess, ShapedNode, ShapedInstruction}
+use Rattle.net.specs.Shape.{ShapedTuple, ShapedRow, ShapedProcess, ShapedNode, ShapedInstruction}
 
 -- of a record whose arrays have the lengths that their types fix, the test for zero is true exactly when the record is
 -- the zero record of its kind
@@ -19,7 +18,7 @@ pub record ZeroIsZero : Type 0 where
   pub variable : (x : Variable) → (isUnset (x .value) ≡ true) ↔ (x ≡ unsetVariable)
   pub process : (p : Process) → ShapedProcess p → (isFree p ≡ true) ↔ (p ≡ freeProcess)
   pub rights : (r : Rights) → (isNone r ≡ true) ↔ (r ≡ noRights)
-  pub row : (r : Row) → length (r .rights) ≡ 16 → (isZeroRow r ≡ true) ↔ (r ≡ zeroRow)
+  pub row : (r : Row) → ShapedRow r → (isZeroRow r ≡ true) ↔ (r ≡ zeroRow)
   pub node : (x : Node) → ShapedNode x → (isZeroNode x ≡ true) ↔ (x ≡ zeroNode)
   pub templateField : (f : TemplateField) → (isZeroPattern (f .pattern) ≡ true) ↔ (f ≡ zeroTemplateField)
   -- an instruction without a template is its action and nothing else

@@ -1,5 +1,7 @@
-// The test of soundness (document 01, "One pick", answer 10). In what follows n is the address count
+// The test of soundness (document 01, "One pick", answer 10). In what follows f is the format, n the address count
 // and k the code length.
+use crate::rows::no_rows;
+use crate::rows::rows_sound;
 use net::instruction::Action;
 use net::instruction::Instruction;
 use net::instruction::Pattern;
@@ -8,8 +10,6 @@ use net::locality::Locality;
 use net::locality::Place;
 use net::network::Net;
 use net::node::Node;
-use net::policy::Rights;
-use net::policy::Row;
 use net::process::Process;
 use net::reading::same_reading;
 use net::tuple::Item;
@@ -22,7 +22,7 @@ ghost use Rattle.net.specs.Records.{tupleAt, variableAt};
 ghost use Rattle.net.specs.Choice.{inRange};
 ghost use Rattle.sound.specs.Soundness.{itemSound, isZeroItem, fieldsSound, tupleSound, noFields, isZeroTuple};
 ghost use Rattle.sound.specs.Soundness.{tuplesSound};
-ghost use Rattle.sound.specs.Soundness.{isNone, rowSound, isZeroRow, valueSound, isUnset, allUnset, isFree};
+ghost use Rattle.sound.specs.Soundness.{valueSound, isUnset, allUnset, isFree};
 ghost use Rattle.sound.specs.Soundness.{processSound};
 ghost use Rattle.sound.specs.Soundness.{nodeSound, isZeroNode, targetSound, patternSound, isZeroPattern};
 ghost use Rattle.sound.specs.Soundness.{templateSound, noTemplate, isActual, actualsOnly, bindsNot, unboundBefore};
@@ -33,11 +33,12 @@ ghost use Rattle.sound.specs.Soundness.{isStop, isZeroInstruction, nodes
 pub fn sound(net: Net) -> bool
     ensures { λ r. ⌜ r ≡ soundOf net ⌝ }
 {
+    let format = in_range(1, net.format, 2);
     let addresses = in_range(1, net.addresses, 16);
     let length = in_range(1, net.length, 512);
     let nodes = nodes_sound(net);
     let code = code_sound(net);
-    (addresses & length) & (nodes & code)
+    format & ((addresses & length) & (nodes & code))
 }
 
 fn in_range(low: usize, x: usize, high: usize) -> bool
@@ -150,50 +151,6 @@ fn tuples_sound(n: usize, node: Node) -> bool
     (node.stored <= 16) & ok
 }
 
-// ---- rows
-
-fn is_none(rights: Rights) -> bool
-    ensures { λ r. ⌜ r ≡ isNone rights ⌝ }
-{
-    (!rights.take & !rights.read) & (!rights.put & !rights.send)
-}
-
-// The rights over address l: none where it is not in use.
-fn rights_at_sound(n: usize, l: Locality, rights: Rights) -> bool
-    ensures { λ r. ⌜ r ≡ implies (leb n (l .0)) (isNone rights) ⌝ }
-{
-    let at = l.0 as usize;
-    if n <= at { is_none(rights) } else { true }
-}
-
-fn row_sound(n: usize, row: Row) -> bool
-    ensures { λ r. ⌜ r ≡ rowSound n row ⌝ }
-{
-    let mut ok = true;
-    let mut l = 0;
-    while l < 16 {
-        let rights = row.rights[l];
-        let good = rights_at_sound(n, Locality(l as u8), rights);
-        ok = ok & good;
-        l += 1;
-    }
-    ok
-}
-
-fn is_zero_row(row: Row) -> bool
-    ensures { λ r. ⌜ r ≡ isZeroRow row ⌝ }
-{
-    let mut ok = true;
-    let mut l = 0;
-    while l < 16 {
-        let rights = row.rights[l];
-        let good = is_none(rights);
-        ok = ok & good;
-        l += 1;
-    }
-    !row.create & ok
-}
-
 // ---- processes
 
 fn value_sound(n: usize, value: Value) -> bool
@@ -267,8 +224,8 @@ fn process_sound(n: usize, k: usize, p: Process) -> bool
 
 // ---- nodes
 
-fn node_sound(n: usize, k: usize, node: Node) -> bool
-    ensures { λ r. ⌜ r ≡ nodeSound n k node ⌝ }
+fn node_sound(f: usize, n: usize, k: usize, node: Node) -> bool
+    ensures { λ r. ⌜ r ≡ nodeSound f n k node ⌝ }
 {
     let mut ok = true;
     let mut i = 0;
@@ -278,8 +235,7 @@ fn node_sound(n: usize, k: usize, node: Node) -> bool
         ok = ok & good;
         i += 1;
     }
-    let row = node.row;
-    let kept = row_sound(n, row);
+    let kept = rows_sound(f, n, node);
     let stored = tuples_sound(n, node);
     kept & (ok & stored)
 }
@@ -310,8 +266,7 @@ fn is_zero_node(node: Node) -> bool
         ok = ok & good;
         i += 1;
     }
-    let row = node.row;
-    let barred = is_zero_row(row);
+    let barred = no_rows(node);
     let none = stores_none(node);
     barred & (ok & none)
 }
@@ -630,12 +585,12 @@ fn is_zero_instruction(c: Instruction) -> bool
 // ---- the net
 
 // The node of address a.
-fn node_at_sound(n: usize, k: usize, a: Locality, node: Node) -> bool
-    ensures { λ r. ⌜ r ≡ choose (ltb (a .0) n) (nodeSound n k node) (isZeroNode node) ⌝ }
+fn node_at_sound(f: usize, n: usize, k: usize, a: Locality, node: Node) -> bool
+    ensures { λ r. ⌜ r ≡ choose (ltb (a .0) n) (nodeSound f n k node) (isZeroNode node) ⌝ }
 {
     let at = a.0 as usize;
     if at < n {
-        node_sound(n, k, node)
+        node_sound(f, n, k, node)
     } else {
         is_zero_node(node)
     }
@@ -648,7 +603,13 @@ fn nodes_sound(net: Net) -> bool
     let mut a = 0;
     while a < 16 {
         let node = net.nodes[a];
-        let good = node_at_sound(net.addresses, net.length, Locality(a as u8), node);
+        let good = node_at_sound(
+            net.format,
+            net.addresses,
+            net.length,
+            Locality(a as u8),
+            node,
+        );
         ok = ok & good;
         a += 1;
     }

@@ -10,10 +10,10 @@ use Rattle.sound.proofs.soundness.node_sound.Statement.{statement}
 use Rattle.sound.proofs.soundness.node_sound.Tie as tie
 
 abbrev Inv-loop : tie.InvT-loop
-Inv-loop n k node ok₀ i₀ ok i = (i ≤ 4) × (ok ≡ all i (λ m. processSound n k (processAt node m)))
+Inv-loop f n k node ok₀ i₀ ok i = (i ≤ 4) × (ok ≡ all i (λ m. processSound n k (processAt node m)))
 
 abbrev μ-loop : tie.MeasureT-loop
-μ-loop n k node ok₀ i₀ ok i = 4 - i
+μ-loop f n k node ok₀ i₀ ok i = 4 - i
 
 pub node-sound-spec : {M : Type 1} → statement M
 unfolding nodeSound processAt

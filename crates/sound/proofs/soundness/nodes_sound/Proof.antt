@@ -15,7 +15,7 @@ Inv-loop net ok₀ a₀ ok a =
     (a ≤ 16) ×
     (ok ≡ all a
     (λ m. choose (ltb m (net .addresses))
-    (nodeSound (net .addresses) (net .length) (nodeAt net (addressOf m)))
+    (nodeSound (net .format) (net .addresses) (net .length) (nodeAt net (addressOf m)))
     (isZeroNode (nodeAt net (addressOf m)))))
 
 abbrev μ-loop : tie.MeasureT-loop

@@ -1,9 +1,9 @@
--- `sound::soundness::is_none` meets its contract: four tests joined. Assumes nothing.
+-- `sound::rows::is_none` meets its contract: four tests joined. Assumes nothing.
 use Rattle.sound.specs.Soundness.{isNone}
 use Rattle.net.proofs.AllLaws.{and-both}
 use borrow.Author.Needs.{needs}
-use Rattle.sound.proofs.soundness.is_none.Statement.{statement}
-use Rattle.sound.proofs.soundness.is_none.Tie as tie
+use Rattle.sound.proofs.rows.is_none.Statement.{statement}
+use Rattle.sound.proofs.rows.is_none.Tie as tie
 
 pub is-none-spec : {M : Type 1} → statement M
 unfolding isNone

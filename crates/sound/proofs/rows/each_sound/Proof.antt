@@ -1,0 +1,32 @@
+-- `sound::rows::each_sound` meets its contract: `ok` joins the tests at the numbers below the counter. Assumes nothing.
+use Prim.Native.Nat.{_≤_, _-_}
+use mathlib.Core.Path.{_≡_}
+use Rattle.net.specs.Records.{rowAt, addressOf}
+use Rattle.sound.specs.Soundness.{rowSound}
+use Rattle.net.specs.Choice.{all}
+use Rattle.net.proofs.AllLaws.{all-none, all-more, all-end}
+use borrow.Author.Needs.{needs}
+use Rattle.sound.proofs.rows.each_sound.Statement.{statement}
+use Rattle.sound.proofs.rows.each_sound.Tie as tie
+
+abbrev Inv-loop : tie.InvT-loop
+Inv-loop n node ok₀ i₀ ok i = (i ≤ 16) × (ok ≡ all i (λ m. rowSound n (rowAt node (addressOf m))))
+
+abbrev μ-loop : tie.MeasureT-loop
+μ-loop n node ok₀ i₀ ok i = 16 - i
+
+pub each-sound-spec : {M : Type 1} → statement M
+unfolding rowAt
+each-sound-spec =
+    tie.close
+    (tie.spec
+    Inv-loop
+    μ-loop
+    (λ c. search (needs, all-none))
+    (λ c. search needs)
+    (λ c. search needs)
+    (λ c κs. search needs)
+    (λ c. search needs)
+    (λ c. search needs)
+    (λ c. search (needs, all-more))
+    (λ c. search (needs, all-end)))
