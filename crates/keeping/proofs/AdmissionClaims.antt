@@ -1,7 +1,7 @@
 -- The claim of `specs/AdmissionClaims.antt`: the computed check of starting processes is what it means. Assumes nothing.
 use native.Mathlib.Omega.{arith}
 use borrow.Author.Tests.{ltb-true, lt-ltb}
-use Rattle.net.specs.Records.{addressOf, nodeAt, rowFor}
+use Rattle.net.specs.Records.{addressOf, nodeAt}
 use Rattle.keeping.specs.ReachingClaims.{KeepsIsEvery}
 use Rattle.keeping.specs.Admission.{admitsProcess, admitsNode, admitsAt, admits}
 use Rattle.keeping.specs.AdmissionClaims.{AdmitsIsWithin}
@@ -9,7 +9,7 @@ use Rattle.net.proofs.Laws.{implies-i, implies-e, all-i, all-e}
 use Rattle.keeping.proofs.Reached.{keepsIsEvery}
 
 pub admitsIsWithin : AdmitsIsWithin
-unfolding AdmitsIsWithin admits admitsAt admitsNode admitsProcess KeepsIsEvery nodeAt rowFor
+unfolding AdmitsIsWithin admits admitsAt admitsNode admitsProcess KeepsIsEvery nodeAt
 admitsIsWithin s few short = (
   λ h. record {
     permitted = λ a slot q used low busy m.

@@ -1,4 +1,5 @@
-// Admission (document 01, "Reaching and rights"): whether the processes of a net keep within the rows of their nodes.
+// Admission (document 01, "Reaching and rights"): whether the processes of a net keep within the rows of their nodes,
+// each within the row for its origin (document 02, slip 10).
 use crate::rights::keeps;
 use net::instruction::Instruction;
 use net::locality::Locality;
@@ -9,20 +10,20 @@ ghost use Prim.Native.Nat.{_<_};
 ghost use mathlib.Core.Path.{_≡_};
 ghost use Rattle.keeping.specs.Admission.{admitsProcess, admitsNode, admitsAt, admits};
 
-// Whether a process of the node x at address a keeps within its row.
+// Whether a process of the node x at address a keeps within the row for its origin.
 pub fn admits_process(code: [Instruction; 512], x: Node, a: Locality, p: Process) -> bool
     ensures { λ r. ⌜ r ≡ admitsProcess code x a p ⌝ }
 {
     let at = p.at;
-    let row = x.row_for(p);
     if p.busy {
+        let row = x.row_for(p);
         keeps(code, at, a, row)
     } else {
         true
     }
 }
 
-// Whether each process of a node keeps within its row.
+// Whether each process of a node does.
 fn admits_node(code: [Instruction; 512], a: Locality, x: Node) -> bool
     ensures { λ r. ⌜ r ≡ admitsNode code a x ⌝ }
 {
@@ -52,7 +53,7 @@ fn admits_at(net: Net, a: Locality) -> bool
     }
 }
 
-// Whether each starting process keeps within the row of its node.
+// Whether each starting process of a net does.
 pub fn admitted(net: Net) -> bool
     ensures { λ r. ⌜ r ≡ admits net ⌝ }
 {
