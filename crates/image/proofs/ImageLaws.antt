@@ -6,7 +6,8 @@ use mathlib.Core.Bool.{Bool}
 use mathlib.Core.List.{List}
 use lib.ListN.{set}
 use Rattle.image.specs.Types.{Step, Locality, Place, Item, Tuple, Rights, Row, Process, Node, Changed, Instruction, Net}
-use Rattle.net.specs.Records.{startingAt, processAt, nodeAt, marked, withField, withRights, withRow, withProcess, withTuple, putIn, withNode, withInstruction}
+use Rattle.net.specs.Records.{startingAt, processAt, nodeAt, alike, marked, withField, withRights, withRow, withRows, withProcess}
+use Rattle.net.specs.Records.{withTuple, putIn, withNode, withInstruction}
 use Rattle.net.specs.Records.{addressOf, placeOf}
 use Rattle.keeping.specs.Admission.{admitsProcess}
 use Rattle.readers.specs.Reader.{requireIn}
@@ -14,7 +15,8 @@ use Rattle.readers.specs.Progress.{placeOfStep, Went}
 use Rattle.bitreader.specs.BitReader.{field, bits}
 use Rattle.bitreader.specs.Fields.{place}
 use Rattle.instructions.specs.Instruction.{instruction}
-use Rattle.image.specs.Image.{rightsOf, rights, row, rowOf, process, processes, processesOf, entry, entries, entriesOf}
+use Rattle.image.specs.Image.{rightsOf, rights, row, singleRow, rowFrom, nodeRows, rowsOf}
+use Rattle.image.specs.Image.{process, processes, processesOf, entry, entries, entriesOf}
 use Rattle.image.specs.Image.{item, tupleField, tuple, stored, tuples, tuplesOf, instructionOf}
 use Rattle.readers.proofs.ReaderLaws.{on, stop, stop-as, passes}
 
@@ -24,10 +26,20 @@ module _ (s : List ℕ) (p q : Step) where
   unfolding rights bits withRights
   rights-turn v i r x w e = on s p q q _ _ v _ w (stop-as s q _ _ (ap (λ (y : Rights). withRights r (addressOf i) y) e))
 
-  pub row-turn : (n i : ℕ) (net : Net) (r : Row) → Went s p (row n) q r → net .addresses ≡ n
-      → Went s p (rowOf (addressOf i) net) q (withNode net (addressOf i) (withRow (nodeAt net (addressOf i)) r))
-  unfolding rowOf
-  row-turn n i net r w e = on s p q q _ _ r _ (rw e w) (stop s q _)
+  pub single-parts : (n : ℕ) (x : Node) (r : Row) (rs : List Row) → Went s p (row n) q r → rs ≡ alike r
+      → Went s p (singleRow n x) q (withRows x rs)
+  unfolding singleRow
+  single-parts n x r rs w e = on s p q q _ _ r _ w (stop-as s q _ _ (ap (withRows x) e))
+
+  pub row-turn : (n i : ℕ) (x : Node) (r : Row) → Went s p (row n) q r
+      → Went s p (rowFrom n (addressOf i) x) q (withRow x (addressOf i) r)
+  unfolding rowFrom
+  row-turn n i x r w = on s p q q _ _ r _ w (stop s q _)
+
+  pub rows-turn : (f n i : ℕ) (net : Net) (x : Node) → Went s p (nodeRows f n (nodeAt net (addressOf i))) q x
+      → net .format ≡ f → net .addresses ≡ n → Went s p (rowsOf (addressOf i) net) q (withNode net (addressOf i) x)
+  unfolding rowsOf nodeAt
+  rows-turn f n i net x w d e = on s p q q _ _ x _ (rw (d, e) w) (stop s q _)
 
   pub process-turn : (a : Locality) (k i : ℕ) (x : Node) (at : Place) (started : Process) → Went s p (place k) q at
       → started ≡ startingAt a at → Went s p (process a k i x) q (withProcess x i started)

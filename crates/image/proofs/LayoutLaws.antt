@@ -6,7 +6,7 @@ use mathlib.Core.List.{List}
 use native.Mathlib.Omega.{arith}
 use lib.ListN.{take}
 use Rattle.net.specs.Choice.{choose}
-use Rattle.net.specs.Records.{emptyNet, withCounts}
+use Rattle.net.specs.Records.{emptyNet, withCounts, withFormat}
 use Rattle.keeping.specs.Admission.{admits}
 use Rattle.image.specs.Types.{Fault, Step, Net}
 use Rattle.readers.specs.Reader.{Parsed, got, fault, faultAt}
@@ -18,18 +18,18 @@ use Rattle.image.specs.Image.{Opened, header, rows, allProcesses, allTup
 use Rattle.image.specs.Image.{endOf, beyondRow, accepted, refused, judgedNet, openedOf}
 use Rattle.image.specs.Progress.{NetRead, Headed, Built}
 use Rattle.readers.proofs.ReaderLaws.{on, next, stop, stop-as}
-use Rattle.image.proofs.FirstBytes.{layout-closes, allEntries-within}
+use Rattle.image.proofs.FirstBytes.{afterHeader, layout-closes, allEntries-within}
 
 -- ---- the header
 pub headed : (s : List ℕ) (q₁ q₂ q₃ : Step) (v n k : ℕ) (e : Net)
-    → Went s (Step.At 0) (field 4 1 2 21) q₁ v → Went s q₁ (field 5 1 17 22) q₂ n → Went s q₂ (field 10 1 513 22) q₃ k
+    → Went s (Step.At 0) (field 4 1 3 21) q₁ v → Went s q₁ (field 5 1 17 22) q₂ n → Went s q₂ (field 10 1 513 22) q₃ k
     → n ≤ 17 - 1 → k ≤ 513 - 1 → e ≡ emptyNet
-    → Headed s header (record { net = record { addresses = n; length = k; nodes = e .nodes; code = e .code }; next = q₃ })
-unfolding header withCounts
+    → Headed s header (record { net = record { format = v; addresses = n; length = k; nodes = e .nodes; code = e .code }; next = q₃ })
+unfolding header withCounts withFormat
 headed s q₁ q₂ q₃ v n k e a b c h l d = record {
   read =
       on s _ q₁ q₃ _ _ v _ a
-      (on s q₁ q₂ q₃ _ _ n _ b (on s q₂ q₃ q₃ _ _ k _ c (stop-as s q₃ _ _ (ap (λ (x : Net). withCounts x n k) d))));
+      (on s q₁ q₂ q₃ _ _ n _ b (on s q₂ q₃ q₃ _ _ k _ c (stop-as s q₃ _ _ (ap (λ (x : Net). withCounts (withFormat x v) n k) d))));
   addresses = omega arith;
   length = omega arith;
 }
@@ -76,16 +76,16 @@ pub refused-as : (r : Opened) (f g : Fault) → r ≡ refused f → f ≡ g → 
 refused-as r f g e d = e ∙ ap refused d
 
 -- its first bytes decide
-beyond-take : (s : List ℕ) (k : ℕ) (net : Net) → 19 + (16 * 65 + 16 * 39) ≤ 8 * k → beyondRow (take k s) net ≡ beyondRow s net
+beyond-take : (s : List ℕ) (k : ℕ) (net : Net) → 19 + (16 * (16 * 65) + 16 * 39) ≤ 8 * k → beyondRow (take k s) net ≡ beyondRow s net
 unfolding beyondRow
 beyond-take s k net l = ap (λ (o : Parsed (Unit {0})). faultAt 30 (endOf o) 9) (allEntries-within net .same s 0 k l)
 
-judged-take : (s : List ℕ) (k : ℕ) (o : Parsed Net) → 19 + (16 * 65 + 16 * 39) ≤ 8 * k → judgedNet (take k s) o ≡ judgedNet s o
+judged-take : (s : List ℕ) (k : ℕ) (o : Parsed Net) → 19 + (16 * (16 * 65) + 16 * 39) ≤ 8 * k → judgedNet (take k s) o ≡ judgedNet s o
 unfolding judgedNet
 judged-take s k (got net p) l = ap (λ (f : Fault). choose (admits net) (accepted net) (refused f)) (beyond-take s k net l)
 judged-take s k (fault f) l = refl
 
-pub opened-take : (s : List ℕ) (k : ℕ) → 117995 ≤ 8 * k → openedOf (take k s) ≡ openedOf s
+pub opened-take : (s : List ℕ) (k : ℕ) → 19 + afterHeader (16 * 65) ≤ 8 * k → openedOf (take k s) ≡ openedOf s
 unfolding openedOf
 opened-take s k l =
     judged-take s k (layout (take k s) 0) (omega arith) ∙ ap (judgedNet s) (layout-closes .same s 0 k (omega arith))

@@ -10,7 +10,8 @@ use lib.Dec.{eqb}
 use Rattle.net.specs.Choice.{choose}
 use Rattle.image.specs.Types.{Fault, Locality, Place, Item, Tuple, Rights, Row, Node, Instruction, Net}
 use Rattle.net.specs.Records.{nodeAt, processAt, startingAt, zeroTuple, zeroRow, emptyNet, addressOf, placeOf}
-use Rattle.net.specs.Records.{marked, withField, withRights, withRow, withProcess, withTuple, withNode, withInstruction, withCounts}
+use Rattle.net.specs.Records.{marked, withField, withRights, withRow, withRows, withProcess, withTuple, withNode}
+use Rattle.net.specs.Records.{alike, withInstruction, withCounts, withFormat}
 use Rattle.keeping.specs.Admission.{admitsProcess, admits}
 use Rattle.readers.specs.Reader.{Parsed, got, fault, Reader, pure, _>>=_, _>>_, each, faultAt, tested}
 use Rattle.bitreader.specs.BitReader.{field, bits}
@@ -28,12 +29,13 @@ eachPlace k f a = each k (λ i. f (placeOf i)) a
 -- ---- 1. format, address count, code length
 unfoldable pub header : Reader Net
 header = do
-  format ← field 4 1 2 21
+  format ← field 4 1 3 21
   n ← field 5 1 17 22
   k ← field 10 1 513 22
-  pure (withCounts emptyNet n k)
+  pure (withCounts (withFormat emptyNet format) n k)
 
--- ---- 2. for each address a row: n, and for each address i, r, o, e
+-- ---- 2. for each address a row: n, and for each address i, r, o, e. "In format 2 each node has a row for every origin in use,
+-- ascending, in place of its single row" (document 02, slip 10); in format 1 the single row is that for every origin
 unfoldable pub isSetBit : ℕ → ℕ → Bool
 isSetBit v unit = eqb (v / unit % 2) 1
 
@@ -53,13 +55,26 @@ row n = do
   v ← bits 1
   eachAddress n rights (creating v)
 
-unfoldable pub rowOf : Locality → Net → Reader Net
-rowOf a s = do
-  r ← row (s .addresses)
-  pure (withNode s a (withRow (nodeAt s a) r))
+unfoldable pub singleRow : ℕ → Node → Reader Node
+singleRow n x = do
+  r ← row n
+  pure (withRows x (alike r))
+
+unfoldable pub rowFrom : ℕ → Locality → Node → Reader Node
+rowFrom n o x = do
+  r ← row n
+  pure (withRow x o r)
+
+unfoldable pub nodeRows : ℕ → ℕ → Node → Reader Node
+nodeRows f n x = choose (eqb f 1) (singleRow n x) (eachAddress n (rowFrom n) x)
+
+unfoldable pub rowsOf : Locality → Net → Reader Net
+rowsOf a s = do
+  x ← nodeRows (s .format) (s .addresses) (nodeAt s a)
+  pure (withNode s a x)
 
 unfoldable pub rows : Net → Reader Net
-rows s = eachAddress (s .addresses) rowOf s
+rows s = eachAddress (s .addresses) rowsOf s
 
 -- ---- 3. for each address its processes, which fill slots 0 upward; each has its own node as origin (document 02, slip 10)
 unfoldable pub process : Locality → ℕ → ℕ → Node → Reader Node

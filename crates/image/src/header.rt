@@ -1,4 +1,4 @@
-// The header of an image (document 01, "The image", part 1).
+// The header of an image (document 01, "The image", part 1; document 02, slip 10).
 use crate::built::NetRead;
 use bitreader::bits::take;
 use net::network::Net;
@@ -12,13 +12,14 @@ pub(crate) fn read_header(s: &[u8]) -> NetRead
     ensures { λ r. ⌜ Headed (seen (now (s .entry))) header r ⌝ }
 {
     let start = Step::At(0);
-    let format = take(s, start, 4, 1, 2, 21);
+    let format = take(s, start, 4, 1, 3, 21);
     let second = format.next;
     let addresses = take(s, second, 5, 1, 17, 22);
     let third = addresses.next;
     let length = take(s, third, 10, 1, 513, 22);
     let next = length.next;
     let mut net = Net::empty();
+    net.format = format.value;
     net.addresses = addresses.value;
     net.length = length.value;
     NetRead { net, next }

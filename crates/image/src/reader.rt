@@ -20,9 +20,9 @@ ghost use Rattle.bitreader.specs.Progress.{seen};
 ghost use Rattle.image.specs.Types.{Step};
 ghost use Rattle.readers.specs.Progress.{Went};
 
-// How many bytes the longest accepted image has: one more of an image decides what it gives (proved: `FirstBytesDecide` of
-// the crate `accepted`).
-pub const LONGEST_IMAGE: usize = 14749;
+// How many bytes the longest accepted image has, one of format 2: one byte more of an image decides what it gives (proved:
+// `FirstBytesDecide` of the crate `accepted`).
+pub const LONGEST_IMAGE: usize = 16699;
 
 // What reading an image answers: a refusal has its fault, with the bit at which the field at fault begins.
 pub enum Verdict {

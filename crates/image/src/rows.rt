@@ -1,13 +1,16 @@
-// Rows of an image (document 01, "The image", part 2).
+// Rows of an image (document 01, "The image", part 2; document 02, slip 10).
 use crate::built::NetRead;
+use crate::built::NodeRead;
 use bitreader::bits::take;
 use net::network::Net;
+use net::node::Node;
 use net::policy::Rights;
 use net::policy::Row;
 use readers::step::Step;
 ghost use Prim.Native.Nat.{_<_, _≤_};
 ghost use mathlib.Core.Path.{_≡_};
-ghost use Rattle.image.specs.Image.{isSetBit, rightsOf, creating, eachAddress, rights, row, rows};
+ghost use Rattle.image.specs.Image.{isSetBit, rightsOf, creating, eachAddress, rights, row};
+ghost use Rattle.image.specs.Image.{singleRow, rowFrom, nodeRows, rows};
 ghost use Rattle.image.specs.Progress.{Built};
 ghost use Rattle.bitreader.specs.Progress.{seen};
 ghost use Rattle.readers.specs.Progress.{Went};
@@ -81,21 +84,65 @@ fn read_row(s: &[u8], from: Step, n: usize) -> RowRead
     read_rights(s, next, n, start)
 }
 
-// A row for each address.
-pub(crate) fn read_rows(s: &[u8], from: Step, start: Net) -> NetRead
-    requires { ⌜ start .addresses ≤ 16 ⌝ }
-    ensures { λ r. ⌜ Built (seen (now (s .entry))) from (rows start) start r ⌝ }
+// Format 1: the node with a single row, which is that for every origin.
+fn read_single(s: &[u8], from: Step, n: usize, start: Node) -> NodeRead
+    requires { ⌜ n ≤ 16 ⌝ }
+    ensures { λ r. ⌜ Went (seen (now (s .entry))) from (singleRow n start) (r .next) (r .node) ⌝ }
 {
-    let n = start.addresses;
-    let mut net = start;
+    let got = read_row(s, from, n);
+    let row = got.row;
+    let rows = row.alike();
+    let mut node = start;
+    node.rows = rows;
+    let next = got.next;
+    NodeRead { node, next }
+}
+
+// Format 2: the node with a row for each of n origins.
+fn read_by_origin(s: &[u8], from: Step, n: usize, start: Node) -> NodeRead
+    requires { ⌜ n ≤ 16 ⌝ }
+    ensures { λ r. ⌜ Went (seen (now (s .entry))) from (eachAddress n (rowFrom n) start) (r .next) (r .node) ⌝ }
+{
+    let mut node = start;
     let mut step = from;
     let mut i = 0;
     while i < n {
         let got = read_row(s, step, n);
         let row = got.row;
-        let mut node = net.nodes[i];
-        node.row = row;
-        net.nodes[i] = node;
+        node.rows[i] = row;
+        step = got.next;
+        i += 1;
+    }
+    NodeRead { node, next: step }
+}
+
+// The node with its rows.
+fn read_node_rows(s: &[u8], from: Step, format: usize, n: usize, start: Node) -> NodeRead
+    requires { ⌜ n ≤ 16 ⌝ }
+    ensures { λ r. ⌜ Went (seen (now (s .entry))) from (nodeRows format n start) (r .next) (r .node) ⌝ }
+{
+    if format == 1 {
+        read_single(s, from, n, start)
+    } else {
+        read_by_origin(s, from, n, start)
+    }
+}
+
+// The rows of each address.
+pub(crate) fn read_rows(s: &[u8], from: Step, start: Net) -> NetRead
+    requires { ⌜ start .addresses ≤ 16 ⌝ }
+    ensures { λ r. ⌜ Built (seen (now (s .entry))) from (rows start) start r ⌝ }
+{
+    let format = start.format;
+    let n = start.addresses;
+    let mut net = start;
+    let mut step = from;
+    let mut i = 0;
+    while i < n {
+        let node = net.nodes[i];
+        let got = read_node_rows(s, step, format, n, node);
+        let ruled = got.node;
+        net.nodes[i] = ruled;
         step = got.next;
         i += 1;
     }
