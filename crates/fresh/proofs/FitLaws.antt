@@ -8,14 +8,14 @@ use lib.ListN.{length, getD}
 use lib.Dec.{eqb}
 use borrow.Author.Tests.{eq-eqb}
 use Rattle.net.specs.Choice.{both, all}
-use Rattle.net.specs.Records.{zeroField, zeroTuple, freeProcess, zeroRow, zeroNode, zeroTemplateField, zeroInstruction}
-use Rattle.net.specs.Records.{fieldAt, processAt, tupleAt, patternAt, nodeAt, instructionAt, withAction}
+use Rattle.net.specs.Records.{zeroField, zeroTuple, freeProcess, alike, zeroRow, zeroNode, zeroTemplateField, zeroInstruction}
+use Rattle.net.specs.Records.{fieldAt, rowAt, processAt, tupleAt, patternAt, nodeAt, instructionAt, withAction}
 use Rattle.net.specs.declared.instruction.Action.{Action}
 use Rattle.net.proofs.Laws.{both-i, all-i}
 use Rattle.net.proofs.Every.{Every}
 use Rattle.net.proofs.Past.{pastNode, pastInstruction}
 use Rattle.fresh.specs.Types.{Instruction, Net}
-use Rattle.fresh.specs.Fresh.{readingFits, itemFits, patternFits, tupleFits, processFits, nodeFits, instructionFits, netFits}
+use Rattle.fresh.specs.Fresh.{readingFits, itemFits, patternFits, tupleFits, processFits, rowFits, nodeFits, instructionFits, netFits}
 
 pub array-fits :
     {A : Type 0} {d : A} {size : ℕ} {xs : List A} (test : A → Bool) → Every (λ i x. test x ≡ true) d size xs
@@ -35,7 +35,7 @@ action-fits c a h = h
 
 -- ---- the zero records
 pub zero-node-fits : nodeFits zeroNode ≡ true
-unfolding nodeFits zeroNode zeroRow processAt tupleAt freeProcess zeroTuple processFits tupleFits fieldAt zeroField itemFits readingFits all both
+unfolding nodeFits zeroNode alike zeroRow rowAt processAt tupleAt freeProcess zeroTuple rowFits processFits tupleFits fieldAt zeroField itemFits readingFits all both
 zero-node-fits = refl
 
 pub zero-instruction-fits : instructionFits zeroInstruction ≡ true

@@ -20,14 +20,15 @@ use Rattle.net.proofs.instruction.Pattern as pattern
 use Rattle.net.proofs.network.Net as net
 use Rattle.net.proofs.node.Node as node
 use Rattle.net.proofs.policy.Rights as rights
+use Rattle.net.proofs.policy.Row as policy
 use Rattle.net.proofs.process.Process as process
 use Rattle.net.proofs.tuple.Field as tupleField
 use Rattle.net.proofs.tuple.Item as item
 use Rattle.net.proofs.tuple.Tuple as tuple
 use Rattle.net.proofs.tuple.Variable as variable
-use Rattle.net.specs.Records.{fieldAt, patternAt, processAt, tupleAt, nodeAt, instructionAt}
-use Rattle.fresh.specs.Types.{Item, Field, Tuple, Process, Node, Pattern, TemplateField, Instruction, Net}
-use Rattle.fresh.specs.Fresh.{readingFits, itemFits, patternFits, tupleFits, processFits, nodeFits, instructionFits, netFits}
+use Rattle.net.specs.Records.{fieldAt, patternAt, rowAt, processAt, tupleAt, nodeAt, instructionAt}
+use Rattle.fresh.specs.Types.{Item, Field, Tuple, Row, Process, Node, Pattern, TemplateField, Instruction, Net}
+use Rattle.fresh.specs.Fresh.{readingFits, itemFits, patternFits, tupleFits, processFits, rowFits, nodeFits, instructionFits, netFits}
 
 reading-fits : (z : ℤ) → mag z < 2147483648 → readingFits z ≡ true
 unfolding readingFits
@@ -71,6 +72,10 @@ process-fits :
 unfolding processFits
 process-fits p vs h = eq-eqb _ _ (long variable.the-type (p .variables) 8 _ (h .1 .1 .1 .1 .1 .0))
 
+row-fits : (r : Row) (vs : List Val) → Is (field policy.the-type .row) (policy.the-type .to r) vs → rowFits r ≡ true
+unfolding rowFits
+row-fits r vs h = eq-eqb _ _ (long rights.the-type (r .rights) 16 _ (h .1 .1 .1 .0))
+
 instruction-fits :
     (c : Instruction) (vs : List Val) → Is (field instruction.the-type .row) (instruction.the-type .to c) vs
     → instructionFits c ≡ true
@@ -82,12 +87,14 @@ instruction-fits c vs h =
     (element templateField.the-type (λ f. patternFits (f .pattern) ≡ true) template-field-fits (c .template) 4 _ known _))
 
 node-fits : (x : Node) (vs : List Val) → Is (field node.the-type .row) (node.the-type .to x) vs → nodeFits x ≡ true
-unfolding nodeFits processAt tupleAt
+unfolding nodeFits rowAt processAt tupleAt
 node-fits x vs h =
-    let row-known = h .1 .1 .0 in
+    let rows-known = h .1 .1 .0 in
     let processes-known = h .1 .1 .1 .0 in
     let tuples-known = h .1 .1 .1 .1 .1 .0 in
-    both-i _ _ (eq-eqb _ _ (long rights.the-type (x .row .rights) 16 _ (row-known .1 .1 .1 .0)))
+    both-i _ _
+    (both-i _ _ (eq-eqb _ _ (long policy.the-type (x .rows) 16 _ rows-known))
+    (all-i 16 _ (element policy.the-type (λ r. rowFits r ≡ true) row-fits (x .rows) 16 _ rows-known _)))
     (both-i _ _
     (both-i _ _ (eq-eqb _ _ (long process.the-type (x .processes) 4 _ processes-known))
     (all-i 4 _ (element process.the-type (λ p. processFits p ≡ true) process-fits (x .processes) 4 _ processes-known _)))
@@ -97,8 +104,8 @@ node-fits x vs h =
 net-fits : (s : Net) (vs : List Val) → Is (field net.the-type .row) (net.the-type .to s) vs → netFits s ≡ true
 unfolding netFits nodeAt instructionAt
 net-fits s vs h =
-    let nodes-known = h .1 .1 .1 .1 .0 in
-    let code-known = h .1 .1 .1 .1 .1 .0 in
+    let nodes-known = h .1 .1 .1 .1 .1 .0 in
+    let code-known = h .1 .1 .1 .1 .1 .1 .0 in
     both-i _ _
     (both-i _ _ (eq-eqb _ _ (long node.the-type (s .nodes) 16 _ nodes-known))
     (all-i 16 _ (element node.the-type (λ x. nodeFits x ≡ true) node-fits (s .nodes) 16 _ nodes-known _)))

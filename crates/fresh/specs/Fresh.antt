@@ -7,9 +7,9 @@ use lib.ListN.{length}
 use lib.Dec.{eqb, ltb}
 use lib.IntN.{ℤ}
 use Rattle.net.specs.Choice.{choose, both, implies, all}
-use Rattle.net.specs.Records.{fieldAt, processAt, tupleAt, patternAt, nodeAt, instructionAt, addressOf, placeOf, processCount}
+use Rattle.net.specs.Records.{fieldAt, rowAt, processAt, tupleAt, patternAt, nodeAt, instructionAt, addressOf, placeOf, processCount}
 use Rattle.sound.specs.Soundness.{allUnset, soundOf}
-use Rattle.fresh.specs.Types.{Locality, Item, Tuple, Process, Node, Pattern, Instruction, Net}
+use Rattle.fresh.specs.Types.{Locality, Item, Tuple, Row, Process, Node, Pattern, Instruction, Net}
 use Rattle.keeping.specs.Admission.{admits}
 
 -- ---- what the types of a running program fix and the definitions' lists and whole numbers do not: readings of 32
@@ -36,9 +36,12 @@ tupleFits t = both (eqb (length (t .fields)) 4) (all 4 (λ i. itemFits (fieldAt 
 unfoldable pub processFits : Process → Bool
 processFits p = eqb (length (p .variables)) 8
 
+unfoldable pub rowFits : Row → Bool
+rowFits r = eqb (length (r .rights)) 16
+
 unfoldable pub nodeFits : Node → Bool
 nodeFits x =
-    both (eqb (length (x .row .rights)) 16)
+    both (both (eqb (length (x .rows)) 16) (all 16 (λ o. rowFits (rowAt x (addressOf o)))))
     (both (both (eqb (length (x .processes)) 4) (all 4 (λ i. processFits (processAt x i))))
     (both (eqb (length (x .tuples)) 16) (all 16 (λ i. tupleFits (tupleAt x i)))))
 

@@ -3,6 +3,7 @@ pub use Rattle.net.specs.declared.locality.Locality.{Locality}
 pub use Rattle.net.specs.declared.tuple.Item.{Item}
 pub use Rattle.net.specs.declared.tuple.Field.{Field}
 pub use Rattle.net.specs.declared.tuple.Tuple.{Tuple}
+pub use Rattle.net.specs.declared.policy.Row.{Row}
 pub use Rattle.net.specs.declared.process.Process.{Process}
 pub use Rattle.net.specs.declared.node.Node.{Node}
 pub use Rattle.net.specs.declared.instruction.Pattern.{Pattern}

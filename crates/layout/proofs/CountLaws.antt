@@ -1,4 +1,4 @@
--- The counts of a sound net are within its arrays (`Counts` of `specs/Writing.antt`). Assumes nothing.
+-- The counts of a sound net are within its arrays (`specs/Counts.antt`). Assumes nothing.
 use Prim.Native.Nat.{ℕ, _<_, _≤_}
 use mathlib.Core.Path.{_≡_}
 use mathlib.Core.Bool.{true}
@@ -19,9 +19,9 @@ few-none : zeroTuple .count ≤ 4
 unfolding zeroTuple
 few-none = omega arith
 
-node-few : (n k : ℕ) (x : Node) → NodeOk n k x → NodeCounts x
+node-few : (f n k : ℕ) (x : Node) → NodeOk f n k x → NodeCounts x
 unfolding tupleAt
-node-few n k x ok = record {
+node-few f n k x ok = record {
   stored-few = ok .room;
   fields-few =
       filled-each {Q = λ (t : Tuple). t .count ≤ 4} (ok .tuples-ok) (λ t g. g .most)
@@ -36,6 +36,7 @@ instruction-few n k c =
 pub counts-of : (s : Net) → Shaped s → soundOf s ≡ true → Counts s
 unfolding nodeAt instructionAt
 counts-of s shape h =
+    let f : ℕ = s .format in
     let n : ℕ = s .addresses in
     let k : ℕ = s .length in
     let ok = sound-apart s shape h in
@@ -43,8 +44,8 @@ counts-of s shape h =
       addresses-few = ok .addresses-most;
       length-few = ok .length-most;
       nodes-few = λ a.
-          filled-each {Q = NodeCounts} (ok .nodes-ok) (node-few n k)
-          (of-zero NodeCounts (node-few n k _ (zero-node n k))) (a .0);
+          filled-each {Q = NodeCounts} (ok .nodes-ok) (node-few f n k)
+          (of-zero NodeCounts (node-few f n k _ (zero-node f n k))) (a .0);
       code-few = λ p.
           filled-each {Q = λ (c : Instruction). c .count ≤ 4} (ok .code-ok) (instruction-few n k)
           (of-zero (λ (c : Instruction). c .count ≤ 4) (instruction-few n k _ (zero-instruction n k))) (p .0);

@@ -3,4 +3,5 @@ mod bits;
 mod code;
 mod fields;
 mod nodes;
+mod rows;
 pub mod whole;

@@ -1,4 +1,4 @@
-// What an image writes of the nodes: rows, starting processes and tuples (document 01, "The image", 2 to 4).
+// What an image writes of the nodes: starting processes and tuples (document 01, "The image", 3 and 4).
 use crate::bits::put_bit;
 use crate::bits::put_number;
 use crate::fields::one_less;
@@ -8,69 +8,17 @@ use crate::fields::put_reading;
 use net::locality::Locality;
 use net::network::Net;
 use net::node::Node;
-use net::policy::Rights;
-use net::policy::Row;
 use net::tuple::Item;
 use net::tuple::Tuple;
 ghost use Prim.Native.Nat.{_≤_};
 ghost use mathlib.Core.Bool.{true, false};
 ghost use mathlib.Core.List.{_∷_};
-ghost use Rattle.net.specs.Records.{fieldAt, rightsAt, processAt, tupleAt, addressOf};
-ghost use Rattle.written.specs.ImageOf.{addressBits, placeBits, readingBits, rightsBits, rowBits, processesBits};
+ghost use Rattle.net.specs.Records.{fieldAt, processAt, tupleAt};
+ghost use Rattle.written.specs.ImageOf.{addressBits, placeBits, readingBits, processesBits};
 ghost use Rattle.text.specs.Joined.{joined};
-ghost use Rattle.written.specs.ImageOf.{itemBits, tupleBits, tuplesBits, rowsBits, allProcessesBits, allTuplesBits};
+ghost use Rattle.written.specs.ImageOf.{itemBits, tupleBits, tuplesBits, allProcessesBits, allTuplesBits};
 ghost use Rattle.layout.specs.Counts.{NodeCounts, Counts};
 ghost use Rattle.text.specs.Writing.{Wrote};
-
-// The rights over one address.
-fn put_rights(out: &mut [bool], at: usize, rights: Rights) -> usize
-    ensures { λ r. ⌜ Wrote (now (out .entry)) at (rightsBits rights) (now (out .exit)) r ⌝ }
-{
-    let first = put_bit(out, at, rights.take);
-    let second = put_bit(out, first, rights.read);
-    let third = put_bit(out, second, rights.put);
-    put_bit(out, third, rights.send)
-}
-
-// The rights over each of n addresses.
-fn put_all_rights(out: &mut [bool], at: usize, n: usize, row: Row) -> usize
-    requires { ⌜ n ≤ 16 ⌝ }
-    ensures { λ r. ⌜ Wrote (now (out .entry)) at (joined n (λ l. rightsBits (rightsAt row (addressOf l)))) (now (out .exit)) r ⌝ }
-{
-    let mut next = at;
-    let mut i = 0;
-    while i < n {
-        let rights = row.rights[i];
-        next = put_rights(out, next, rights);
-        i += 1;
-    }
-    next
-}
-
-// A row.
-fn put_row(out: &mut [bool], at: usize, n: usize, row: Row) -> usize
-    requires { ⌜ n ≤ 16 ⌝ }
-    ensures { λ r. ⌜ Wrote (now (out .entry)) at (rowBits n row) (now (out .exit)) r ⌝ }
-{
-    let next = put_bit(out, at, row.create);
-    put_all_rights(out, next, n, row)
-}
-
-// Each row.
-pub(crate) fn put_rows(out: &mut [bool], at: usize, net: Net) -> usize
-    requires { ⌜ Counts net ⌝ }
-    ensures { λ r. ⌜ Wrote (now (out .entry)) at (rowsBits net) (now (out .exit)) r ⌝ }
-{
-    let n = net.addresses;
-    let mut next = at;
-    let mut i = 0;
-    while i < n {
-        let x = net.nodes[i];
-        next = put_row(out, next, n, x.row);
-        i += 1;
-    }
-    next
-}
 
 // The first place of each of n processes.
 fn put_places(out: &mut [bool], at: usize, n: usize, x: Node) -> usize

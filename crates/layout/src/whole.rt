@@ -3,7 +3,7 @@ use crate::bits::put_number;
 use crate::code::put_code;
 use crate::nodes::put_all_processes;
 use crate::nodes::put_all_tuples;
-use crate::nodes::put_rows;
+use crate::rows::put_rows;
 use net::network::Net;
 ghost use mathlib.Core.List.{_++_};
 ghost use Rattle.layout.specs.Counts.{Counts};
@@ -14,7 +14,7 @@ ghost use Rattle.written.specs.ImageOf.{headerBits, rowsBits, allProcessesBits,
 fn put_header(out: &mut [bool], at: usize, net: Net) -> usize
     ensures { λ r. ⌜ Wrote (now (out .entry)) at (headerBits net) (now (out .exit)) r ⌝ }
 {
-    let first = put_number(out, at, 4, 1);
+    let first = put_number(out, at, 4, net.format);
     let second = put_number(out, first, 5, net.addresses);
     put_number(out, second, 10, net.length)
 }

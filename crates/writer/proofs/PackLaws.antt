@@ -5,12 +5,14 @@ use mathlib.Core.Bool.{Bool, true, false}
 use mathlib.Core.List.{List, [], _∷_, _++_}
 use native.Mathlib.Omega.{arith}
 use native.Mathlib.Decide.{decLe}
+use lib.Dec.{eqb}
 use lib.ListN.{length, getD, replicate, length-replicate, getD-replicate, List·getD-append, List·getD-eq-default, drop}
 use lib.Seq.{sets-eq, getD-append-add, getD-drop}
 use Rattle.sound.specs.Soundness.{soundOf}
+use Rattle.net.proofs.Every.{chosen}
 use Rattle.net.proofs.Laws.{both-l, both-r, choose-true, choose-false}
-use Rattle.image.specs.Image.{accepted}
-use Rattle.accepted.specs.LengthClaims.{longestImage, LongestAccepted}
+use Rattle.image.specs.Image.{openedOf, accepted}
+use Rattle.accepted.specs.LengthClaims.{longestIn, longestImage, LongestAccepted}
 use Rattle.accepted.proofs.LengthClaims.{longestAccepted}
 use Rattle.writer.specs.Types.{Net}
 use Rattle.text.specs.Buffer.{over}
@@ -32,9 +34,15 @@ unfolding freshOf
 fresh-counts net h =
     counts-of net (net-fit net (both-l _ _ h) .shaped) (both-l (soundOf net) _ (both-r (netFits net) _ h))
 
+-- no image of either format is longer than the buffer
+either-fits : (f : ℕ) → longestIn f ≤ longestImage
+unfolding longestIn
+either-fits f = chosen (λ (n : ℕ). n ≤ longestImage) (eqb f 1) _ _ (λ _. omega arith) (λ _. omega arith)
+
 fresh-room : (net : Net) → freshOf net ≡ true → length (netBits net) ≤ 8 * longestImage
 unfolding imageOf LongestAccepted accepted
 fresh-room net h =
+    let most = either-fits (openedOf (imageOf net) .net .format) in
     let short = longestAccepted (imageOf net) (ap (λ o. o .answer) (fresh-accepted net h)) in
     let size = bytes-length (netBits net) in
     omega arith

@@ -7,10 +7,10 @@ use lib.ListN.{length}
 use lib.Dec.{eqb}
 use borrow.Author.Tests.{eqb-true}
 use Rattle.net.specs.Choice.{both, all}
-use Rattle.net.specs.Records.{fieldAt, patternAt, processAt, tupleAt, nodeAt, instructionAt, addressOf, placeOf}
-use Rattle.net.specs.Shape.{ShapedTuple, ShapedProcess, ShapedNode, ShapedInstruction, Shaped}
-use Rattle.written.specs.Types.{Tuple, Process, Node, Instruction, Net}
-use Rattle.fresh.specs.Fresh.{itemFits, patternFits, tupleFits, processFits, nodeFits, instructionFits, netFits}
+use Rattle.net.specs.Records.{fieldAt, patternAt, rowAt, processAt, tupleAt, nodeAt, instructionAt, addressOf, placeOf}
+use Rattle.net.specs.Shape.{ShapedTuple, ShapedRow, ShapedProcess, ShapedNode, ShapedInstruction, Shaped}
+use Rattle.written.specs.Types.{Tuple, Row, Process, Node, Instruction, Net}
+use Rattle.fresh.specs.Fresh.{itemFits, patternFits, tupleFits, processFits, rowFits, nodeFits, instructionFits, netFits}
 use Rattle.net.proofs.Laws.{both-l, both-r, all-e}
 
 pub record TupleFit (t : Tuple) : Type 0 where
@@ -28,6 +28,10 @@ process-fit : (p : Process) → processFits p ≡ true → ShapedProcess p
 unfolding processFits
 process-fit p h = record { variables-are = eqb-true _ _ h }
 
+row-fit : (r : Row) → rowFits r ≡ true → ShapedRow r
+unfolding rowFits
+row-fit r h = record { rights-are = eqb-true _ _ h }
+
 pub record NodeFit (x : Node) : Type 0 where
   pub shaped : ShapedNode x
   pub each-tuple : (i : ℕ) → i < 16 → tupleFits (tupleAt x i) ≡ true
@@ -35,15 +39,17 @@ pub record NodeFit (x : Node) : Type 0 where
 pub node-fit : (x : Node) → nodeFits x ≡ true → NodeFit x
 unfolding nodeFits
 node-fit x h =
-    let g = both-r (eqb (length (x .row .rights)) 16) _ h in
+    let r = both-l _ _ h in
+    let g = both-r (both (eqb (length (x .rows)) 16) (all 16 (λ o. rowFits (rowAt x (addressOf o))))) _ h in
     let p = both-l _ _ g in
     let t = both-r (both (eqb (length (x .processes)) 4) (all 4 (λ i. processFits (processAt x i)))) _ g in
     let each = all-e 16 _ (both-r (eqb (length (x .tuples)) 16) _ t) in
     record {
       shaped = record {
-        rights-are = eqb-true _ _ (both-l _ _ h);
+        rows-are = eqb-true _ _ (both-l _ _ r);
         processes-are = eqb-true _ _ (both-l _ _ p);
         tuples-are = eqb-true _ _ (both-l _ _ t);
+        each-row = λ o l. row-fit _ (all-e 16 _ (both-r (eqb (length (x .rows)) 16) _ r) (o .0) l);
         each-process = λ i l. process-fit _ (all-e 4 _ (both-r (eqb (length (x .processes)) 4) _ p) i l);
         each-tuple = λ i l. tuple-fit _ (each i l) .shaped;
       };

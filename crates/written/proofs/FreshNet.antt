@@ -11,14 +11,14 @@ use lib.Dec.{ltb, eqb}
 use borrow.Author.Tests.{eq-eqb, ltb-true}
 use Rattle.net.specs.Choice.{both, implies, all}
 use Rattle.net.specs.Records.{startingAt, zeroField, zeroTuple, freeProcess, zeroNode, addressOf}
-use Rattle.net.specs.Records.{zeroTemplateField, zeroInstruction, fieldAt, processAt, tupleAt, patternAt, nodeAt}
+use Rattle.net.specs.Records.{zeroTemplateField, zeroInstruction, fieldAt, rowAt, processAt, tupleAt, patternAt, nodeAt}
 use Rattle.net.specs.Records.{instructionAt, withAction}
 use Rattle.written.specs.Types.{Locality, Place, Tuple, Process, Node, Target, Action, Instruction, Net}
 use Rattle.sound.specs.Soundness.{allUnset, soundOf}
-use Rattle.fresh.specs.Fresh.{readingFits, itemFits, patternFits, tupleFits, processFits, nodeFits, instructionFits}
+use Rattle.fresh.specs.Fresh.{readingFits, itemFits, patternFits, tupleFits, processFits, rowFits, nodeFits, instructionFits}
 use Rattle.fresh.specs.Fresh.{netFits, nodeStarts, ownOrigin, ownOrigins, ownMark, ownMarks, startsAt}
 use Rattle.net.proofs.Laws.{both-i, both-l, both-r, implies-i, all-i, all-e}
-use Rattle.net.proofs.Every.{Every, Filled, filled-at}
+use Rattle.net.proofs.Every.{Every, every-weaken, Filled, filled-at}
 use Rattle.net.proofs.SlotLaws.{slot-busy}
 use Rattle.sound.proofs.NetFacts.{sound-apart}
 use Rattle.fresh.proofs.FitLaws as FitLaws
@@ -60,10 +60,10 @@ starts-fit : (a : Locality) (k : ℕ) (p : Process) → Starts a k p → process
 unfolding processFits startingAt
 starts-fit a k p s = ap (λ (q : Process). processFits q) (sym (s .is))
 
-node-fits : (a n k : ℕ) (x : Node) → WithTuples a n k x → nodeFits x ≡ true
-unfolding nodeFits processAt tupleAt processFits freeProcess tupleFits zeroTuple fieldAt zeroField itemFits readingFits all both
-node-fits a n k x ok =
-    both-i _ _ (eq-eqb _ _ (ok .row-ok .rights-ok .size-is))
+node-fits : (a f n k : ℕ) (x : Node) → WithTuples a f n k x → nodeFits x ≡ true
+unfolding nodeFits rowAt processAt tupleAt rowFits processFits freeProcess tupleFits zeroTuple fieldAt zeroField itemFits readingFits all both
+node-fits a f n k x ok =
+    both-i _ _ (array-fits rowFits (every-weaken (ok .rows-ok .each-ok) (λ o r g. eq-eqb _ _ (g .size-is))))
     (both-i _ _ (array-fits processFits (passes processFits (ok .slots-ok .slots .slots-ok) (starts-fit _ k) refl))
     (array-fits tupleFits (passes tupleFits (ok .store-ok .tuples-ok) (tuple-fits _ n) refl)))
 
@@ -97,7 +97,7 @@ module _ (n k : ℕ) (c : Instruction) where
 
 pub net-fits : (s : Net) → NetOk s → netFits s ≡ true
 net-fits s ok =
-    FitLaws.net-fits s (passes-at (λ _. nodeFits) (ok .nodes-ok) (λ a. node-fits a _ _) (λ _. zero-node-fits))
+    FitLaws.net-fits s (passes-at (λ _. nodeFits) (ok .nodes-ok) (λ a. node-fits a _ _ _) (λ _. zero-node-fits))
     (passes instructionFits (ok .code-ok) (instruction-fits _ _) zero-instruction-fits)
 
 -- ---- starting processes
@@ -154,6 +154,7 @@ fresh-ok s f h g =
     let fit = net-fit s f in
     let ok = sound-apart s (fit .shaped) h in
     record {
+      format-ok = record { above = ok .format-least; below = omega (arith, ok .format-most) };
       addresses-ok = record { above = ok .addresses-least; below = omega (arith, ok .addresses-most) };
       length-ok = record { above = ok .length-least; below = omega (arith, ok .length-most) };
       nodes-ok = record {
@@ -163,7 +164,7 @@ fresh-ok s f h g =
             let own = both-r (nodeStarts (nodeAt s (addressOf a))) _ b in
             record {
               used = λ u.
-                  node-ok _ _ _ (fit .each-node a l) (ok .nodes-ok .holds a l .used u) (both-l _ _ b) a
+                  node-ok _ _ _ _ (fit .each-node a l) (ok .nodes-ok .holds a l .used u) (both-l _ _ b) a
                   (both-l _ _ own) (both-r (ownOrigins (addressOf a) (nodeAt s (addressOf a))) _ own);
               unused = λ u. sym (ok .nodes-ok .holds a l .unused u);
             };

@@ -15,7 +15,7 @@ use Rattle.sound.specs.Soundness.{allUnset}
 use Rattle.net.specs.Records.{processCount}
 use Rattle.fresh.specs.Fresh.{tupleFits, nodeFits, slotStarts, nodeStarts, ownOrigin, ownOrigins, ownMark, ownMarks}
 use Rattle.net.proofs.Laws.{both-l, both-r, implies-e, choose-e, choose-else, all-e}
-use Rattle.net.proofs.Every.{chosen, filled-at, filled-map}
+use Rattle.net.proofs.Every.{chosen, filled-at}
 use Rattle.sound.proofs.ZeroClaims.{not-true, all-unset}
 use Rattle.sound.proofs.NodeFacts as sound
 use Rattle.written.proofs.WrittenTuples.{TupleOk}
@@ -57,7 +57,7 @@ starts a n k p shape r u o = record {
   };
 }
 
-module _ (n k : ℕ) (x : Node) (f : nodeFits x ≡ true) (ok : sound.NodeOk n k x) (s : nodeStarts x ≡ true) where
+module _ (f n k : ℕ) (x : Node) (fits : nodeFits x ≡ true) (ok : sound.NodeOk f n k x) (s : nodeStarts x ≡ true) where
   slot : (i : ℕ) → i < 4 → slotStarts x i ≡ true
   unfolding nodeStarts
   slot i l = all-e 4 _ s i l
@@ -87,7 +87,7 @@ module _ (n k : ℕ) (x : Node) (f : nodeFits x ≡ true) (ok : sound.NodeOk n k
         size-is = ok .processes-ok .size-is;
         holds = λ i l. record {
           used = λ u.
-              starts a n k _ (node-fit x f .shaped .each-process i l)
+              starts a n k _ (node-fit x fits .shaped .each-process i l)
               (ok .processes-ok .holds i l .running (busy-slot i l u)) (unset-slot i l)
               (implies-e (processAt x i .busy) _ (all-e 4 _ own i l) (busy-slot i l u));
           unused = λ u. sym (ok .processes-ok .holds i l .free (idle-slot i l u));
@@ -96,10 +96,10 @@ module _ (n k : ℕ) (x : Node) (f : nodeFits x ≡ true) (ok : sound.NodeOk n k
     };
   }
 
-  pub node-ok : (a : ℕ) → ownOrigins (addressOf a) x ≡ true → ownMarks (addressOf a) x ≡ true → WithTuples a n k x
+  pub node-ok : (a : ℕ) → ownOrigins (addressOf a) x ≡ true → ownMarks (addressOf a) x ≡ true → WithTuples a f n k x
   unfolding ownMarks ownMark tupleAt
   node-ok a sent own = record {
-    row-ok = record { rights-ok = filled-map (λ r u. u) (λ r. sym) (ok .row-ok) };
+    rows-ok = ok .rows-ok;
     slots-ok = slots-ok (addressOf a) sent;
     store-ok = record {
       few = ok .room;
@@ -107,7 +107,7 @@ module _ (n k : ℕ) (x : Node) (f : nodeFits x ≡ true) (ok : sound.NodeOk n k
         size-is = ok .tuples-ok .size-is;
         holds = λ j l. record {
           used = λ u.
-              tuple-ok (addressOf a) n _ (node-fit x f .each-tuple j l)
+              tuple-ok (addressOf a) n _ (node-fit x fits .each-tuple j l)
               (implies-e (ltb j (x .stored)) _ (all-e 16 _ own j l) (lt-ltb j (x .stored) u))
               (ok .tuples-ok .holds j l .used u);
           unused = λ u. sym (ok .tuples-ok .holds j l .unused u);

@@ -16,6 +16,7 @@ pub mod WrittenPasses
 pub mod WrittenPatterns
 pub mod WrittenProcesses
 pub mod WrittenRow
+pub mod WrittenRows
 pub mod WrittenStages
 pub mod WrittenStore
 pub mod WrittenTemplate

@@ -1,40 +1,37 @@
 -- The passes over the nodes of a net and over its code (`Image.antt` of `image`, 2 to 5): each gives exactly the nets whose
 -- records it can write, and leaves all else as it was. Assumes nothing.
 use Prim.Native.Nat.{ℕ, _<_, _≤_}
-use mathlib.Core.Path.{_≡_, refl, sym, ap, subst, _∙_}
+use mathlib.Core.Path.{_≡_, refl, sym, ap, subst, subst₂, _∙_}
 use mathlib.Core.Bool.{Bool}
 use mathlib.Core.List.{List}
 use native.Mathlib.Omega.{arith}
 use lib.ListN.{length, getD, replicate}
 use lib.Seq.{set-getD, set-set}
-use Rattle.written.specs.Types.{Locality, Place, Row, Process, Node, Instruction, Net}
-use Rattle.net.specs.Records.{freeProcess, zeroTuple, zeroRow, zeroNode, zeroInstruction, nodeAt, addressOf, placeOf}
-use Rattle.net.specs.Records.{withRow, withNode, withInstruction}
+use Rattle.written.specs.Types.{Locality, Place, Row, Node, Instruction, Net}
+use Rattle.net.specs.Records.{zeroTuple, zeroNode, zeroInstruction, nodeAt, addressOf, placeOf, withNode, withInstruction}
 use Rattle.readers.specs.Reader.{Reader}
-use Rattle.image.specs.Image.{eachAddress, eachPlace, row, rowOf, rows, processes, processesOf, allProcesses, tuples, tuplesOf, allTuples}
+use Rattle.image.specs.Image.{eachAddress, eachPlace, nodeRows, rowsOf, rows, processes, processesOf, allProcesses, tuples, tuplesOf, allTuples}
 use Rattle.instructions.specs.Instruction.{instruction}
 use Rattle.image.specs.Image.{instructionOf, code}
-use Rattle.written.specs.ImageOf.{rowBits, processesBits, tuplesBits, instructionBits}
+use Rattle.written.specs.ImageOf.{nodeRowsBits, processesBits, tuplesBits, instructionBits}
 use Rattle.text.specs.Joined.{joined}
 use Rattle.written.proofs.ReadsWrites.{Reads}
 use Rattle.written.proofs.ReadsCells.{Arrayed, Through, Turned, Filling, reads-turn, reads-cells}
 use Rattle.written.proofs.WrittenCode.{InstructionOk, reads-instruction}
 use Rattle.net.proofs.Past.{pastNode, pastInstruction}
-use Rattle.written.proofs.WrittenProcesses.{ProcessesOk, Peopled, reads-processes, bareNode, node-is}
-use Rattle.written.proofs.WrittenRow.{RowOk, reads-row}
+use Rattle.written.proofs.WrittenProcesses.{ProcessesOk, Peopled, reads-processes, bareNode, free, node-is}
+use Rattle.written.proofs.WrittenRows.{Ruled, reads-nodeRows}
 use Rattle.written.proofs.WrittenStore.{TuplesOk, Stocked, reads-tuples}
 
 -- a net is what its parts are
-pub net-is : (s : Net) (n k : ℕ) (xs : List Node) (cs : List Instruction) → n ≡ s .addresses → k ≡ s .length
-    → xs ≡ s .nodes → cs ≡ s .code → record { addresses = n; length = k; nodes = xs; code = cs } ≡ s
-net-is s n k xs cs a b c d =
-    ap (λ (y : ℕ). record { addresses = y; length = k; nodes = xs; code = cs }) a
-    ∙ ap (λ (y : ℕ). record { addresses = s .addresses; length = y; nodes = xs; code = cs }) b
-    ∙ ap (λ y. record { addresses = s .addresses; length = s .length; nodes = y; code = cs }) c
-    ∙ ap (λ y. record { addresses = s .addresses; length = s .length; nodes = s .nodes; code = y }) d
+pub net-is : (s : Net) (f n k : ℕ) (xs : List Node) (cs : List Instruction) → f ≡ s .format → n ≡ s .addresses
+    → k ≡ s .length → xs ≡ s .nodes → cs ≡ s .code
+    → record { format = f; addresses = n; length = k; nodes = xs; code = cs } ≡ s
+net-is s f n k xs cs a b c d e = λ i. record { format = a i; addresses = b i; length = c i; nodes = d i; code = e i }
 
 -- ---- a pass over the nodes
 pub record Beside (s₀ s : Net) : Type 0 where
+  pub format-is : s₀ .format ≡ s .format
   pub addresses-are : s₀ .addresses ≡ s .addresses
   pub length-is : s₀ .length ≡ s .length
   pub code-is : s₀ .code ≡ s .code
@@ -54,7 +51,12 @@ passOver s₀ Good undo = record {
 
 kept : (s₀ s : Net) (a : Locality) (x : Node) → Beside s₀ s → Beside s₀ (withNode s a x)
 unfolding withNode
-kept s₀ s a x e = record { addresses-are = e .addresses-are; length-is = e .length-is; code-is = e .code-is }
+kept s₀ s a x e = record {
+  format-is = e .format-is;
+  addresses-are = e .addresses-are;
+  length-is = e .length-is;
+  code-is = e .code-is;
+}
 
 module _ (s₀ : Net) (Good : ℕ → Node → Type 0) (undo : Node → Node) (f : ℕ → Net → Reader Net) (w : Node → List Bool) where
   filling-pass :
@@ -67,8 +69,8 @@ module _ (s₀ : Net) (Good : ℕ → Node → Type 0) (undo : Node → Node) (f
   filling-pass h l turn = record {
     room = h;
     size-is = l;
-    begins = record { addresses-are = refl; length-is = refl; code-is = refl };
-    starts = λ s e d. net-is s _ _ _ _ (e .addresses-are) (e .length-is) d (e .code-is);
+    begins = record { format-is = refl; addresses-are = refl; length-is = refl; code-is = refl };
+    starts = λ s e d. net-is s _ _ _ _ _ (e .format-is) (e .addresses-are) (e .length-is) d (e .code-is);
     turn = turn;
     put-cells = λ a m s x e. refl;
     put-frame = λ a m s x e g _. kept s₀ s (addressOf a) x e;
@@ -76,37 +78,43 @@ module _ (s₀ : Net) (Good : ℕ → Node → Type 0) (undo : Node → Node) (f
     cut-frame = λ a m s x e. kept s₀ s (addressOf a) x e;
     cut-extra = λ a m s x e. tt;
     put-cut = λ a m s x e.
-        ap (λ y. record { addresses = s .addresses; length = s .length; nodes = y; code = s .code })
+        ap (λ y. record { format = s .format; addresses = s .addresses; length = s .length; nodes = y; code = s .code })
         (set-set (s .nodes) a x (getD (s .nodes) a pastNode) ∙ set-getD (s .nodes) a pastNode);
   }
 
 -- ---- 2. rows
-abbrev pub rowless : Node → Node
-rowless x = withRow x zeroRow
-
 unfoldable pub RowsPass : Net → Net → Type 0
-RowsPass s₀ = Through (passOver s₀ (λ a x. RowOk (s₀ .addresses) (x .row)) rowless) s₀ (s₀ .addresses)
+RowsPass s₀ = Through (passOver s₀ (λ a. Ruled (s₀ .format) (s₀ .addresses)) (λ x. zeroNode)) s₀ (s₀ .addresses)
 
 module _ (s₀ : Net) (h : s₀ .addresses ≤ 16) (l : length (s₀ .nodes) ≡ 16)
-    (bare : (a : ℕ) → a < s₀ .addresses → getD (s₀ .nodes) a pastNode ≡ zeroNode) where
-  pub reads-rows :
-      Reads (rows s₀) (λ b. joined (s₀ .addresses) (λ a. rowBits (s₀ .addresses) (nodeAt b (addressOf a) .row))) (RowsPass s₀)
-  unfolding rows eachAddress rowOf nodeAt RowsPass withNode withRow zeroNode
-  reads-rows =
+    (blank : (a : ℕ) → a < s₀ .addresses → getD (s₀ .nodes) a pastNode ≡ zeroNode) where
+  reads-policy : (a : ℕ) → a < s₀ .addresses → (s : Net) → Beside s₀ s
+      → getD (s₀ .nodes) a pastNode ≡ getD (s .nodes) a pastNode
+      → Reads (nodeRows (s .format) (s .addresses) (getD (s .nodes) a pastNode)) (nodeRowsBits (s₀ .format) (s₀ .addresses))
+      (Ruled (s₀ .format) (s₀ .addresses))
+  reads-policy a m s e b =
+      let f : ℕ = s₀ .format in
       let n : ℕ = s₀ .addresses in
-      reads-cells (passOver s₀ (λ a x. RowOk n (x .row)) rowless) s₀ (λ a. rowOf (addressOf a)) n (λ x. rowBits n (x .row))
+      subst₂ (λ (i j : ℕ). Reads (nodeRows i j (getD (s .nodes) a pastNode)) (nodeRowsBits f n) (Ruled f n))
+      (e .format-is) (e .addresses-are)
+      (subst (λ (x : Node). Reads (nodeRows f n x) (nodeRowsBits f n) (Ruled f n)) (sym (blank a m) ∙ b) (reads-nodeRows f n h))
+
+  pub reads-rows :
+      Reads (rows s₀) (λ b. joined (s₀ .addresses) (λ a. nodeRowsBits (s₀ .format) (s₀ .addresses) (nodeAt b (addressOf a))))
+      (RowsPass s₀)
+  unfolding rows eachAddress rowsOf nodeAt RowsPass withNode
+  reads-rows =
+      let good : ℕ → Node → Type 0 = λ a. Ruled (s₀ .format) (s₀ .addresses) in
+      let write = nodeRowsBits (s₀ .format) (s₀ .addresses) in
+      reads-cells (passOver s₀ good (λ x. zeroNode)) s₀ (λ a. rowsOf (addressOf a)) (s₀ .addresses) write
       (filling-pass s₀ _ _ _ _ h l (λ a m s e b g.
-      reads-turn (passOver s₀ (λ _ x. RowOk n (x .row)) rowless) s₀ a s (λ x. rowBits n (x .row)) (withRow (nodeAt s (addressOf a)))
-      (omega arith) (λ x. refl) (subst (λ (j : ℕ). Reads (row j) (rowBits n) (RowOk n)) (e .addresses-are) (reads-row n h))
-      (λ r ok. (ok, ap (λ (x : Node). withRow x zeroRow) (sym b ∙ bare a m) ∙ sym (bare a m), tt)) (λ r ok. refl)
-      (λ x ok u _. (x .row, ok, ap (λ (y : Node). withRow y (x .row)) (sym b ∙ sym u)))))
+      reads-turn (passOver s₀ good (λ x. zeroNode)) s₀ a s write (λ x. x)
+      (omega arith) (λ x. refl) (reads-policy a m s e b)
+      (λ x ok. (ok, sym (blank a m), tt)) (λ x ok. refl) (λ x ok u _. (x, ok, refl))))
 
 -- ---- 3. processes
-abbrev pub free : List Process
-free = replicate 4 freeProcess
-
 abbrev pub vacated : Node → Node
-vacated x = record { row = x .row; processes = free; stored = x .stored; tuples = x .tuples }
+vacated x = record { rows = x .rows; processes = free; stored = x .stored; tuples = x .tuples }
 
 pub record Slots (a : Locality) (k : ℕ) (x : Node) : Type 0 where
   pub count : ℕ
@@ -116,31 +124,31 @@ unfoldable pub ProcessesPass : Net → Net → Type 0
 ProcessesPass s₀ = Through (passOver s₀ (λ a. Slots (addressOf a) (s₀ .length)) vacated) s₀ (s₀ .addresses)
 
 -- a node that is bare once its processes are gone
-bare-again : (x y : Node) → vacated x ≡ y → y ≡ bareNode (y .row) free → bareNode (y .row) (x .processes) ≡ x
+bare-again : (x y : Node) → vacated x ≡ y → y ≡ bareNode (y .rows) free → bareNode (y .rows) (x .processes) ≡ x
 unfolding bareNode
 bare-again x y u b =
-    let e : vacated x ≡ bareNode (y .row) free = u ∙ b in
-    node-is x (y .row) (x .processes) 0 (replicate 16 zeroTuple)
-    (ap (λ (z : Node). z .row) (sym u)) refl (ap (λ (z : Node). z .stored) (sym e)) (ap (λ (z : Node). z .tuples) (sym e))
+    let e : vacated x ≡ bareNode (y .rows) free = u ∙ b in
+    node-is x (y .rows) (x .processes) 0 (replicate 16 zeroTuple)
+    (ap (λ (z : Node). z .rows) (sym u)) refl (ap (λ (z : Node). z .stored) (sym e)) (ap (λ (z : Node). z .tuples) (sym e))
 
-vacated-bare : (x : Node) (r : Row) → bareNode r (x .processes) ≡ x → vacated x ≡ bareNode r free
+vacated-bare : (x : Node) (rs : List Row) → bareNode rs (x .processes) ≡ x → vacated x ≡ bareNode rs free
 unfolding bareNode
-vacated-bare x r e = ap (λ (z : Node). vacated z) (sym e)
+vacated-bare x rs e = ap (λ (z : Node). vacated z) (sym e)
 
 module _ (s₀ : Net) (h : s₀ .addresses ≤ 16) (k : s₀ .length ≤ 512) (l : length (s₀ .nodes) ≡ 16)
     (bare : (a : ℕ) → a < s₀ .addresses
-    → getD (s₀ .nodes) a pastNode ≡ bareNode (getD (s₀ .nodes) a pastNode .row) free) where
+    → getD (s₀ .nodes) a pastNode ≡ bareNode (getD (s₀ .nodes) a pastNode .rows) free) where
   reads-slots : (a : ℕ) → a < s₀ .addresses → (s : Net) → Beside s₀ s
       → getD (s₀ .nodes) a pastNode ≡ getD (s .nodes) a pastNode
       → Reads (processes (addressOf a) (s .length) (getD (s .nodes) a pastNode)) processesBits
-      (Peopled (addressOf a) (s₀ .length) (getD (s₀ .nodes) a pastNode .row))
+      (Peopled (addressOf a) (s₀ .length) (getD (s₀ .nodes) a pastNode .rows))
   reads-slots a m s e b =
-      let r : Row = getD (s₀ .nodes) a pastNode .row in
+      let rs : List Row = getD (s₀ .nodes) a pastNode .rows in
       let own : Locality = addressOf a in
-      subst (λ (j : ℕ). Reads (processes own j (getD (s .nodes) a pastNode)) processesBits (Peopled own (s₀ .length) r))
+      subst (λ (j : ℕ). Reads (processes own j (getD (s .nodes) a pastNode)) processesBits (Peopled own (s₀ .length) rs))
       (e .length-is)
-      (subst (λ (x : Node). Reads (processes own (s₀ .length) x) processesBits (Peopled own (s₀ .length) r))
-      (sym (bare a m) ∙ b) (reads-processes own (s₀ .length) r k))
+      (subst (λ (x : Node). Reads (processes own (s₀ .length) x) processesBits (Peopled own (s₀ .length) rs))
+      (sym (bare a m) ∙ b) (reads-processes own (s₀ .length) rs k))
 
   pub reads-allProcesses :
       Reads (allProcesses s₀) (λ b. joined (s₀ .addresses) (λ a. processesBits (nodeAt b (addressOf a)))) (ProcessesPass s₀)
@@ -157,7 +165,7 @@ module _ (s₀ : Net) (h : s₀ .addresses ≤ 16) (k : s₀ .length ≤ 512) (l
 
 -- ---- 4. tuples
 abbrev pub emptied : Node → Node
-emptied x = bareNode (x .row) (x .processes)
+emptied x = bareNode (x .rows) (x .processes)
 
 unfoldable pub TuplesPass : Net → Net → Type 0
 TuplesPass s₀ = Through (passOver s₀ (λ a. TuplesOk (addressOf a) (s₀ .addresses)) emptied) s₀ (s₀ .addresses)
@@ -167,15 +175,15 @@ module _ (s₀ : Net) (h : s₀ .addresses ≤ 16) (l : length (s₀ .nodes) ≡
   reads-store : (a : ℕ) → a < s₀ .addresses → (s : Net) → Beside s₀ s
       → getD (s₀ .nodes) a pastNode ≡ getD (s .nodes) a pastNode
       → Reads (tuples (addressOf a) (s .addresses) (getD (s .nodes) a pastNode)) tuplesBits
-      (Stocked (addressOf a) (s₀ .addresses) (getD (s₀ .nodes) a pastNode .row) (getD (s₀ .nodes) a pastNode .processes))
+      (Stocked (addressOf a) (s₀ .addresses) (getD (s₀ .nodes) a pastNode .rows) (getD (s₀ .nodes) a pastNode .processes))
   reads-store a m s e b =
       let y : Node = getD (s₀ .nodes) a pastNode in
       let n : ℕ = s₀ .addresses in
       let own : Locality = addressOf a in
-      subst (λ (j : ℕ). Reads (tuples own j (getD (s .nodes) a pastNode)) tuplesBits (Stocked own n (y .row) (y .processes)))
+      subst (λ (j : ℕ). Reads (tuples own j (getD (s .nodes) a pastNode)) tuplesBits (Stocked own n (y .rows) (y .processes)))
       (e .addresses-are)
-      (subst (λ (x : Node). Reads (tuples own n x) tuplesBits (Stocked own n (y .row) (y .processes)))
-      (sym (bare a m) ∙ b) (reads-tuples own n (y .row) (y .processes) h))
+      (subst (λ (x : Node). Reads (tuples own n x) tuplesBits (Stocked own n (y .rows) (y .processes)))
+      (sym (bare a m) ∙ b) (reads-tuples own n (y .rows) (y .processes) h))
 
   pub reads-allTuples :
       Reads (allTuples s₀) (λ b. joined (s₀ .addresses) (λ a. tuplesBits (nodeAt b (addressOf a)))) (TuplesPass s₀)
@@ -188,7 +196,7 @@ module _ (s₀ : Net) (h : s₀ .addresses ≤ 16) (l : length (s₀ .nodes) ≡
       (omega arith) (λ x. refl) (reads-store a m s e b)
       (λ x ok. (
         ok .store,
-        ap (λ (r : Row). bareNode r (x .processes)) (sym (ok .same-row))
+        ap (λ rs. bareNode rs (x .processes)) (sym (ok .same-rows))
             ∙ ap (bareNode _) (sym (ok .same-processes)) ∙ sym (bare a m),
         tt,
       ))
@@ -197,7 +205,7 @@ module _ (s₀ : Net) (h : s₀ .addresses ≤ 16) (l : length (s₀ .nodes) ≡
         x,
         record {
           store = ok;
-          same-row = ap (λ (z : Node). z .row) (sym u);
+          same-rows = ap (λ (z : Node). z .rows) (sym u);
           same-processes = ap (λ (z : Node). z .processes) (sym u);
         },
         refl,
@@ -205,6 +213,7 @@ module _ (s₀ : Net) (h : s₀ .addresses ≤ 16) (l : length (s₀ .nodes) ≡
 
 -- ---- 5. the code
 pub record Above (s₀ s : Net) : Type 0 where
+  pub format-is : s₀ .format ≡ s .format
   pub addresses-are : s₀ .addresses ≡ s .addresses
   pub length-is : s₀ .length ≡ s .length
   pub nodes-are : s₀ .nodes ≡ s .nodes
@@ -227,7 +236,12 @@ CodePass s₀ = Through (codeOf s₀) s₀ (s₀ .length)
 
 code-kept : (s₀ s : Net) (p : Place) (c : Instruction) → Above s₀ s → Above s₀ (withInstruction s p c)
 unfolding withInstruction
-code-kept s₀ s p c e = record { addresses-are = e .addresses-are; length-is = e .length-is; nodes-are = e .nodes-are }
+code-kept s₀ s p c e = record {
+  format-is = e .format-is;
+  addresses-are = e .addresses-are;
+  length-is = e .length-is;
+  nodes-are = e .nodes-are;
+}
 
 module _ (s₀ : Net) (h : s₀ .addresses ≤ 16) (k : s₀ .length ≤ 512) (l : length (s₀ .code) ≡ 512)
     (bare : (p : ℕ) → p < s₀ .length → getD (s₀ .code) p pastInstruction ≡ zeroInstruction) where
@@ -245,8 +259,8 @@ module _ (s₀ : Net) (h : s₀ .addresses ≤ 16) (k : s₀ .length ≤ 512) (l
   filling-code = record {
     room = k;
     size-is = l;
-    begins = record { addresses-are = refl; length-is = refl; nodes-are = refl };
-    starts = λ s e d. net-is s _ _ _ _ (e .addresses-are) (e .length-is) (e .nodes-are) d;
+    begins = record { format-is = refl; addresses-are = refl; length-is = refl; nodes-are = refl };
+    starts = λ s e d. net-is s _ _ _ _ _ (e .format-is) (e .addresses-are) (e .length-is) (e .nodes-are) d;
     turn = λ p m s e b g.
         reads-turn (codeOf s₀) s₀ p s instructionBits (λ c. c) (omega arith) (λ c. refl) (reads-placed s e)
         (λ c ok. (ok, sym (bare p m), tt)) (λ c ok. refl) (λ c ok u _. (c, ok, refl));
@@ -256,7 +270,7 @@ module _ (s₀ : Net) (h : s₀ .addresses ≤ 16) (k : s₀ .length ≤ 512) (l
     cut-frame = λ p m s c e. code-kept s₀ s (placeOf p) c e;
     cut-extra = λ p m s c e. tt;
     put-cut = λ p m s c e.
-        ap (λ y. record { addresses = s .addresses; length = s .length; nodes = s .nodes; code = y })
+        ap (λ y. record { format = s .format; addresses = s .addresses; length = s .length; nodes = s .nodes; code = y })
         (set-set (s .code) p c (getD (s .code) p pastInstruction) ∙ set-getD (s .code) p pastInstruction);
   }
 

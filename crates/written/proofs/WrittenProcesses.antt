@@ -32,50 +32,50 @@ pub record ProcessesOk (a : Locality) (k c : ℕ) (x : Node) : Type 0 where
   pub slots-ok : Every (Filled (Starts a k) (λ p. freeProcess ≡ p) c) pastProcess 4 (x .processes)
 
 -- a node is what its parts are
-pub node-is : (x : Node) (r : Row) (ps : List Process) (m : ℕ) (ts : List Tuple) → r ≡ x .row → ps ≡ x .processes
-    → m ≡ x .stored → ts ≡ x .tuples → record { row = r; processes = ps; stored = m; tuples = ts } ≡ x
-node-is x r ps m ts a b c d =
-    ap (λ (y : Row). record { row = y; processes = ps; stored = m; tuples = ts }) a
-    ∙ ap (λ y. record { row = x .row; processes = y; stored = m; tuples = ts }) b
-    ∙ ap (λ (y : ℕ). record { row = x .row; processes = x .processes; stored = y; tuples = ts }) c
-    ∙ ap (λ y. record { row = x .row; processes = x .processes; stored = x .stored; tuples = y }) d
+pub node-is : (x : Node) (rs : List Row) (ps : List Process) (m : ℕ) (ts : List Tuple) → rs ≡ x .rows → ps ≡ x .processes
+    → m ≡ x .stored → ts ≡ x .tuples → record { rows = rs; processes = ps; stored = m; tuples = ts } ≡ x
+node-is x rs ps m ts a b c d = λ i. record { rows = a i; processes = b i; stored = c i; tuples = d i }
 
--- a node with its row and its processes, and no tuple
-unfoldable pub bareNode : Row → List Process → Node
-bareNode r ps = record { row = r; processes = ps; stored = 0; tuples = replicate 16 zeroTuple }
+-- a node with its rows and its processes, and no tuple
+unfoldable pub bareNode : List Row → List Process → Node
+bareNode rs ps = record { rows = rs; processes = ps; stored = 0; tuples = replicate 16 zeroTuple }
 
-abbrev processesIn : Locality → ℕ → Row → Arrayed Node Process
-processesIn a k r = record {
+abbrev processesIn : Locality → ℕ → List Row → Arrayed Node Process
+processesIn a k rs = record {
   cells = λ x. x .processes;
   put = λ i x p. withProcess x i p;
   cut = λ i x p. withProcess x i p;
   past = pastProcess;
   Good = λ i. Starts a k;
   undo = λ p. freeProcess;
-  Frame = λ i x. bareNode r (x .processes) ≡ x;
+  Frame = λ i x. bareNode rs (x .processes) ≡ x;
   Extra = λ i x p. Unit {0};
   size = 4;
 }
 
 -- a node whose processes are replaced
-replaced : (r : Row) (x : Node) (i : ℕ) (p : Process) → bareNode r (x .processes) ≡ x
-    → bareNode r (set (x .processes) i p) ≡ withProcess x i p
+replaced : (rs : List Row) (x : Node) (i : ℕ) (p : Process) → bareNode rs (x .processes) ≡ x
+    → bareNode rs (set (x .processes) i p) ≡ withProcess x i p
 unfolding withProcess bareNode
-replaced r x i p e = ap (λ (y : Node). withProcess y i p) e
+replaced rs x i p e = ap (λ (y : Node). withProcess y i p) e
 
-start : Row → Node
-start r = bareNode r (replicate 4 freeProcess)
+-- the processes of a node that has none
+abbrev pub free : List Process
+free = replicate 4 freeProcess
 
-module _ (a : Locality) (k : ℕ) (r : Row) (h : k ≤ 512) where
-  filling-processes : (c : ℕ) → c ≤ 4 → Filling (processesIn a k r) (start r) (process a k) c (λ p. placeBits (p .at))
+start : List Row → Node
+start rs = bareNode rs free
+
+module _ (a : Locality) (k : ℕ) (rs : List Row) (h : k ≤ 512) where
+  filling-processes : (c : ℕ) → c ≤ 4 → Filling (processesIn a k rs) (start rs) (process a k) c (λ p. placeBits (p .at))
   unfolding process start withProcess bareNode startingAt
   filling-processes c l = record {
     room = l;
     size-is = length-replicate 4 freeProcess;
     begins = refl;
-    starts = λ x e d. ap (bareNode r) d ∙ e;
+    starts = λ x e d. ap (bareNode rs) d ∙ e;
     turn = λ i m x e b s.
-        reads-turn (processesIn a k r) (start r) i x (λ p. placeBits (p .at)) (startingAt a) (omega arith) (λ p. refl)
+        reads-turn (processesIn a k rs) (start rs) i x (λ p. placeBits (p .at)) (startingAt a) (omega arith) (λ p. refl)
         (reads-place k h)
         (λ p g. (
           record { first = p; within = g; is = refl },
@@ -84,12 +84,12 @@ module _ (a : Locality) (k : ℕ) (r : Row) (h : k ≤ 512) where
         ))
         (λ p g. refl) (λ p g _ _. (g .first, g .within, g .is));
     put-cells = λ i m x p e. refl;
-    put-frame = λ i m x p e s _. replaced r x i p e;
+    put-frame = λ i m x p e s _. replaced rs x i p e;
     cut-cells = λ i m x p. refl;
-    cut-frame = λ i m x p e. replaced r x i p e;
+    cut-frame = λ i m x p e. replaced rs x i p e;
     cut-extra = λ i m x p e. tt;
     put-cut = λ i m x p e.
-        ap (λ y. record { row = x .row; processes = y; stored = x .stored; tuples = x .tuples })
+        ap (λ y. record { rows = x .rows; processes = y; stored = x .stored; tuples = x .tuples })
         (set-set (x .processes) i p (getD (x .processes) i pastProcess) ∙ set-getD (x .processes) i pastProcess);
   }
 
@@ -104,27 +104,27 @@ module _ (a : Locality) (k c : ℕ) (x : Node) (ok : ProcessesOk a k c x) where
   pub count-is : processCount x ≡ c
   count-is = slots-counted x c first-busy (ok .few)
 
--- a node whose row r alone was read becomes one with processes
-pub record Peopled (a : Locality) (k : ℕ) (r : Row) (x : Node) : Type 0 where
+-- a node whose rows alone were read becomes one with processes
+pub record Peopled (a : Locality) (k : ℕ) (rs : List Row) (x : Node) : Type 0 where
   pub count : ℕ
   pub slots : ProcessesOk a k count x
-  pub bare : bareNode r (x .processes) ≡ x
+  pub bare : bareNode rs (x .processes) ≡ x
 
-module _ (a : Locality) (k : ℕ) (r : Row) (h : k ≤ 512) where
-  through-processes : (c : ℕ) (x : Node) → c < 5 → Through (processesIn a k r) (start r) c x → ProcessesOk a k c x
+module _ (a : Locality) (k : ℕ) (rs : List Row) (h : k ≤ 512) where
+  through-processes : (c : ℕ) (x : Node) → c < 5 → Through (processesIn a k rs) (start rs) c x → ProcessesOk a k c x
   unfolding start bareNode
   through-processes c x l g = record { few = omega arith; slots-ok = rewritten-filled refl (g .cells-ok) }
 
-  processes-through : (x : Node) (g : Peopled a k r x) → Through (processesIn a k r) (start r) (g .count) x
+  processes-through : (x : Node) (g : Peopled a k rs x) → Through (processesIn a k rs) (start rs) (g .count) x
   unfolding start bareNode
   processes-through x g = record { frame = g .bare; cells-ok = filled-rewritten refl (g .slots .slots-ok) }
 
-  pub reads-processes : Reads (processes a k (bareNode r (replicate 4 freeProcess))) processesBits (Peopled a k r)
+  pub reads-processes : Reads (processes a k (bareNode rs free)) processesBits (Peopled a k rs)
   unfolding processes processesBits processAt start
   reads-processes =
       reads-then (reads-field 3 0 5 22 (omega arith))
-      (λ c l. reads-cells (processesIn a k r) (start r) (process a k) c (λ p. placeBits (p .at))
-      (filling-processes a k r h c (omega (arith, l .below))))
+      (λ c l. reads-cells (processesIn a k rs) (start rs) (process a k) c (λ p. placeBits (p .at))
+      (filling-processes a k rs h c (omega (arith, l .below))))
       (record {
         keeps = λ c x l g. record { count = c; slots = through-processes c x (l .below) g; bare = g .frame };
         writes = λ c x l g.

@@ -1,4 +1,5 @@
--- The row of a node (`Image.antt` of `image`, `specs/ImageOf.antt`, 2): what is read is what is written.
+-- A row (`Image.antt` of `image`, `specs/ImageOf.antt`, 2): what is read is what is written, for the rows of a sound node
+-- (`NodeFacts.antt` of `sound`).
 -- Assumes nothing.
 use Prim.Native.Nat.{ℕ, _%_, _≤_}
 use mathlib.Core.Path.{_≡_, refl, sym, ap, _∙_}
@@ -15,15 +16,13 @@ use Rattle.image.specs.Image.{eachAddress, rightsOf, creating, rights, row}
 use Rattle.written.specs.ImageOf.{bitsOf, rightsBits, rowBits}
 use Rattle.text.specs.Joined.{joined}
 use Rattle.written.specs.ImageOf.{digit}
-use Rattle.net.proofs.Every.{Every, Filled}
+use Rattle.net.proofs.Every.{filled-map}
+use Rattle.sound.proofs.NodeFacts.{RowOk}
 use Rattle.written.proofs.ReadsWrites.{Reads, reads-then, reads-bits}
 use Rattle.written.proofs.ReadsCells.{Arrayed, Through, Filling, reads-turn, reads-cells}
 use Rattle.written.proofs.ReadsCells.{rewritten-filled, filled-rewritten}
 use Rattle.written.proofs.WrittenFields.{rights-written, rights-parts, digit-set, digit-small}
 use Rattle.net.proofs.Past.{pastRights}
-
-pub record RowOk (n : ℕ) (r : Row) : Type 0 where
-  pub rights-ok : Every (Filled (λ x. Unit {0}) (λ x. noRights ≡ x) n) pastRights 16 (r .rights)
 
 abbrev rightsIn : ℕ → Arrayed Row Rights
 rightsIn v = record {
@@ -63,11 +62,11 @@ filling-rights v n l = record {
 
 through-rights : (v n : ℕ) (r : Row) → Through (rightsIn v) (creating v) n r → RowOk n r
 unfolding creating zeroRow
-through-rights v n r g = record { rights-ok = rewritten-filled refl (g .cells-ok) }
+through-rights v n r g = filled-map (λ x u. u) (λ x. sym) (rewritten-filled refl (g .cells-ok))
 
 rights-through : (v n : ℕ) (r : Row) → r .create ≡ eqb v 1 → RowOk n r → Through (rightsIn v) (creating v) n r
 unfolding creating zeroRow
-rights-through v n r e ok = record { frame = e; cells-ok = filled-rewritten refl (ok .rights-ok) }
+rights-through v n r e ok = record { frame = e; cells-ok = filled-rewritten refl (filled-map (λ x u. u) (λ x. sym) ok) }
 
 pub reads-row : (n : ℕ) → n ≤ 16 → Reads (row n) (rowBits n) (RowOk n)
 unfolding row eachAddress rowBits rightsAt bitsOf

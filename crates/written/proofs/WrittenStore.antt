@@ -30,28 +30,28 @@ pub record TuplesOk (a : Locality) (n : ℕ) (x : Node) : Type 0 where
 
 put-tuple : (x : Node) (t : Tuple) → x .stored < 16
     → withTuple x t
-    ≡ record { row = x .row; processes = x .processes; stored = x .stored + 1; tuples = set (x .tuples) (x .stored) t }
+    ≡ record { rows = x .rows; processes = x .processes; stored = x .stored + 1; tuples = set (x .tuples) (x .stored) t }
 unfolding withTuple
 put-tuple x t h = choose-true _ _ _ (lt-ltb (x .stored) 16 h)
 
 -- a node with i tuples, the last one put anew
 cutTuple : ℕ → Node → Tuple → Node
-cutTuple i x t = record { row = x .row; processes = x .processes; stored = i; tuples = set (x .tuples) i t }
+cutTuple i x t = record { rows = x .rows; processes = x .processes; stored = i; tuples = set (x .tuples) i t }
 
-record Storing (r : Row) (ps : List Process) (i : ℕ) (x : Node) : Type 0 where
-  row-is : r ≡ x .row
+record Storing (rs : List Row) (ps : List Process) (i : ℕ) (x : Node) : Type 0 where
+  rows-are : rs ≡ x .rows
   processes-are : ps ≡ x .processes
   stored-is : i ≡ x .stored
 
-abbrev storesIn : Locality → ℕ → Row → List Process → Arrayed Node Tuple
-storesIn a n r ps = record {
+abbrev storesIn : Locality → ℕ → List Row → List Process → Arrayed Node Tuple
+storesIn a n rs ps = record {
   cells = λ x. x .tuples;
   put = λ i x t. withTuple x t;
   cut = cutTuple;
   past = pastTuple;
   Good = λ i. TupleOk a n;
   undo = λ t. zeroTuple;
-  Frame = Storing r ps;
+  Frame = Storing rs ps;
   Extra = λ i x t. Unit {0};
   size = 16;
 }
@@ -68,26 +68,26 @@ tuples-cut x i t l e =
     let y : List Tuple = x .tuples in
     put-tuple (cutTuple i x t) (getD y i pastTuple) l
     ∙ ap (λ (k : ℕ).
-    record { row = x .row; processes = x .processes; stored = k; tuples = set (set y i t) i (getD y i pastTuple) }) c
-    ∙ ap (λ z. record { row = x .row; processes = x .processes; stored = x .stored; tuples = z })
+    record { rows = x .rows; processes = x .processes; stored = k; tuples = set (set y i t) i (getD y i pastTuple) }) c
+    ∙ ap (λ z. record { rows = x .rows; processes = x .processes; stored = x .stored; tuples = z })
     (set-set y i t (getD y i pastTuple) ∙ set-getD y i pastTuple)
 
 -- a node without tuples becomes one with tuples
-pub record Stocked (a : Locality) (n : ℕ) (r : Row) (ps : List Process) (x : Node) : Type 0 where
+pub record Stocked (a : Locality) (n : ℕ) (rs : List Row) (ps : List Process) (x : Node) : Type 0 where
   pub store : TuplesOk a n x
-  pub same-row : r ≡ x .row
+  pub same-rows : rs ≡ x .rows
   pub same-processes : ps ≡ x .processes
 
-module _ (a : Locality) (n : ℕ) (r : Row) (ps : List Process) (h : n ≤ 16) where
-  filling-tuples : (c : ℕ) → c ≤ 16 → Filling (storesIn a n r ps) (bareNode r ps) (stored a n) c tupleBits
+module _ (a : Locality) (n : ℕ) (rs : List Row) (ps : List Process) (h : n ≤ 16) where
+  filling-tuples : (c : ℕ) → c ≤ 16 → Filling (storesIn a n rs ps) (bareNode rs ps) (stored a n) c tupleBits
   unfolding stored bareNode cutTuple
   filling-tuples c l = record {
     room = l;
     size-is = length-replicate 16 zeroTuple;
-    begins = record { row-is = refl; processes-are = refl; stored-is = refl };
-    starts = λ x e d. node-is x r ps 0 (replicate 16 zeroTuple) (e .row-is) (e .processes-are) (e .stored-is) d;
+    begins = record { rows-are = refl; processes-are = refl; stored-is = refl };
+    starts = λ x e d. node-is x rs ps 0 (replicate 16 zeroTuple) (e .rows-are) (e .processes-are) (e .stored-is) d;
     turn = λ i m x e b s.
-        reads-turn (storesIn a n r ps) (bareNode r ps) i x tupleBits (marked a) (omega arith)
+        reads-turn (storesIn a n rs ps) (bareNode rs ps) i x tupleBits (marked a) (omega arith)
         (λ t. tuples-put x i t (omega arith) (e .stored-is)) (reads-tuple n h)
         (λ t g. (marked-ok a t _ n g, sym (getD-replicate 16 i zeroTuple pastTuple (omega arith)), tt))
         (λ t g. marked-bits a t)
@@ -95,36 +95,36 @@ module _ (a : Locality) (n : ℕ) (r : Row) (ps : List Process) (h : n ≤ 16) w
     put-cells = λ i m x t e. tuples-put x i t (omega arith) (e .stored-is);
     put-frame = λ i m x t e s _.
         let d = e .stored-is in
-        subst (Storing r ps (suc i)) (sym (put-tuple x t (omega arith)))
-        (record { row-is = e .row-is; processes-are = e .processes-are; stored-is = omega arith });
+        subst (Storing rs ps (suc i)) (sym (put-tuple x t (omega arith)))
+        (record { rows-are = e .rows-are; processes-are = e .processes-are; stored-is = omega arith });
     cut-cells = λ i m x t. refl;
-    cut-frame = λ i m x t e. record { row-is = e .row-is; processes-are = e .processes-are; stored-is = refl };
+    cut-frame = λ i m x t e. record { rows-are = e .rows-are; processes-are = e .processes-are; stored-is = refl };
     cut-extra = λ i m x t e. tt;
     put-cut = λ i m x t e. tuples-cut x i t (omega arith) (e .stored-is);
   }
 
-  through-tuples : (c : ℕ) (x : Node) → c < 17 → Through (storesIn a n r ps) (bareNode r ps) c x → Stocked a n r ps x
+  through-tuples : (c : ℕ) (x : Node) → c < 17 → Through (storesIn a n rs ps) (bareNode rs ps) c x → Stocked a n rs ps x
   unfolding bareNode
   through-tuples c x l g =
       let e = g .frame .stored-is in
       record {
         store = record { few = omega arith; tuples-ok = rewritten-filled (sym e) (g .cells-ok) };
-        same-row = g .frame .row-is;
+        same-rows = g .frame .rows-are;
         same-processes = g .frame .processes-are;
       }
 
-  tuples-through : (x : Node) → Stocked a n r ps x → Through (storesIn a n r ps) (bareNode r ps) (x .stored) x
+  tuples-through : (x : Node) → Stocked a n rs ps x → Through (storesIn a n rs ps) (bareNode rs ps) (x .stored) x
   unfolding bareNode
   tuples-through x g = record {
-    frame = record { row-is = g .same-row; processes-are = g .same-processes; stored-is = refl };
+    frame = record { rows-are = g .same-rows; processes-are = g .same-processes; stored-is = refl };
     cells-ok = filled-rewritten refl (g .store .tuples-ok);
   }
 
-  pub reads-tuples : Reads (tuples a n (bareNode r ps)) tuplesBits (Stocked a n r ps)
+  pub reads-tuples : Reads (tuples a n (bareNode rs ps)) tuplesBits (Stocked a n rs ps)
   unfolding tuples tuplesBits tupleAt
   reads-tuples =
       reads-then (reads-field 5 0 17 22 (omega arith))
-      (λ c l. reads-cells (storesIn a n r ps) (bareNode r ps) (stored a n) c tupleBits
+      (λ c l. reads-cells (storesIn a n rs ps) (bareNode rs ps) (stored a n) c tupleBits
       (filling-tuples c (omega (arith, l .below))))
       (record {
         keeps = λ c x l g. through-tuples c x (l .below) g;

@@ -6,24 +6,25 @@ use mathlib.Core.List.{List, [], _∷_, map}
 use native.Mathlib.Omega.{arith}
 use lib.ListN.{length, getD, length-map}
 use Rattle.written.specs.Types.{Node, Net}
-use Rattle.net.specs.Records.{zeroNode, zeroInstruction, emptyNet, withRow}
+use Rattle.net.specs.Records.{alike, zeroNode, zeroInstruction, emptyNet}
 use Rattle.written.specs.ImageOf.{netBits}
 use Rattle.net.proofs.Every.{Every, Filled}
 use Rattle.written.proofs.ReadsWrites.{Reads, Ranged, reads-as}
 use Rattle.written.proofs.ReadsCells.{Through}
 use Rattle.written.proofs.WrittenCode.{InstructionOk}
-use Rattle.written.proofs.WrittenPasses.{net-is, passOver, rowless, free, vacated}
+use Rattle.written.proofs.WrittenPasses.{net-is, passOver, vacated}
 use Rattle.written.proofs.WrittenPasses.{emptied, codeOf, RowsPass, ProcessesPass, TuplesPass, CodePass}
-use Rattle.written.proofs.WrittenStages.{AtEach, Staged, Blank, WithTuples, rowed, peopled, stocked}
+use Rattle.written.proofs.WrittenStages.{AtEach, Staged, Blank, WithTuples, ruled, peopled, stocked}
 use Rattle.written.proofs.WrittenNet.{body, FromTuples, FromProcesses, FromRows, FromHeader, reads-fromHeader}
 use Rattle.written.proofs.WrittenNet.{empty-at}
 use Rattle.net.proofs.Past.{pastNode, pastInstruction}
-use Rattle.written.proofs.WrittenProcesses.{bareNode}
+use Rattle.written.proofs.WrittenProcesses.{bareNode, free}
 
 pub record NetOk (s : Net) : Type 0 where
+  pub format-ok : Ranged 1 3 (s .format)
   pub addresses-ok : Ranged 1 17 (s .addresses)
   pub length-ok : Ranged 1 513 (s .length)
-  pub nodes-ok : AtEach (λ a. WithTuples a (s .addresses) (s .length)) (s .addresses) (s .nodes)
+  pub nodes-ok : AtEach (λ a. WithTuples a (s .format) (s .addresses) (s .length)) (s .addresses) (s .nodes)
   pub code-ok :
       Every (Filled (InstructionOk (s .addresses) (s .length)) (λ c. zeroInstruction ≡ c) (s .length)) pastInstruction 512
       (s .code)
@@ -31,9 +32,14 @@ pub record NetOk (s : Net) : Type 0 where
 -- ---- what the passes give
 module _ (s b : Net) (g : Staged WithTuples s) (t : Through (codeOf s) s (s .length) b) where
   -- the net before its code is read, in the words of the net after it
-  before : s ≡ record { addresses = b .addresses; length = b .length; nodes = b .nodes; code = s .code }
-  before =
-      sym (net-is s _ _ _ _ (sym (t .frame .addresses-are)) (sym (t .frame .length-is)) (sym (t .frame .nodes-are)) refl)
+  before : s ≡ record { format = b .format; addresses = b .addresses; length = b .length; nodes = b .nodes; code = s .code }
+  before = λ i. record {
+    format = t .frame .format-is i;
+    addresses = t .frame .addresses-are i;
+    length = t .frame .length-is i;
+    nodes = t .frame .nodes-are i;
+    code = s .code;
+  }
 
   placed : Every (Filled (InstructionOk (s .addresses) (s .length)) (λ c. zeroInstruction ≡ c) (s .length)) pastInstruction 512
       (b .code)
@@ -50,6 +56,7 @@ module _ (s b : Net) (g : Staged WithTuples s) (t : Through (codeOf s) s (s .len
   coded =
       let stage = subst (Staged WithTuples) before g in
       record {
+        format-ok = stage .format-ok;
         addresses-ok = stage .addresses-ok;
         length-ok = stage .length-ok;
         nodes-ok = stage .nodes-ok;
@@ -61,7 +68,7 @@ module _ (s b : Net) (g : Staged WithTuples s) (t : Through (codeOf s) s (s .len
 from-ok : (b : Net) → FromHeader b → NetOk b
 unfolding FromHeader FromRows FromProcesses FromTuples CodePass
 from-ok b (s₁, g, (s₂, r, (s₃, p, (s₄, t, c)))) =
-    coded s₄ b (stocked s₃ s₄ (peopled s₂ s₃ (rowed s₁ s₂ g r) p) t) c
+    coded s₄ b (stocked s₃ s₄ (peopled s₂ s₃ (ruled s₁ s₂ g r) p) t) c
 
 -- ---- the nets between the passes, made from the last one
 map-at : {A B : Type 0} (f : A → B) (xs : List A) (j : ℕ) (d : A) (e : B) → j < length xs
@@ -75,18 +82,24 @@ map-same [] = refl
 map-same (x ∷ xs) = ap (λ ys. x ∷ ys) (map-same xs)
 
 stage : (Node → Node) → Net → Net
-stage f b = record { addresses = b .addresses; length = b .length; nodes = map f (b .nodes); code = emptyNet .code }
+stage f b = record {
+  format = b .format;
+  addresses = b .addresses;
+  length = b .length;
+  nodes = map f (b .nodes);
+  code = emptyNet .code;
+}
 
 module _ (b : Net) (ok : NetOk b) where
   node-at : (f : Node → Node) (a : ℕ) → a < 16 → getD (map f (b .nodes)) a pastNode ≡ f (getD (b .nodes) a pastNode)
   node-at f a h = map-at f (b .nodes) a pastNode pastNode (omega (arith, ok .nodes-ok .size-is))
 
   pass : (f g undo : Node → Node) (Good : ℕ → Node → Type 0) → ((x : Node) → undo (g x) ≡ f x) → f zeroNode ≡ g zeroNode
-      → ((a : ℕ) (x : Node) → WithTuples a (b .addresses) (b .length) x → Good a (g x))
+      → ((a : ℕ) (x : Node) → WithTuples a (b .format) (b .addresses) (b .length) x → Good a (g x))
       → Through (passOver (stage f b) Good undo) (stage f b) (b .addresses) (stage g b)
   unfolding stage
   pass f g undo Good u z good = record {
-    frame = record { addresses-are = refl; length-is = refl; code-is = refl };
+    frame = record { format-is = refl; addresses-are = refl; length-is = refl; code-is = refl };
     cells-ok = record {
       size-is = length-map (b .nodes) g ∙ ok .nodes-ok .size-is;
       holds = λ a h. record {
@@ -102,6 +115,7 @@ module _ (b : Net) (ok : NetOk b) where
   staged-blank : Staged Blank (stage (λ x. zeroNode) b)
   unfolding stage
   staged-blank = record {
+    format-ok = ok .format-ok;
     addresses-ok = ok .addresses-ok;
     length-ok = ok .length-ok;
     nodes-ok = record {
@@ -117,7 +131,7 @@ module _ (b : Net) (ok : NetOk b) where
   code-pass : CodePass (stage (λ x. x) b) b
   unfolding stage CodePass
   code-pass = record {
-    frame = record { addresses-are = refl; length-is = refl; nodes-are = map-same (b .nodes) };
+    frame = record { format-is = refl; addresses-are = refl; length-is = refl; nodes-are = map-same (b .nodes) };
     cells-ok = record {
       size-is = ok .code-ok .size-is;
       holds = λ p h. record {
@@ -129,13 +143,13 @@ module _ (b : Net) (ok : NetOk b) where
   }
 
   ok-from : FromHeader b
-  unfolding FromHeader FromRows FromProcesses FromTuples RowsPass ProcessesPass TuplesPass stage withRow zeroNode bareNode
+  unfolding FromHeader FromRows FromProcesses FromTuples RowsPass ProcessesPass TuplesPass stage zeroNode bareNode alike
   ok-from = (
     stage (λ x. zeroNode) b,
     staged-blank,
     (
-      stage (λ x. bareNode (x .row) free) b,
-      pass (λ x. zeroNode) _ rowless _ (λ x. refl) refl (λ a x k. k .row-ok),
+      stage (λ x. bareNode (x .rows) free) b,
+      pass (λ x. zeroNode) _ (λ x. zeroNode) _ (λ x. refl) refl (λ a x k. record { rows-ok = k .rows-ok; bare = refl }),
       (
         stage emptied b,
         pass _ emptied vacated _ (λ x. refl) refl

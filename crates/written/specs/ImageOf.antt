@@ -9,7 +9,9 @@ use lib.IntN.{ℤ}
 use Rattle.text.specs.Joined.{joined}
 use Rattle.written.specs.Types.{Locality, Place, Item, Tuple, Rights, Row, Node}
 use Rattle.written.specs.Types.{Target, Pattern, Action, Instruction, Net}
-use Rattle.net.specs.Records.{fieldAt, rightsAt, processAt, tupleAt, patternAt, nodeAt, instructionAt, addressOf, placeOf, processCount}
+use Rattle.net.specs.Records.{fieldAt, rightsAt, rowAt, processAt, tupleAt, patternAt, nodeAt, instructionAt, addressOf, placeOf}
+use Rattle.net.specs.Records.{processCount}
+use Rattle.net.specs.Choice.{choose}
 
 -- ---- numbers
 
@@ -35,7 +37,7 @@ readingBits (ℤ.negsuc v) = bitsOf 32 (4294967295 - v)
 
 -- ---- 1. format, address count, code length
 unfoldable pub headerBits : Net → List Bool
-headerBits s = bitsOf 4 1 ++ (bitsOf 5 (s .addresses) ++ bitsOf 10 (s .length))
+headerBits s = bitsOf 4 (s .format) ++ (bitsOf 5 (s .addresses) ++ bitsOf 10 (s .length))
 
 -- ---- 2. a row: n, and for each of n addresses i, r, o, e
 unfoldable pub rightsBits : Rights → List Bool
@@ -43,6 +45,12 @@ rightsBits r = r .take ∷ r .read ∷ r .put ∷ r .send ∷ []
 
 unfoldable pub rowBits : ℕ → Row → List Bool
 rowBits n r = r .create ∷ joined n (λ l. rightsBits (rightsAt r (addressOf l)))
+
+-- the rows of a node: in format 1 the single one, which is that for every origin; in format 2 one for each of n origins,
+-- ascending (document 02, slip 10)
+unfoldable pub nodeRowsBits : ℕ → ℕ → Node → List Bool
+nodeRowsBits f n x =
+    choose (eqb f 1) (rowBits n (rowAt x (addressOf 0))) (joined n (λ o. rowBits n (rowAt x (addressOf o))))
 
 -- ---- 3. the processes of a node: their number, then the first place of each
 unfoldable pub processesBits : Node → List Bool
@@ -91,7 +99,7 @@ instructionBits c = actionBits c (c .action)
 
 -- ---- 1 to 5, the whole
 unfoldable pub rowsBits : Net → List Bool
-rowsBits s = joined (s .addresses) (λ a. rowBits (s .addresses) (nodeAt s (addressOf a) .row))
+rowsBits s = joined (s .addresses) (λ a. nodeRowsBits (s .format) (s .addresses) (nodeAt s (addressOf a)))
 
 unfoldable pub allProcessesBits : Net → List Bool
 allProcessesBits s = joined (s .addresses) (λ a. processesBits (nodeAt s (addressOf a)))

@@ -10,7 +10,7 @@ use Rattle.image.specs.Image.{openedOf, accepted}
 use Rattle.written.specs.Types.{Verdict}
 use Rattle.written.specs.ImageOf.{imageOf}
 use Rattle.fresh.specs.Fresh.{freshOf}
-use Rattle.accepted.specs.LengthClaims.{longestImage}
+use Rattle.accepted.specs.LengthClaims.{longestIn}
 
 -- a list of bytes, as a slice of a running program is
 pub record Bytes (s : List ℕ) : Type 0 where
@@ -36,6 +36,14 @@ OneImage =
 unfoldable pub OneNet : Type 0
 OneNet = (x y : Net) → freshOf x ≡ true → freshOf y ≡ true → imageOf x ≡ imageOf y → x ≡ y
 
--- "The longest accepted image has 14,749 bytes": one of that length is accepted (`LengthClaims.antt`: none is longer)
+-- "The longest accepted image has 14,749 bytes" in format 1 and 16,699 in format 2: one of that length is accepted
+-- (`LengthClaims.antt`: none is longer)
+pub record Longest (f : ℕ) : Type 0 where
+  pub image : List ℕ
+  pub bytes : Bytes image
+  pub accepted : openedOf image .answer ≡ Verdict.Accepted
+  pub format : openedOf image .net .format ≡ f
+  pub long : length image ≡ longestIn f
+
 unfoldable pub LongestIsReached : Type 0
-LongestIsReached = (s : List ℕ) × Bytes s × (openedOf s .answer ≡ Verdict.Accepted) × (length s ≡ longestImage)
+LongestIsReached = Longest 1 × Longest 2

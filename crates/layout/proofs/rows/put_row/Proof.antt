@@ -1,9 +1,9 @@
--- `layout::nodes::put_row` meets its contract. Assumes nothing.
+-- `layout::rows::put_row` meets its contract. Assumes nothing.
 use Rattle.text.proofs.WritingLaws.{wrote-one-then}
 use Rattle.written.specs.ImageOf.{rowBits}
 use borrow.Author.Needs.{needs}
-use Rattle.layout.proofs.nodes.put_row.Statement.{statement}
-use Rattle.layout.proofs.nodes.put_row.Tie as tie
+use Rattle.layout.proofs.rows.put_row.Statement.{statement}
+use Rattle.layout.proofs.rows.put_row.Tie as tie
 
 pub put-row-spec : {M : Type 1} → statement M
 unfolding rowBits

@@ -1,23 +1,23 @@
--- `layout::nodes::put_all_rights` meets its contract. Assumes nothing.
+-- `layout::rows::put_origins` meets its contract. Assumes nothing.
 use Prim.Native.Nat.{_-_, _≤_}
-use Rattle.net.specs.Records.{rightsAt, addressOf}
+use Rattle.net.specs.Records.{rowAt, addressOf}
 use Rattle.text.proofs.WritingLaws.{joined-end, joined-more, joined-none, wrote-length}
-use Rattle.written.specs.ImageOf.{rightsBits}
+use Rattle.written.specs.ImageOf.{rowBits}
 use Rattle.text.specs.Joined.{joined}
 use Rattle.text.specs.Writing.{Wrote}
 use borrow.Author.Needs.{needs}
-use Rattle.layout.proofs.nodes.put_all_rights.Statement.{statement}
-use Rattle.layout.proofs.nodes.put_all_rights.Tie as tie
+use Rattle.layout.proofs.rows.put_origins.Statement.{statement}
+use Rattle.layout.proofs.rows.put_origins.Tie as tie
 
 abbrev Inv-loop : tie.InvT-loop
-Inv-loop out₀ at n row next₀ i₀ out next i = Wrote out₀ at (joined i (λ j. rightsBits (rightsAt row (addressOf j)))) out next × ((i ≤ n) × (n ≤ 16))
+Inv-loop out₀ at n x next₀ i₀ out next i = Wrote out₀ at (joined i (λ j. rowBits n (rowAt x (addressOf j)))) out next × ((i ≤ n) × (n ≤ 16))
 
 abbrev μ-loop : tie.MeasureT-loop
-μ-loop out₀ at n row next₀ i₀ out next i = n - i
+μ-loop out₀ at n x next₀ i₀ out next i = n - i
 
-pub put-all-rights-spec : {M : Type 1} → statement M
-unfolding rightsAt
-put-all-rights-spec =
+pub put-origins-spec : {M : Type 1} → statement M
+unfolding rowAt
+put-origins-spec =
     tie.close
     (tie.spec
     Inv-loop

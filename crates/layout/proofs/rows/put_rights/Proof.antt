@@ -1,9 +1,9 @@
--- `layout::nodes::put_rights` meets its contract. Assumes nothing.
+-- `layout::rows::put_rights` meets its contract. Assumes nothing.
 use Rattle.text.proofs.WritingLaws.{wrote-one-then}
 use Rattle.written.specs.ImageOf.{rightsBits}
 use borrow.Author.Needs.{needs}
-use Rattle.layout.proofs.nodes.put_rights.Statement.{statement}
-use Rattle.layout.proofs.nodes.put_rights.Tie as tie
+use Rattle.layout.proofs.rows.put_rights.Statement.{statement}
+use Rattle.layout.proofs.rows.put_rights.Tie as tie
 
 pub put-rights-spec : {M : Type 1} → statement M
 unfolding rightsBits
