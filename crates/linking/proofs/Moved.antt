@@ -30,10 +30,10 @@ use Rattle.linking.proofs.Peopled.{after-count-one}
 
 -- ---- processes of a node, and nodes of a net
 abbrev withSlots : Node → List Process → Node
-withSlots x ps = record { row = x .row; processes = ps; stored = x .stored; tuples = x .tuples }
+withSlots x ps = record { rows = x .rows; processes = ps; stored = x .stored; tuples = x .tuples }
 
 abbrev withNodes : Net → List Node → Net
-withNodes s xs = record { addresses = s .addresses; length = s .length; nodes = xs; code = s .code }
+withNodes s xs = record { format = s .format; addresses = s .addresses; length = s .length; nodes = xs; code = s .code }
 
 module _ (resolve : ℕ → Place) where
   abbrev moves : List ℕ → ℕ → ℕ → Process → Process
@@ -92,7 +92,7 @@ module _ (resolve : ℕ → Place) where
   node-tuple starts a x t = go (ltb (x .stored) 16)
     where
       more : Node → Node
-      more y = record { row = y .row; processes = y .processes; stored = y .stored + 1; tuples = set (y .tuples) (y .stored) t }
+      more y = record { rows = y .rows; processes = y .processes; stored = y .stored + 1; tuples = set (y .tuples) (y .stored) t }
 
       go : (b : Bool) → movedNode resolve starts a (choose b (more x) x) ≡ choose b (more (movedNode resolve starts a x)) (movedNode resolve starts a x)
       go true = refl

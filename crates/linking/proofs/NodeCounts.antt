@@ -10,7 +10,7 @@ use lib.Dec.{eqb}
 use borrow.Author.Tests.{lt-ltb, le-ltb, eq-eqb, ne-eqb}
 use Rattle.net.specs.Choice.{choose}
 use Rattle.net.specs.Records.{startingAt, freeProcess, zeroNode, emptyNet, processAt, nodeAt, addressOf, processCount}
-use Rattle.net.specs.Records.{marked, withNode, withRow, withProcess, withTuple, withCounts}
+use Rattle.net.specs.Records.{marked, withNode, withRows, withProcess, withTuple, withCounts, withFormat}
 use Rattle.net.proofs.Laws.{choose-true, choose-false}
 use Rattle.net.proofs.Every.{Every, chosen-lt, every-replicate, every-set, filled-add}
 use Rattle.net.proofs.Past.{pastProcess, pastNode}
@@ -21,7 +21,7 @@ use Rattle.linking.specs.Types.{Locality, Place, Tuple, Row, Node, Net}
 use Rattle.linking.specs.Source.{Line, definition, process, tuple}
 use Rattle.linking.specs.NodeCounts.{Holds, Counts, HasRoom}
 use Rattle.linking.specs.Counts.{processesIn, tuplesIn, counted}
-use Rattle.linking.specs.Compiled.{total, ruled, placed, peopled}
+use Rattle.linking.specs.Compiled.{total, ruled, placed, peopled, unruled}
 use Rattle.linking.proofs.Peopled.{peopled-more}
 
 -- ---- a node
@@ -170,9 +170,9 @@ holds-zero =
     (every-replicate _ pastProcess 4 freeProcess (λ j h. record { used = λ l. absurd (omega arith); unused = λ _. refl }))
     (omega arith) refl (omega arith)
 
-holds-row : (c m : ℕ) (x : Node) → Holds c m x → (r : Row) → Holds c m (withRow x r)
-unfolding withRow processAt processCount
-holds-row c m x ok r = record {
+holds-rows : (c m : ℕ) (x : Node) → Holds c m x → (rs : List Row) → Holds c m (withRows x rs)
+unfolding withRows processAt processCount
+holds-rows c m x ok rs = record {
   size-is = ok .size-is;
   processes = ok .processes;
   slots = ok .slots;
@@ -187,10 +187,10 @@ counts-ruled ls i [] s h ok = ok
 counts-ruled ls i (r ∷ rs) s h ok =
     let here = ok .at (addressOf i) (omega arith) in
     counts-ruled ls (suc i) rs _ (omega arith)
-    (nodes-count _ _ (every-set i _ (nodes ls s ok) (λ j y d e. e) (holds-row _ _ _ here r)))
+    (nodes-count _ _ (every-set i _ (nodes ls s ok) (λ j y d e. e) (holds-rows _ _ _ here _)))
 
-pub counts-rows : (rs : List Row) (n k : ℕ) → length rs ≤ 16 → Counts [] (ruled 0 rs (withCounts emptyNet n k))
-unfolding withCounts emptyNet counted
+pub counts-rows : (rs : List Row) (n k : ℕ) → length rs ≤ 16 → Counts [] (ruled 0 rs (unruled n k))
+unfolding unruled withCounts withFormat emptyNet counted
 counts-rows rs n k h =
-    counts-ruled [] 0 rs (withCounts emptyNet n k) (omega arith)
+    counts-ruled [] 0 rs (unruled n k) (omega arith)
     (nodes-count _ _ (every-replicate _ pastNode 16 zeroNode (λ i _. holds-zero)))

@@ -15,6 +15,7 @@ use Rattle.linking.specs.State.{State, unplaced, after, afterAll, FitsLi
 
 -- ---- two nets that differ in their nodes alone
 pub record SameFrame (s t : Net) : Type 0 where
+  pub format-is : t .format ≡ s .format
   pub addresses-are : t .addresses ≡ s .addresses
   pub length-is : t .length ≡ s .length
   pub code-is : t .code ≡ s .code
@@ -29,9 +30,9 @@ module _ (place : Start → Place) where
 
   pub placed-frame : (n : ℕ) (l : Line) (s : Net) → SameFrame s (placed place n l s)
   unfolding placed withNode
-  placed-frame n (definition j p) s = record { addresses-are = refl; length-is = refl; code-is = refl }
-  placed-frame n (process a p) s = record { addresses-are = refl; length-is = refl; code-is = refl }
-  placed-frame n (tuple a t) s = record { addresses-are = refl; length-is = refl; code-is = refl }
+  placed-frame n (definition j p) s = record { format-is = refl; addresses-are = refl; length-is = refl; code-is = refl }
+  placed-frame n (process a p) s = record { format-is = refl; addresses-are = refl; length-is = refl; code-is = refl }
+  placed-frame n (tuple a t) s = record { format-is = refl; addresses-are = refl; length-is = refl; code-is = refl }
 
   -- ---- all lines
   pub peopled-any-counts :
@@ -49,11 +50,12 @@ module _ (place : Start → Place) where
 
   pub peopled-frame : (n : ℕ) (ls : List Line) (s : Net) → SameFrame s (peopled place n ls s)
   unfolding peopled
-  peopled-frame n [] s = record { addresses-are = refl; length-is = refl; code-is = refl }
+  peopled-frame n [] s = record { format-is = refl; addresses-are = refl; length-is = refl; code-is = refl }
   peopled-frame n (l ∷ ls) s =
       let first = placed-frame n l s in
       let rest = peopled-frame (n + sizeOf l) ls (placed place n l s) in
       record {
+        format-is = rest .format-is ∙ first .format-is;
         addresses-are = rest .addresses-are ∙ first .addresses-are;
         length-is = rest .length-is ∙ first .length-is;
         code-is = rest .code-is ∙ first .code-is;
@@ -73,10 +75,10 @@ module _ (place : Start → Place) where
 module _ (resolve : ℕ → Place) (starts : List ℕ) (s : Net) where
   folded-frame : (n : ℕ) → SameFrame s (fold n (movedAddress resolve starts) s)
   unfolding fold movedAddress withNode
-  folded-frame zero = record { addresses-are = refl; length-is = refl; code-is = refl }
+  folded-frame zero = record { format-is = refl; addresses-are = refl; length-is = refl; code-is = refl }
   folded-frame (suc n) =
       let before = folded-frame n in
-      record { addresses-are = before .addresses-are; length-is = before .length-is; code-is = before .code-is }
+      record { format-is = before .format-is; addresses-are = before .addresses-are; length-is = before .length-is; code-is = before .code-is }
 
   pub moved-frame : SameFrame s (movedNet resolve starts s)
   unfolding movedNet

@@ -53,7 +53,7 @@ module _ (resolve : ℕ → Place) where
 
   pub linked-more :
       (table : List ℕ) (i : ℕ) (s t : Net) (c : Instruction) → t ≡ withLinked resolve table i s → c ≡ linkedAt resolve table i
-      → record { addresses = t .addresses; length = t .length; nodes = t .nodes; code = set (t .code) i c } ≡ withLinked resolve table (i + 1) s
+      → record { format = t .format; addresses = t .addresses; length = t .length; nodes = t .nodes; code = set (t .code) i c } ≡ withLinked resolve table (i + 1) s
   unfolding withLinked linkedCode fold
   linked-more table i s t c e f = rw (plus-one i, e, f) refl
 
@@ -124,5 +124,5 @@ module _ (resolve : ℕ → Place) where
   linked-all table starts k n s moved t e shape h f =
       let coded : linkedCode resolve table k (moved .code) ≡ linkedCode resolve table n (moved .code) =
       ap (λ (m : ℕ). linkedCode resolve table m (moved .code)) h ∙ code-capped table n (moved .code) (shape .code-is) in
-      f ∙ ap (λ (c : List Instruction). record { addresses = moved .addresses; length = n; nodes = moved .nodes; code = c }) coded
+      f ∙ ap (λ (c : List Instruction). record { format = moved .format; addresses = moved .addresses; length = n; nodes = moved .nodes; code = c }) coded
       ∙ ap (λ (m : Net). withLinked resolve table n (withCounts m (m .addresses) n)) e

@@ -7,7 +7,7 @@ use lib.ListN.{length}
 use lib.Dec.{eqb}
 use Rattle.net.specs.Choice.{choose}
 use Rattle.net.specs.Records.{emptyNet, nodeAt, startingAt, processCount, addressOf, placeOf}
-use Rattle.net.specs.Records.{marked, withNode, withRow, withProcess, withTuple, withCounts}
+use Rattle.net.specs.Records.{alike, marked, withNode, withRows, withProcess, withTuple, withCounts, withFormat}
 use Rattle.text.specs.Buffer.{over}
 use Rattle.terms.specs.Numbering.{size, Start, here, called, startOf, codeOf}
 use Rattle.linking.specs.Types.{Place, Row, Instruction, Net}
@@ -64,10 +64,10 @@ unfoldable pub codeFrom : (Start → Place) → ℕ → List Line → List Instr
 codeFrom place n [] = []
 codeFrom place n (l ∷ ls) = lineCode place n l ++ codeFrom place (n + sizeOf l) ls
 
--- ---- the net: its rows, its processes and tuples line after line, its code
+-- ---- the net: its rows, each that of its node for every origin, its processes and tuples line after line, its code
 unfoldable pub ruled : ℕ → List Row → Net → Net
 ruled i [] s = s
-ruled i (r ∷ rs) s = ruled (suc i) rs (withNode s (addressOf i) (withRow (nodeAt s (addressOf i)) r))
+ruled i (r ∷ rs) s = ruled (suc i) rs (withNode s (addressOf i) (withRows (nodeAt s (addressOf i)) (alike r)))
 
 -- what a line puts at its node; its first instruction has the number n. A tuple bears its own node's address (document 02, slip
 -- 8), and a process has it as its origin (slip 10)
@@ -82,10 +82,20 @@ peopled place n [] s = s
 peopled place n (l ∷ ls) s = peopled place (n + sizeOf l) ls (placed place n l s)
 
 unfoldable pub withCode : Net → List Instruction → Net
-withCode s code = record { addresses = s .addresses; length = s .length; nodes = s .nodes; code = over (s .code) 0 code }
+withCode s code = record {
+  format = s .format;
+  addresses = s .addresses;
+  length = s .length;
+  nodes = s .nodes;
+  code = over (s .code) 0 code;
+}
+
+-- n addresses and k instructions, with nothing at any address yet; a text is of format 1 (document 02, slip 10)
+unfoldable pub unruled : ℕ → ℕ → Net
+unruled n k = withCounts (withFormat emptyNet 1) n k
 
 unfoldable pub compiled : Source → Net
 compiled x =
     withCode
-    (peopled (placeIn (x .lines)) 0 (x .lines) (ruled 0 (x .rows) (withCounts emptyNet (length (x .rows)) (total (x .lines)))))
+    (peopled (placeIn (x .lines)) 0 (x .lines) (ruled 0 (x .rows) (unruled (length (x .rows)) (total (x .lines)))))
     (codeFrom (placeIn (x .lines)) 0 (x .lines))

@@ -47,8 +47,13 @@ module _ (resolve : ℕ → Place) where
 
   -- the whole: processes in their places, and n instructions of code
   unfoldable pub withLinked : List ℕ → ℕ → Net → Net
-  withLinked table n s =
-      record { addresses = s .addresses; length = s .length; nodes = s .nodes; code = linkedCode table n (s .code) }
+  withLinked table n s = record {
+    format = s .format;
+    addresses = s .addresses;
+    length = s .length;
+    nodes = s .nodes;
+    code = linkedCode table n (s .code);
+  }
 
   unfoldable pub linkedNet : List ℕ → List ℕ → ℕ → Net → Net
   linkedNet table starts n s = withLinked table n (withCounts (movedNet starts s) (movedNet starts s .addresses) n)

@@ -17,7 +17,7 @@ use Rattle.readers.specs.Progress.{reached, outcome, runFrom, Went}
 use Rattle.readers.proofs.ReaderLaws.{on, stop}
 use Rattle.text.specs.Buffer.{over}
 use Rattle.linking.specs.Source.{Line, Source}
-use Rattle.linking.specs.Compiled.{total, placeIn, codeFrom, ruled, peopled, withCode, compiled}
+use Rattle.linking.specs.Compiled.{total, placeIn, codeFrom, ruled, peopled, withCode, unruled, compiled}
 use Rattle.linking.specs.Names.{namesRight}
 use Rattle.linking.specs.NameTable.{namesRightIn}
 use Rattle.linking.specs.Placing.{placeAt, linkedCode, movedNet, withLinked, linkedNet}
@@ -124,15 +124,15 @@ module _ (rs : List Row) (ls : List Line) (few : length rs ≤ 16) (shape : Shap
     coded-there : (code : List Instruction) → linkedCode (placeAt (Now .bodies)) (Now .table) (total ls) code ≡ over code 0 (codeFrom (placeIn ls) 0 ls)
     coded-there = code-all (placeAt (Now .bodies)) (placeIn ls) (resolves-all ls (netOf rs) fit whole) ls (netOf rs) fit whole
 
-    counts-there : withCounts peopledNet (peopledNet .addresses) (total ls) ≡ peopled (placeIn ls) 0 ls (ruled 0 rs (withCounts emptyNet (length rs) (total ls)))
-    unfolding netOf ruled withCounts
+    counts-there : withCounts peopledNet (peopledNet .addresses) (total ls) ≡ peopled (placeIn ls) 0 ls (ruled 0 rs (unruled (length rs) (total ls)))
+    unfolding netOf unruled withCounts
     counts-there =
         ap (λ (n : ℕ). withCounts peopledNet n (total ls)) (peopled-frame (placeIn ls) 0 ls (netOf rs) .addresses-are ∙ addresses-of rs)
         ∙ sym (peopled-any-counts (placeIn ls) 0 ls (netOf rs) (length rs) (total ls))
-        ∙ ap (peopled (placeIn ls) 0 ls) (counted-anew ∙ sym (ruled-counts 0 rs emptyNet (length rs) (total ls)))
+        ∙ ap (peopled (placeIn ls) 0 ls) (counted-anew ∙ sym (ruled-counts 0 rs (unruled 0 0) (length rs) (total ls)))
       where
-        counted-anew : withCounts (netOf rs) (length rs) (total ls) ≡ withCounts (ruled 0 rs emptyNet) (length rs) (total ls)
-        counted-anew = ap (λ (t : Net). withCounts t (length rs) (total ls)) (ruled-counts 0 rs emptyNet (length rs) 0)
+        counted-anew : withCounts (netOf rs) (length rs) (total ls) ≡ withCounts (ruled 0 rs (unruled 0 0)) (length rs) (total ls)
+        counted-anew = ap (λ (t : Net). withCounts t (length rs) (total ls)) (ruled-counts 0 rs (unruled 0 0) (length rs) 0)
 
     pub linked-compiled :
         linkedNet (placeAt (Now .bodies)) (Now .table) (Now .starts) (total ls) (Now .net) ≡ compiled (record { rows = rs; lines = ls })
@@ -140,10 +140,10 @@ module _ (rs : List Row) (ls : List Line) (few : length rs ≤ 16) (shape : Shap
     linked-compiled =
         ap (λ (t : Net). withLinked (placeAt (Now .bodies)) (Now .table) (total ls) (withCounts t (t .addresses) (total ls))) moved-there
         ∙ ap (λ (t : Net). withLinked (placeAt (Now .bodies)) (Now .table) (total ls) t) counts-there
-        ∙ ap (λ (c : List Instruction). record { addresses = Whole .addresses; length = Whole .length; nodes = Whole .nodes; code = c }) (coded-there (Whole .code))
+        ∙ ap (λ (c : List Instruction). record { format = Whole .format; addresses = Whole .addresses; length = Whole .length; nodes = Whole .nodes; code = c }) (coded-there (Whole .code))
       where
         Whole : Net
-        Whole = peopled (placeIn ls) 0 ls (ruled 0 rs (withCounts emptyNet (length rs) (total ls)))
+        Whole = peopled (placeIn ls) 0 ls (ruled 0 rs (unruled (length rs) (total ls)))
 
   -- what the tables and the net are judged to give is what the source gives
   judged-same :

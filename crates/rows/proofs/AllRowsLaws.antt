@@ -8,7 +8,7 @@ use lib.ListN.{length, length-append}
 use lib.Dec.{leb, ltb}
 use borrow.Author.Tests.{lt-ltb, le-ltb, ltb-true, ltb-false}
 use Rattle.net.specs.Choice.{choose, both, all}
-use Rattle.net.specs.Records.{emptyNet, nodeAt, withNode, withRow, withCounts, addressOf}
+use Rattle.net.specs.Records.{emptyNet, rowAt, nodeAt, alike, withNode, withRows, withCounts, withFormat, addressOf}
 use Rattle.net.proofs.Laws.{choose-true, choose-false, both-l, both-r}
 use Rattle.net.proofs.ReadingLaws.{never}
 use Rattle.readers.specs.Reader.{got, Reader, pure, andThen, _>>=_, _>>_, requireIn, require}
@@ -17,7 +17,7 @@ use Rattle.readers.proofs.ReaderLaws.{after, on, next, stop, stop-as}
 use Rattle.lexemes.specs.Lexemes.{fail}
 use Rattle.rows.specs.Types.{Step, Row, Net}
 use Rattle.rows.specs.Rows.{isRow, row, rowsAfter, within, allWithin, rows}
-use Rattle.linking.specs.Compiled.{ruled}
+use Rattle.linking.specs.Compiled.{ruled, unruled}
 use Rattle.rows.specs.Progress.{RowsRead, isRowHere, netOf, ruledRows, Ruling, Ruled}
 use Rattle.rows.proofs.RuledLaws.{putRow, ruled-more, ruled-counts, ruled-length, addresses-of, rows-within}
 
@@ -40,9 +40,15 @@ fewer-left s p n more e t = let place : n < 16 = has-place s p n more e t in ome
 
 -- ---- row after row
 module _ (s : List ℕ) where
-  pub ruling-begin : (net : Net) → net ≡ emptyNet → Ruling s (Step.At 0) 0 net
-  unfolding ruled
-  ruling-begin net e = record { read = []; count = refl; within = omega arith; standing = e; rest = refl }
+  pub ruling-begin : (net : Net) → net ≡ emptyNet → Ruling s (Step.At 0) 0 (withFormat net 1)
+  unfolding ruled unruled withCounts emptyNet withFormat
+  ruling-begin net e = record {
+    read = [];
+    count = refl;
+    within = omega arith;
+    standing = ap (λ (x : Net). withFormat x 1) e;
+    rest = refl;
+  }
 
   one-row :
       (p q : Step) (k j n : ℕ) (rs : List Row) (r : Row) → k ≡ suc j → isRowHere s p ≡ true → length rs ≡ n
@@ -54,11 +60,11 @@ module _ (s : List ℕ) where
   one-row (Step.Failed f) q k j n rs r e t c w = never t
 
   pub ruling-more :
-      (p q : Step) (n : ℕ) (net : Net) (more : Bool) (r : Row) → more ≡ true → Ruling s p n net
-      → more ≡ both (ltb n 16) (isRowHere s p) → Went s p (row n) q r
-      → Ruling s q (n + 1) (withNode net (addressOf n) (withRow (nodeAt net (addressOf n)) r))
+      (p q : Step) (n : ℕ) (net : Net) (more : Bool) (r : Row) (rs : List Row) → more ≡ true → Ruling s p n net
+      → more ≡ both (ltb n 16) (isRowHere s p) → Went s p (row n) q r → rs ≡ alike r
+      → Ruling s q (n + 1) (withNode net (addressOf n) (withRows (nodeAt net (addressOf n)) rs))
   unfolding putRow
-  ruling-more p q n net more r t l e w =
+  ruling-more p q n net more r rs t l e w same =
       let place : n < 16 = has-place s p n more e t in
       let long : length (l .read ++ (r ∷ [])) ≡ length (l .read) + 1 = length-append (l .read) (r ∷ []) in
       record {
@@ -66,9 +72,10 @@ module _ (s : List ℕ) where
         count = omega (arith, l .count, long);
         within = omega arith;
         standing =
-            ap (λ (x : Net). putRow x n r) (l .standing)
-            ∙ ap (λ (k : ℕ). putRow (ruled 0 (l .read) emptyNet) k r) (omega (arith, l .count))
-            ∙ sym (ruled-more 0 (l .read) r emptyNet);
+            ap (λ (ys : List Row). withNode net (addressOf n) (withRows (nodeAt net (addressOf n)) ys)) same
+            ∙ ap (λ (x : Net). putRow x n r) (l .standing)
+            ∙ ap (λ (k : ℕ). putRow (ruled 0 (l .read) (unruled 0 0)) k r) (omega (arith, l .count))
+            ∙ sym (ruled-more 0 (l .read) r (unruled 0 0));
         rest =
             l .rest
             ∙ one-row p q (16 - n) (16 - (n + 1)) n (l .read) r (omega arith) (both-r (ltb n 16) _ (sym e ∙ t)) (l .count) w;
@@ -104,15 +111,15 @@ module _ (s : List ℕ) where
       (p last : Step) (n : ℕ) (net : Net) (more another : Bool) → more ≡ false → Ruling s p n net
       → more ≡ both (ltb n 16) (isRowHere s p) → another ≡ isRowHere s p → Went s p (require (not another) 22) last tt
       → Ruled s (rowsAfter 16 []) (record { net = withCounts net n (net .length); next = last })
-  unfolding netOf emptyNet ruled
+  unfolding netOf unruled withCounts withFormat emptyNet
   gathered p last n net more another f l e d w = record {
     read = l .read;
     within = omega (arith, l .count, l .within);
     standing =
         ap (λ (x : Net). withCounts x n (x .length)) (l .standing)
-        ∙ ap (λ (k : ℕ). withCounts (ruled 0 (l .read) emptyNet) n k) (ruled-length 0 (l .read) emptyNet)
-        ∙ ap (λ (k : ℕ). withCounts (ruled 0 (l .read) emptyNet) k 0) (sym (l .count))
-        ∙ sym (ruled-counts 0 (l .read) emptyNet (length (l .read)) 0);
+        ∙ ap (λ (k : ℕ). withCounts (ruled 0 (l .read) (unruled 0 0)) n k) (ruled-length 0 (l .read) (unruled 0 0))
+        ∙ ap (λ (k : ℕ). withCounts (ruled 0 (l .read) (unruled 0 0)) k 0) (sym (l .count))
+        ∙ sym (ruled-counts 0 (l .read) (unruled 0 0) (length (l .read)) 0);
     went = record {
       went =
           next s p last last (require (not another) 22) (pure (l .read)) tt (l .read) w (stop s last (l .read)) .went
@@ -130,13 +137,13 @@ module _ (s : List ℕ) where
   -- ---- the rows, judged
   pub judged-rows :
       (r : RowsRead) (counted last : Step) (good : Bool) → Ruled s (rowsAfter 16 []) r → Went s (r .next) (require (leb 1 (r .net .addresses)) 31) counted tt
-      → good ≡ all (r .net .addresses) (λ i. within (r .net .addresses) (nodeAt (r .net) (addressOf i) .row))
+      → good ≡ all (r .net .addresses) (λ i. within (r .net .addresses) (rowAt (nodeAt (r .net) (addressOf i)) (addressOf i)))
       → Went s counted (require good 23) last tt → Ruled s rows (record { net = r .net; next = last })
   unfolding rows
   judged-rows r counted last good g v e w =
       let count : r .net .addresses ≡ length (g .read) = rows-counted (rowsAfter 16 []) r g in
       let fits : good ≡ allWithin (g .read) =
-      e ∙ ap (λ (x : Net). all (x .addresses) (λ i. within (x .addresses) (nodeAt x (addressOf i) .row))) (g .standing)
+      e ∙ ap (λ (x : Net). all (x .addresses) (λ i. within (x .addresses) (rowAt (nodeAt x (addressOf i)) (addressOf i)))) (g .standing)
       ∙ rows-within (g .read) (g .within) in
       record {
         read = g .read;

@@ -6,12 +6,11 @@ use mathlib.Core.Path.{_≡_}
 use mathlib.Core.Bool.{Bool, false}
 use mathlib.Core.List.{List, []}
 use lib.ListN.{length}
-use Rattle.net.specs.Records.{emptyNet, withCounts}
 use Rattle.readers.specs.Reader.{Reader, pure, _>>=_}
 use Rattle.readers.specs.Progress.{Went, runFrom}
 use Rattle.rows.specs.Types.{Step, Row, Net}
 use Rattle.rows.specs.Rows.{digitsFrom, isRow, grants, rowsAfter, rows}
-use Rattle.linking.specs.Compiled.{ruled}
+use Rattle.linking.specs.Compiled.{ruled, unruled}
 
 -- digits being counted from place p, those up to place q being found
 pub record Digits (s : List ℕ) (p q : ℕ) : Type 0 where
@@ -35,7 +34,7 @@ pub record Granting (s : List ℕ) (p₀ : Step) (row₀ : Row) (p : Step) (i lo
 
 -- the net that has these rows, and nothing else
 unfoldable pub netOf : List Row → Net
-netOf rs = ruled 0 rs (withCounts emptyNet (length rs) 0)
+netOf rs = ruled 0 rs (unruled (length rs) 0)
 
 -- the rows of a text, as a net
 unfoldable pub ruledRows : Reader Net
@@ -46,7 +45,7 @@ pub record Ruling (s : List ℕ) (p : Step) (n : ℕ) (net : Net) : Type 0 where
   pub read : List Row
   pub count : length read ≡ n
   pub within : n ≤ 16
-  pub standing : net ≡ ruled 0 read emptyNet
+  pub standing : net ≡ ruled 0 read (unruled 0 0)
   pub rest : runFrom s (Step.At 0) (rowsAfter 16 []) ≡ runFrom s p (rowsAfter (16 - n) read)
 
 -- rows read by m from the first byte on: the net has them, and nothing else

@@ -20,7 +20,7 @@ ghost use mathlib.Core.List.{[]};
 ghost use lib.ListN.{length};
 ghost use lib.Dec.{leb, ltb};
 ghost use Rattle.net.specs.Choice.{both, all, implies};
-ghost use Rattle.net.specs.Records.{nodeAt, addressOf};
+ghost use Rattle.net.specs.Records.{rowAt, nodeAt, addressOf};
 ghost use Rattle.readers.specs.Progress.{Went};
 ghost use Rattle.lexemes.specs.Progress.{Numbered};
 ghost use Rattle.rows.specs.Rows.{digitsFrom, standsAt, isRow, anyRight, rights, granted, grants, creates, opening, row, within, rowsAfter, rows};
@@ -248,19 +248,22 @@ fn is_next_row(s: &[u8], from: Step, n: usize) -> bool
     if n < 16 { is_row(s, from) } else { false }
 }
 
-// The rows, up to the first line that is none; a seventeenth is 22.
+// The rows, up to the first line that is none; a seventeenth is 22. A text is of format 1: a node's row is that for every
+// origin.
 fn gather_rows(s: &[u8]) -> RowsRead
     ensures { λ r. ⌜ Ruled (now (s .entry)) (rowsAfter 16 []) r ⌝ }
 {
     let mut net = Net::empty();
+    net.format = 1;
     let mut next = Step::At(0);
     let mut n: usize = 0;
     let mut more = is_next_row(s, next, n);
     while more {
         let read = read_row(s, next, n);
         let row = read.row;
+        let rows = row.alike();
         let mut node = net.nodes[n];
-        node.row = row;
+        node.rows = rows;
         net.nodes[n] = node;
         next = read.next;
         n += 1;
@@ -294,17 +297,18 @@ fn is_within(row: Row, n: usize) -> bool
     ok
 }
 
-// No row of the net has a right over an address without a row.
+// No node's row for itself has a right over an address without a row.
 fn are_within(net: Net) -> bool
     requires { ⌜ net .addresses ≤ 16 ⌝ }
-    ensures { λ r. ⌜ r ≡ all (net .addresses) (λ i. within (net .addresses) (nodeAt net (addressOf i) .row)) ⌝ }
+    ensures { λ r. ⌜ r ≡ all (net .addresses) (λ i. within (net .addresses) (rowAt (nodeAt net (addressOf i)) (addressOf i))) ⌝ }
 {
     let n = net.addresses;
     let mut ok = true;
     let mut i: usize = 0;
     while i < n {
         let node = net.nodes[i];
-        let good = is_within(node.row, n);
+        let row = node.rows[i];
+        let good = is_within(row, n);
         ok = ok & good;
         i += 1;
     }

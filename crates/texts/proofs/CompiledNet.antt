@@ -25,7 +25,7 @@ use Rattle.texts.proofs.Terms.{Fit, FitIn}
 use Rattle.texts.proofs.Rows.{Each, none, more}
 use Rattle.texts.proofs.Lines.{LineOk, SourceOk}
 use Rattle.texts.proofs.FreshParts.{InstructionFresh, CodeFresh, NetFresh, empty-fresh, fresh-at, fresh-with}
-use Rattle.texts.proofs.FreshParts.{fresh-row, fresh-process, fresh-tuple, owned-at, owned-row, owned-process, owned-tuple}
+use Rattle.texts.proofs.FreshParts.{fresh-row, fresh-process, fresh-tuple, owned-at, owned-rows, owned-process, owned-tuple}
 use Rattle.texts.proofs.Compiled.{each-both, in-first, in-second, code-length, code-good, start-below}
 
 -- ---- rows
@@ -38,7 +38,7 @@ ruled-fresh n k i (r ∷ rs) s few h (more g e) ok =
     let l : i < n = omega arith in
     ruled-fresh n k (suc i) rs _ few (omega arith) e
     (fresh-with few s ok (addressOf i) l _ (fresh-row n k _ (fresh-at few s ok (addressOf i) l) r g)
-    (owned-row (addressOf i) _ (owned-at few s ok (addressOf i) l) r))
+    (owned-rows (addressOf i) _ (owned-at few s ok (addressOf i) l) _))
 
 -- ---- all lines: their names are right, and they have k instructions
 module _ (n k : ℕ) (few : n ≤ 16) (all : List Line) (whole : total all ≤ k) (right : namesRight all ≡ true) where
@@ -161,6 +161,7 @@ compiled-parts x ok right =
     let net = peopled-fresh n k few (x .lines) (omega arith) right 0 (x .lines) _ (omega arith) (ok .lines-ok) u
     (ruled-fresh n k 0 (x .rows) _ few (omega arith) (ok .rows-ok .each) (empty-fresh n k)) in
     record {
+      format-is = net .format-is;
       addresses-are = net .addresses-are;
       length-is = net .length-is;
       nodes = net .nodes;

@@ -1,8 +1,9 @@
 -- The net of a source is fresh (`Fresh.antt` of `fresh`), where the source is in range (`Lines.antt`), its names are right, it
 -- has 1 to 512 instructions, and each process keeps within its row. Assumes nothing.
 use Prim.Native.Nat.{ℕ, _<_, _≤_}
-use mathlib.Core.Path.{_≡_, sym, ap, subst₂, _∙_}
+use mathlib.Core.Path.{_≡_, sym, ap, _∙_}
 use mathlib.Core.Bool.{true}
+use native.Mathlib.Omega.{arith}
 use lib.ListN.{length}
 use lib.Dec.{ltb}
 use Rattle.net.specs.Choice.{both, all}
@@ -11,7 +12,7 @@ use Rattle.net.proofs.Laws.{both-i, all-i}
 use Rattle.net.proofs.Every.{filled-each, filled-map}
 use Rattle.sound.specs.Soundness.{allUnset, soundOf}
 use Rattle.sound.proofs.NodeFacts.{of-zero}
-use Rattle.sound.proofs.NetFacts.{NetWith, net-sound}
+use Rattle.sound.proofs.NetFacts.{net-sound}
 use Rattle.keeping.specs.Admission.{admits}
 use Rattle.fresh.specs.Fresh.{nodeFits, instructionFits, netFits, ownOrigins, ownMarks, startsAt, freshOf}
 use Rattle.fresh.proofs.FitLaws.{net-fits, zero-node-fits, zero-instruction-fits}
@@ -30,6 +31,9 @@ module _ (x : Source) (ok : SourceOk x) (right : namesRight (x .lines) ≡ true)
   parts : NetFresh (length (x .rows)) (total (x .lines)) (compiled x)
   parts = compiled-parts x ok right
 
+  pub compiled-format : compiled x .format ≡ 1
+  compiled-format = parts .format-is
+
   fits : netFits (compiled x) ≡ true
   fits =
       net-fits (compiled x)
@@ -45,7 +49,9 @@ module _ (x : Source) (ok : SourceOk x) (right : namesRight (x .lines) ≡ true)
   sound : 1 ≤ total (x .lines) → total (x .lines) ≤ 512 → soundOf (compiled x) ≡ true
   sound some few =
       net-sound (compiled x)
-      (subst₂ (λ (n k : ℕ). NetWith n k (compiled x)) (sym (parts .addresses-are)) (sym (parts .length-is)) (record {
+      (rw (parts .format-is, parts .addresses-are, parts .length-is) (record {
+        format-least = omega arith;
+        format-most = omega arith;
         addresses-least = ok .rows-ok .some;
         addresses-most = ok .rows-ok .few;
         length-least = some;

@@ -1,26 +1,27 @@
--- The nodes and instructions of a net that a text gives: sound (`NodeFacts.antt` and `CodeFacts.antt` of `sound`), each variable
--- unset, each reading of 32 bits, each process with its own node as origin and each tuple with its own node's mark; and what
--- keeps them so. Assumes nothing.
+-- The nodes and instructions of a net that a text gives: sound in format 1 (`NodeFacts.antt` and `CodeFacts.antt` of `sound`),
+-- each variable unset, each reading of 32 bits, each process with its own node as origin and each tuple with its own node's mark;
+-- and what keeps them so. Assumes nothing.
 use Prim.Native.Nat.{ℕ, _<_, _≤_}
-use mathlib.Core.Path.{_≡_, refl}
+use mathlib.Core.Path.{_≡_, refl, sym, _∙_}
 use mathlib.Core.Bool.{true}
 use mathlib.Core.List.{List}
 use native.Mathlib.Omega.{arith}
 use borrow.Author.Tests.{ltb-true, eq-eqb}
-use Rattle.net.specs.Records.{freeProcess, startingAt, zeroTuple, zeroNode, zeroInstruction, processAt, tupleAt, nodeAt}
-use Rattle.net.specs.Records.{emptyNet, marked, withRow, withProcess, withTuple, withNode, withCounts, withAction}
+use Rattle.net.specs.Records.{freeProcess, startingAt, zeroTuple, zeroNode, zeroInstruction, addressOf, rowAt, processAt, tupleAt, nodeAt}
+use Rattle.net.specs.Records.{emptyNet, alike, marked, withRows, withProcess, withTuple, withNode, withCounts, withFormat, withAction}
 use Rattle.net.proofs.Laws.{both-i, implies-i, all-i}
 use Rattle.net.proofs.Every.{chosen-lt, Every, Filled, every-replicate, every-set, filled-set}
-use Rattle.net.proofs.Past.{pastProcess, pastTuple, pastNode, pastInstruction}
+use Rattle.net.proofs.Past.{pastRow, pastProcess, pastTuple, pastNode, pastInstruction}
 use Rattle.net.proofs.ReadingLaws.{never}
 use Rattle.sound.specs.Soundness.{allUnset}
 use Rattle.sound.proofs.NodeFacts.{RowOk, NodeOk, node-shaped}
-use Rattle.sound.proofs.NodeChanges.{runs, starting, zero-node, with-row, with-process, with-tuple}
+use Rattle.sound.proofs.NodeChanges.{alike-rows, runs, starting, zero-node, with-rows, with-process, with-tuple}
 use Rattle.sound.proofs.CodeFacts.{InstructionOk}
 use Rattle.sound.proofs.NetChanges.{zero-instruction}
-use Rattle.fresh.specs.Fresh.{tupleFits, processFits, nodeFits, instructionFits, ownOrigin, ownOrigins, ownMark, ownMarks}
+use Rattle.fresh.specs.Fresh.{tupleFits, rowFits, processFits, nodeFits, instructionFits, ownOrigin, ownOrigins, ownMark, ownMarks}
 use Rattle.fresh.proofs.FitLaws.{array-fits, action-fits, zero-instruction-fits}
 use Rattle.fresh.proofs.StartLaws.{free-unset, starting-unset}
+use Rattle.linking.specs.Compiled.{unruled}
 use Rattle.texts.specs.Types.{Locality, Place, Row, Tuple, Node, Action, Instruction, Net}
 use Rattle.texts.proofs.Fields.{TupleRead}
 use Rattle.texts.proofs.Fits.{no-item, tuple-fits}
@@ -40,7 +41,7 @@ abbrev pub TuplesFit : Node → Type 0
 TuplesFit x = Every (λ i t. tupleFits t ≡ true) pastTuple 16 (x .tuples)
 
 pub record NodeFresh (n k : ℕ) (x : Node) : Type 0 where
-  pub sound : NodeOk n k x
+  pub sound : NodeOk 1 n k x
   pub unset : AllUnset x
   pub fit : TuplesFit x
 
@@ -48,20 +49,25 @@ module _ (n k : ℕ) where
   pub zero-fresh : NodeFresh n k zeroNode
   unfolding zeroNode
   zero-fresh = record {
-    sound = zero-node n k;
+    sound = zero-node 1 n k;
     unset = every-replicate _ pastProcess 4 freeProcess (λ i h. free-unset);
     fit = every-replicate _ pastTuple 16 zeroTuple (λ i h. tuple-fits zeroTuple no-item);
   }
 
   module _ (x : Node) (ok : NodeFresh n k x) where
-    pub fresh-row : (r : Row) → RowOk n r → NodeFresh n k (withRow x r)
-    unfolding withRow
-    fresh-row r h = record { sound = with-row n k x (ok .sound) r h; unset = ok .unset; fit = ok .fit }
+    -- one row for every origin
+    pub fresh-row : (r : Row) → RowOk n r → NodeFresh n k (withRows x (alike r))
+    unfolding withRows
+    fresh-row r h = record {
+      sound = with-rows 1 n k x (ok .sound) (alike r) (alike-rows 1 n r h (λ e. never (sym e ∙ eq-eqb 1 1 refl)));
+      unset = ok .unset;
+      fit = ok .fit;
+    }
 
     pub fresh-process : (a : Locality) (i : ℕ) (p : Place) → a .0 < n → p .0 < k → NodeFresh n k (withProcess x i (startingAt a p))
     unfolding withProcess
     fresh-process a i p l h = record {
-      sound = with-process n k x (ok .sound) i _ (runs n k _ (starting n k a p l h));
+      sound = with-process 1 n k x (ok .sound) i _ (runs n k _ (starting n k a p l h));
       unset = every-set i _ (ok .unset) (λ j q d e. e) (starting-unset a p);
       fit = ok .fit;
     }
@@ -69,7 +75,7 @@ module _ (n k : ℕ) where
     pub fresh-tuple : (a : Locality) (t : Tuple) → a .0 < n → TupleRead n t → NodeFresh n k (withTuple x (marked a t))
     unfolding withTuple
     fresh-tuple a t l h = record {
-      sound = with-tuple n k x (ok .sound) (marked a t) (h .sound a l);
+      sound = with-tuple 1 n k x (ok .sound) (marked a t) (h .sound a l);
       unset = chosen-lt AllUnset (x .stored) 16 _ _ (λ _. ok .unset) (λ _. ok .unset);
       fit =
           chosen-lt TuplesFit (x .stored) 16 _ _ (λ _. every-set (x .stored) (marked a t) (ok .fit) (λ j u d e. e) (h .fits a))
@@ -77,12 +83,15 @@ module _ (n k : ℕ) where
     }
 
     pub node-fits : nodeFits x ≡ true
-    unfolding nodeFits processAt tupleAt processFits
+    unfolding nodeFits rowAt processAt tupleAt rowFits processFits
     node-fits =
-        let shape = node-shaped n k x (ok .sound) in
-        let each : Every (λ i p. processFits p ≡ true) pastProcess 4 (x .processes) =
+        let shape = node-shaped 1 n k x (ok .sound) in
+        let rows : Every (λ o r. rowFits r ≡ true) pastRow 16 (x .rows) =
+        record { size-is = shape .rows-are; holds = λ o h. eq-eqb _ _ (shape .each-row (addressOf o) h .rights-are) } in
+        let processes : Every (λ i p. processFits p ≡ true) pastProcess 4 (x .processes) =
         record { size-is = shape .processes-are; holds = λ i h. eq-eqb _ _ (shape .each-process i h .variables-are) } in
-        both-i _ _ (eq-eqb _ _ (shape .rights-are)) (both-i _ _ (array-fits processFits each) (array-fits tupleFits (ok .fit)))
+        both-i _ _ (array-fits rowFits rows)
+        (both-i _ _ (array-fits processFits processes) (array-fits tupleFits (ok .fit)))
 
 -- ---- each process of the node at address m has m as its origin, and each tuple m's mark
 pub record Owned (m : ℕ) (x : Node) : Type 0 where
@@ -97,9 +106,9 @@ zero-owned m = record {
 }
 
 module _ (a : Locality) (x : Node) (ok : Owned (a .0) x) where
-  pub owned-row : (r : Row) → Owned (a .0) (withRow x r)
-  unfolding withRow
-  owned-row r = record { origins = ok .origins; marks = ok .marks }
+  pub owned-rows : (rs : List Row) → Owned (a .0) (withRows x rs)
+  unfolding withRows
+  owned-rows rs = record { origins = ok .origins; marks = ok .marks }
 
   pub owned-process : (i : ℕ) (p : Place) → Owned (a .0) (withProcess x i (startingAt a p))
   unfolding withProcess startingAt
@@ -123,20 +132,22 @@ module _ (a : Locality) (x : Node) (ok : Owned (a .0) x) where
   unfolding ownMarks ownMark tupleAt
   own-marks = all-i 16 _ (λ i h. implies-i _ _ (λ e. eq-eqb _ _ (ok .marks .holds i h (ltb-true _ _ e))))
 
--- ---- a net with n addresses and k instructions
+-- ---- a net of format 1 with n addresses and k instructions
 abbrev pub CodeFresh : ℕ → ℕ → List Instruction → Type 0
 CodeFresh n k code = Every (Filled (InstructionFresh n k) (λ c. c ≡ zeroInstruction) k) pastInstruction 512 code
 
 pub record NetFresh (n k : ℕ) (s : Net) : Type 0 where
+  pub format-is : s .format ≡ 1
   pub addresses-are : s .addresses ≡ n
   pub length-is : s .length ≡ k
   pub nodes : Every (Filled (NodeFresh n k) (λ x. x ≡ zeroNode) n) pastNode 16 (s .nodes)
   pub owned : Every Owned pastNode 16 (s .nodes)
   pub code : CodeFresh n k (s .code)
 
-pub empty-fresh : (n k : ℕ) → NetFresh n k (withCounts emptyNet n k)
-unfolding withCounts emptyNet
+pub empty-fresh : (n k : ℕ) → NetFresh n k (unruled n k)
+unfolding unruled withCounts withFormat emptyNet
 empty-fresh n k = record {
+  format-is = refl;
   addresses-are = refl;
   length-is = refl;
   nodes = every-replicate _ pastNode 16 zeroNode (λ a _. record { used = λ _. zero-fresh n k; unused = λ _. refl });
@@ -158,6 +169,7 @@ module _ {n k : ℕ} (few : n ≤ 16) (s : Net) (ok : NetFresh n k s) (a : Local
   pub fresh-with : (x : Node) → NodeFresh n k x → Owned (a .0) x → NetFresh n k (withNode s a x)
   unfolding withNode
   fresh-with x g o = record {
+    format-is = ok .format-is;
     addresses-are = ok .addresses-are;
     length-is = ok .length-is;
     nodes = filled-set (a .0) x h g (ok .nodes);

@@ -16,14 +16,15 @@ use Rattle.linking.specs.Names.{namesRight}
 use Rattle.linking.specs.Compiled.{total, compiled}
 use Rattle.notation.specs.Text.{refused, accepted, judgedSource, judged, readOf}
 use Rattle.texts.specs.Types.{Verdict, Opened}
-use Rattle.texts.specs.TextClaims.{TextNumber, count, beyond-row, name, TextIsSound, TextIsFresh, RefusedTextIsEmpty, RefusedTextIsNumbered}
+use Rattle.texts.specs.TextClaims.{TextNumber, count, beyond-row, name}
+use Rattle.texts.specs.TextClaims.{TextIsSound, TextIsFresh, TextIsFormatOne, RefusedTextIsEmpty, RefusedTextIsNumbered}
 use Rattle.texts.proofs.Gives.{Fine, value, stopped}
 use Rattle.texts.proofs.Lines.{SourceOk, gives-source}
-use Rattle.texts.proofs.Fresh.{compiled-fresh}
+use Rattle.texts.proofs.Fresh.{compiled-format, compiled-fresh}
 
--- an answer of the reader: accepted, or refused with one of the numbers and the empty net
+-- an answer of the reader: accepted with a fresh net of format 1, or refused with one of the numbers and the empty net
 data Answered : Opened → Type 0 where
-  took : {o : Opened} → o .answer ≡ Verdict.Accepted → freshOf (o .net) ≡ true → Answered o
+  took : {o : Opened} → o .answer ≡ Verdict.Accepted → o .net .format ≡ 1 → freshOf (o .net) ≡ true → Answered o
   left : {n : ℕ} → TextNumber n → Answered (refused n)
 
 -- the branch that a test takes, known to hold
@@ -38,7 +39,7 @@ judged-source x ok =
     either (namesRight (x .lines)) _ _ (λ right.
     either (inRange 1 (total (x .lines)) 512) _ _ (λ few.
     either (admits (compiled x)) _ _ (λ kept.
-    took refl (compiled-fresh x ok right (in-range-low 1 _ 512 few) (in-range-high 1 _ 512 few) kept))
+    took refl (compiled-format x ok right) (compiled-fresh x ok right (in-range-low 1 _ 512 few) (in-range-high 1 _ 512 few) kept))
     (left beyond-row)) (left count)) (left name)
 
 answered-from : (o : Parsed Source) → Fine SourceOk o → Answered (judged o)
@@ -73,7 +74,15 @@ unfolding TextIsFresh
 textIsFresh text = go (readOf text) (answered text)
   where
     go : (o : Opened) → Answered o → o .answer ≡ Verdict.Accepted → freshOf (o .net) ≡ true
-    go o (took h g) e = g
+    go o (took h f g) e = g
+    go o (left {n = m} h) e = no-both (refused m .answer) m e (left-answer m)
+
+pub textIsFormatOne : TextIsFormatOne
+unfolding TextIsFormatOne
+textIsFormatOne text = go (readOf text) (answered text)
+  where
+    go : (o : Opened) → Answered o → o .answer ≡ Verdict.Accepted → o .net .format ≡ 1
+    go o (took h f g) e = f
     go o (left {n = m} h) e = no-both (refused m .answer) m e (left-answer m)
 
 pub textIsSound : TextIsSound
@@ -85,7 +94,7 @@ unfolding RefusedTextIsEmpty
 refusedTextIsEmpty text n = go (readOf text) (answered text)
   where
     go : (o : Opened) → Answered o → o .answer ≡ Verdict.Refused n → o .net ≡ emptyNet
-    go o (took h g) e = no-both (o .answer) n h e
+    go o (took h f g) e = no-both (o .answer) n h e
     go o (left h) e = left-empty _
 
 pub refusedTextIsNumbered : RefusedTextIsNumbered
@@ -93,5 +102,5 @@ unfolding RefusedTextIsNumbered
 refusedTextIsNumbered text n = go (readOf text) (answered text)
   where
     go : (o : Opened) → Answered o → o .answer ≡ Verdict.Refused n → TextNumber n
-    go o (took h g) e = no-both (o .answer) n h e
+    go o (took h f g) e = no-both (o .answer) n h e
     go o (left {n = m} h) e = subst TextNumber (same-number m n (left-number m n e)) h

@@ -17,6 +17,10 @@ TextIsSound = (text : List ℕ) → readOf text .answer ≡ Verdict.Accepted →
 unfoldable pub TextIsFresh : Type 0
 TextIsFresh = (text : List ℕ) → readOf text .answer ≡ Verdict.Accepted → freshOf (readOf text .net) ≡ true
 
+-- of format 1, so that one row of a node serves every origin (document 02, slip 10)
+unfoldable pub TextIsFormatOne : Type 0
+TextIsFormatOne = (text : List ℕ) → readOf text .answer ≡ Verdict.Accepted → readOf text .net .format ≡ 1
+
 -- a refused text gives the empty net
 unfoldable pub RefusedTextIsEmpty : Type 0
 RefusedTextIsEmpty = (text : List ℕ) (n : ℕ) → readOf text .answer ≡ Verdict.Refused n → readOf text .net ≡ emptyNet

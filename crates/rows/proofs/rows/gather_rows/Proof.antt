@@ -1,9 +1,9 @@
--- `rows::rows::gather_rows` meets its contract. Assumes nothing.
+-- `rows::rows::gather_rows` meets its contract: in what follows `test` is what is known after the loop's test. Assumes nothing.
 use Prim.Native.Nat.{_-_}
 use mathlib.Core.Path.{_≡_}
 use lib.Dec.{ltb}
 use Rattle.net.specs.Choice.{both}
-use Rattle.net.specs.Records.{nodeAt, withNode, withRow, withCounts}
+use Rattle.net.specs.Records.{nodeAt, withNode, withRows, withCounts, withFormat}
 use Rattle.rows.specs.Progress.{isRowHere, Ruling}
 use Rattle.rows.proofs.AllRowsLaws.{fewer-left, has-place, ruling-begin, ruling-more, gathered}
 use borrow.Author.Needs.{needs}
@@ -17,7 +17,7 @@ abbrev μ-loop : tie.MeasureT-loop
 μ-loop s net₀ next₀ n₀ more₀ net next n more = 16 - n
 
 pub gather-rows-spec : {M : Type 1} → statement M
-unfolding nodeAt withNode withRow withCounts
+unfolding nodeAt withNode withRows withCounts withFormat
 gather-rows-spec =
     tie.close
     (tie.spec
@@ -27,13 +27,16 @@ gather-rows-spec =
     (λ c κs. search needs)
     (λ c. search (needs, ruling-begin))
     (λ c κs. search needs)
+    (λ c κs. search needs)
     (λ c. search (needs, has-place))
     (λ c. search (needs, has-place))
     (λ c. search (needs, has-place))
     (λ c. search (needs, has-place))
     (λ c. search (needs, has-place))
     (λ c κs. search needs)
-    (λ c. search (needs, fewer-left))
+    (λ c.
+    let test = c .before .before .before .before .before in
+    search (needs, fewer-left, test .before .loop .inv .0, test .loop-test .taken))
     (λ c. search (needs, ruling-more))
     (λ c κs. search needs)
     (λ c κs. search needs)
