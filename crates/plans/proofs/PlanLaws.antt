@@ -1,18 +1,21 @@
 -- Laws by which the code of requests and plans meets its definitions. Assumes nothing.
-use Prim.Native.Nat.{ℕ}
+use Prim.Native.Nat.{ℕ, _<_, _≤_}
 use mathlib.Core.Path.{_≡_, refl, sym, ap, _∙_}
 use mathlib.Core.Bool.{Bool, true, false}
-use lib.ListN.{getD}
+use mathlib.Core.List.{List}
+use lib.ListN.{getD, set}
 use lib.IntN.{ℤ}
+use borrow.Author.Tests.{lt-ltb, le-ltb}
 use Rattle.net.specs.Choice.{choose}
-use Rattle.net.specs.Records.{marked, withField, withRights, withRow, withVariable, movedTo, putIn, zeroNode}
+use Rattle.net.specs.Records.{marked, withField, withRights, withRow, withRows, withVariable, movedTo, putIn, zeroNode}
+use Rattle.net.specs.Records.{alike, zeroRow, rowAt, rowFor}
 use Rattle.matching.specs.Matching.{wantAt}
 use Rattle.net.proofs.Laws.{choose-true, choose-false}
 use Rattle.matching.proofs.MatchingPromise.{matchingPromise as matching}
 use Rattle.plans.specs.Types.{Locality, Place, Value, Item, Tuple, Rights, Row, Process, Node, Changed, Want, Evaluated, Found, Matched}
 use Rattle.plans.specs.Answer.{Answer}
 use Rattle.plans.specs.Plan.{Plan, going, changing, startPlan, opening}
-use Rattle.plans.specs.Additions.{itemOf, gaining}
+use Rattle.plans.specs.Additions.{itemOf, gaining, ownRow, openedRows}
 use Rattle.plans.specs.Request.{Aim, Request, at, spoken}
 
 -- ---- matches: the pattern y of an arm stands for the value x
@@ -108,11 +111,40 @@ rights-as row x l r s a d = d ∙ ap (withRights row l) a
 pub moved-as : (p r x : Process) (q : Place) → p ≡ r → x ≡ movedTo p q → x ≡ movedTo r q
 moved-as p r x q a d = d ∙ ap (λ (z : Process). movedTo z q) a
 
-pub row-as : (x y z : Node) (r s : Row) → x ≡ y → r ≡ s → z ≡ withRow x r → z ≡ withRow y s
-row-as x y z r s a b d = d ∙ ap (λ (w : Node). withRow w r) a ∙ ap (withRow y) b
+pub rows-as : (x y z : Node) (r s : List Row) → x ≡ y → r ≡ s → z ≡ withRows x r → z ≡ withRows y s
+rows-as x y z r s a b d = d ∙ ap (λ (w : Node). withRows w r) a ∙ ap (withRows y) b
 
-pub opening-as : (row : Row) (p r : Process) (v : ℕ) (q : Place) (l : Locality) (y : Node)
-    → r ≡ movedTo (withVariable p v (Value.Address l)) q → y ≡ withRow zeroNode (gaining row l)
-    → _≡_ {A = Plan} (record { answer = Answer.Performed; process = r; target = y; opens = true }) (opening row p v q l)
+pub opening-as : (f : ℕ) (a : Locality) (p r : Process) (x : Node) (v : ℕ) (q : Place) (l : Locality) (y : Node)
+    → r ≡ movedTo (withVariable p v (Value.Address l)) q → y ≡ withRows zeroNode (openedRows f x a p l)
+    → _≡_ {A = Plan} (record { answer = Answer.Performed; process = r; target = y; opens = true }) (opening f a p x v q l)
 unfolding opening
-opening-as row p r v q l y a b = rw (a, b)
+opening-as f a p r x v q l y d b = rw (d, b)
+
+-- ---- the rows after a new
+module _ (x : Node) (a : Locality) where
+  pub own-in : a .0 < 16 → rowAt x a ≡ ownRow x a
+  unfolding ownRow
+  own-in h = sym (choose-true _ _ _ (lt-ltb _ 16 h))
+
+  pub own-beyond : (r : Row) → r ≡ zeroRow → 16 ≤ a .0 → r ≡ ownRow x a
+  unfolding ownRow
+  own-beyond r e h = e ∙ sym (choose-false _ _ _ (le-ltb _ 16 h))
+
+  pub opened-as : (l : Locality) (own row : Row) (y z : Node) → own ≡ ownRow x a → row ≡ gaining own l → y ≡ withRow x a row → z ≡ withRow y l row
+      → z .rows ≡ set (set (x .rows) (a .0) (gaining (ownRow x a) l)) (l .0) (gaining (ownRow x a) l)
+  unfolding withRow withRows
+  opened-as l own row y z e f g h =
+      ap (λ (w : Node). w .rows) h
+      ∙ ap (λ (w : Node). set (w .rows) (l .0) row) g
+      ∙ ap (λ (r : Row). set (set (x .rows) (a .0) r) (l .0) r) (f ∙ ap (λ (r : Row). gaining r l) e)
+
+module _ (x : Node) (p : Process) (l : Locality) (row gain : Row) (e : row ≡ rowFor x p) (d : gain ≡ gaining row l) where
+  gain-is : gain ≡ gaining (rowFor x p) l
+  gain-is = d ∙ ap (λ (r : Row). gaining r l) e
+
+  pub alike-as : (rs : List Row) → rs ≡ alike gain → rs ≡ alike (gaining (rowFor x p) l)
+  alike-as rs h = h ∙ ap alike gain-is
+
+  pub creator-as : (z : Node) → z ≡ withRow x (p .origin) gain → z .rows ≡ set (x .rows) (p .origin .0) (gaining (rowFor x p) l)
+  unfolding withRow withRows
+  creator-as z h = ap (λ (w : Node). w .rows) h ∙ ap (set (x .rows) (p .origin .0)) gain-is

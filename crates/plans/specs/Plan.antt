@@ -5,13 +5,13 @@ use Prim.Native.Nat.{ℕ}
 use mathlib.Core.Bool.{Bool, true, false}
 use lib.Dec.{ltb}
 use Rattle.net.specs.Choice.{choose}
-use Rattle.net.specs.Records.{withRow, withVariable, movedTo, copiedTo, sentFrom}
+use Rattle.net.specs.Records.{withRows, withVariable, movedTo, copiedTo, sentFrom}
 use Rattle.net.specs.Records.{marked, putIn, takenFrom, startedOn, freeProcess, zeroNode, addressOf}
 use Rattle.matching.specs.Matching.{matchedOf}
 use Rattle.plans.specs.Types.{Locality, Place, Value, Tuple, Row, Process, Node, Changed, Evaluated, Found}
 use Rattle.plans.specs.Answer.{Answer}
 use Rattle.plans.specs.Request.{Request, granted}
-use Rattle.plans.specs.Additions.{tupleOf, gaining}
+use Rattle.plans.specs.Additions.{tupleOf, openedRows}
 
 -- ---- plans: in what follows p is the host's process, y the node at the target
 
@@ -49,29 +49,30 @@ startPlan p y copy q = changing (movedTo p q) Answer.NoRoom (startedOn y copy)
 unfoldable pub evalPlan : Locality → Process → Node → Place → Place → Bool → Plan
 evalPlan a p y sent q within = choose within (startPlan p y (sentFrom a p sent) q) (refusing Answer.NotWithin y)
 
--- a new address l, opened by a process under a row
-unfoldable pub opening : Row → Process → ℕ → Place → Locality → Plan
-opening row p v q l = record {
+-- a new address l, opened in a net of format f by a process hosted at the node x of address a
+unfoldable pub opening : ℕ → Locality → Process → Node → ℕ → Place → Locality → Plan
+opening f a p x v q l = record {
   answer = Answer.Performed;
   process = movedTo (withVariable p v (Value.Address l)) q;
-  target = withRow zeroNode (gaining row l);
+  target = withRows zeroNode (openedRows f x a p l);
   opens = true;
 }
 
-unfoldable pub newPlan : Row → Process → Node → ℕ → Place → ℕ → Plan
-newPlan row p y v q n = choose (ltb n 16) (opening row p v q (addressOf n)) (refusing Answer.NoRoom y)
+unfoldable pub newPlan : ℕ → Locality → Process → Node → ℕ → Place → ℕ → Plan
+newPlan f a p x v q n = choose (ltb n 16) (opening f a p x v q (addressOf n)) (refusing Answer.NoRoom x)
 
--- the plan of a request: a is the host's address, n the address count, `within` whether sent code keeps within y's row
-unfoldable pub grantedPlan : Locality → Row → Process → Node → Evaluated → ℕ → Bool → Request → Plan
-grantedPlan a row p y e n within Request.Lack = refusing Answer.NotSet y
-grantedPlan a row p y e n within Request.Stop = stopPlan y
-grantedPlan a row p y e n within (Request.Out l q) = outPlan p y q (marked a (tupleOf e))
-grantedPlan a row p y e n within (Request.In l q) = inPlan (matchedOf p y e .process) y q (matchedOf p y e .found)
-grantedPlan a row p y e n within (Request.Read l q) = readPlan (matchedOf p y e .process) y q (matchedOf p y e .found)
-grantedPlan a row p y e n within (Request.Eval l sent q) = evalPlan a p y sent q within
-grantedPlan a row p y e n within (Request.New v q) = newPlan row p y v q n
-grantedPlan a row p y e n within (Request.Fork q q′) = startPlan p y (copiedTo p q′) q
+-- the plan of a request: f is the format, a the host's address, n the address count, `within` whether sent code keeps within y's
+-- row for it; for a new, whose target has no node yet, y is the host's node
+unfoldable pub grantedPlan : ℕ → Locality → Process → Node → Evaluated → ℕ → Bool → Request → Plan
+grantedPlan f a p y e n within Request.Lack = refusing Answer.NotSet y
+grantedPlan f a p y e n within Request.Stop = stopPlan y
+grantedPlan f a p y e n within (Request.Out l q) = outPlan p y q (marked a (tupleOf e))
+grantedPlan f a p y e n within (Request.In l q) = inPlan (matchedOf p y e .process) y q (matchedOf p y e .found)
+grantedPlan f a p y e n within (Request.Read l q) = readPlan (matchedOf p y e .process) y q (matchedOf p y e .found)
+grantedPlan f a p y e n within (Request.Eval l sent q) = evalPlan a p y sent q within
+grantedPlan f a p y e n within (Request.New v q) = newPlan f a p y v q n
+grantedPlan f a p y e n within (Request.Fork q q′) = startPlan p y (copiedTo p q′) q
 
-unfoldable pub planOf : Locality → Row → Process → Node → Evaluated → ℕ → Bool → Request → Plan
-planOf a row p y e n within req =
-    choose (granted row req) (grantedPlan a row p y e n within req) (refusing Answer.NoRight y)
+unfoldable pub planOf : ℕ → Locality → Row → Process → Node → Evaluated → ℕ → Bool → Request → Plan
+planOf f a row p y e n within req =
+    choose (granted row req) (grantedPlan f a p y e n within req) (refusing Answer.NoRight y)

@@ -3,3 +3,4 @@
 pub mod answer;
 pub mod plan;
 pub mod request;
+pub mod rows;

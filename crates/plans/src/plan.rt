@@ -3,6 +3,7 @@
 use crate::answer::Answer;
 use crate::request::Request;
 use crate::request::has_right;
+use crate::rows::opened_rows;
 use matching::template::Evaluated;
 use matching::template::Found;
 use matching::template::Want;
@@ -11,7 +12,6 @@ use net::locality::Locality;
 use net::locality::Place;
 use net::node::Changed;
 use net::node::Node;
-use net::policy::Rights;
 use net::policy::Row;
 use net::process::Process;
 use net::tuple::Field;
@@ -23,8 +23,8 @@ ghost use mathlib.Core.Path.{_≡_};
 ghost use lib.Dec.{ltb};
 ghost use Rattle.net.specs.Choice.{choose};
 ghost use Rattle.matching.specs.Matching.{wantAt, matchedOf};
-ghost use Rattle.net.specs.Records.{marked, withField, withVariable, withRow, movedTo, copiedTo, sentFrom, takenFrom, zeroNode};
-ghost use Rattle.plans.specs.Additions.{itemOf, tupleOf, gaining};
+ghost use Rattle.net.specs.Records.{marked, withField, withVariable, withRows, movedTo, copiedTo, sentFrom, takenFrom, zeroNode};
+ghost use Rattle.plans.specs.Additions.{itemOf, tupleOf, openedRows};
 ghost use Rattle.plans.specs.Types.{Value};
 ghost use Rattle.plans.specs.Plan.{going, refusing, changing, stopPlan, outPlan, inPlan, readPlan, startPlan, evalPlan};
 ghost use Rattle.plans.specs.Plan.{opening, newPlan, grantedPlan, planOf};
@@ -214,14 +214,6 @@ fn eval_plan(a: Locality, p: Process, y: Node, sent: Place, q: Place, within: bo
     }
 }
 
-// A row with every right on an address.
-pub fn gained(row: Row, l: Locality) -> Row
-    ensures { λ r. ⌜ r ≡ gaining row l ⌝ }
-{
-    let all = Rights::full();
-    row.with_rights(l, all)
-}
-
 // The creator's process, with the new address in its variable, at its next place.
 fn creator(p: Process, v: u8, l: Locality, q: Place) -> Process
     ensures { λ r. ⌜ r ≡ movedTo (withVariable p v (Value.Address l)) q ⌝ }
@@ -231,22 +223,21 @@ fn creator(p: Process, v: u8, l: Locality, q: Place) -> Process
     set.moved_to(q)
 }
 
-// A new node, whose row is the creator's with every right on itself.
-fn opened_node(row: Row, l: Locality) -> Node
-    ensures { λ r. ⌜ r ≡ withRow zeroNode (gaining row l) ⌝ }
+// The node of a new address l, which a process p hosted at the node x of address a opens in a net of format f.
+fn opened_node(f: usize, x: Node, a: Locality, p: Process, l: Locality) -> Node
+    ensures { λ r. ⌜ r ≡ withRows zeroNode (openedRows f x a p l) ⌝ }
 {
     let zero = Node::zero();
-    let own = gained(row, l);
-    zero.with_row(own)
+    let rows = opened_rows(f, x, a, p, l);
+    zero.with_rows(rows)
 }
 
-// A new address l, opened by a process under a row.
-fn open_plan(row: Row, p: Process, v: u8, q: Place, l: Locality) -> Plan
-    ensures { λ r. ⌜ r ≡ opening row p v q l ⌝ }
+fn open_plan(f: usize, a: Locality, p: Process, x: Node, v: u8, q: Place, l: Locality) -> Plan
+    ensures { λ r. ⌜ r ≡ opening f a p x v q l ⌝ }
 {
     let answer = Answer::Performed;
     let process = creator(p, v, l, q);
-    let target = opened_node(row, l);
+    let target = opened_node(f, x, a, p, l);
     Plan {
         answer,
         process,
@@ -255,20 +246,20 @@ fn open_plan(row: Row, p: Process, v: u8, q: Place, l: Locality) -> Plan
     }
 }
 
-fn new_plan(row: Row, p: Process, y: Node, v: u8, q: Place, n: usize) -> Plan
-    ensures { λ r. ⌜ r ≡ newPlan row p y v q n ⌝ }
+fn new_plan(f: usize, a: Locality, p: Process, x: Node, v: u8, q: Place, n: usize) -> Plan
+    ensures { λ r. ⌜ r ≡ newPlan f a p x v q n ⌝ }
 {
     if n < 16 {
-        open_plan(row, p, v, q, Locality(n as u8))
+        open_plan(f, a, p, x, v, q, Locality(n as u8))
     } else {
-        refused(Answer::NoRoom, y)
+        refused(Answer::NoRoom, x)
     }
 }
 
 // The plan of a request whose right is held.
 fn granted_plan(
+    f: usize,
     a: Locality,
-    row: Row,
     p: Process,
     y: Node,
     e: Evaluated,
@@ -276,7 +267,7 @@ fn granted_plan(
     within: bool,
     r: Request,
 ) -> Plan
-    ensures { λ x. ⌜ x ≡ grantedPlan a row p y e n within r ⌝ }
+    ensures { λ x. ⌜ x ≡ grantedPlan f a p y e n within r ⌝ }
 {
     match r {
         Request::Lack => refused(Answer::NotSet, y),
@@ -285,13 +276,15 @@ fn granted_plan(
         Request::In(_, q) => in_request(p, y, q, e),
         Request::Read(_, q) => read_request(p, y, q, e),
         Request::Eval(_, sent, q) => eval_plan(a, p, y, sent, q, within),
-        Request::New(v, q) => new_plan(row, p, y, v, q, n),
+        Request::New(v, q) => new_plan(f, a, p, y, v, q, n),
         Request::Fork(q, other) => fork_plan(p, y, q, other),
     }
 }
 
-// The plan of a request: a is the host's address, n the address count, `within` whether sent code keeps within y's row.
+// The plan of a request: f is the format, a the host's address, n the address count, `within` whether sent code keeps within
+// y's row for it. For a new, whose target has no node yet, y is the host's node.
 pub fn plan_for(
+    f: usize,
     a: Locality,
     row: Row,
     p: Process,
@@ -301,10 +294,10 @@ pub fn plan_for(
     within: bool,
     r: Request,
 ) -> Plan
-    ensures { λ x. ⌜ x ≡ planOf a row p y e n within r ⌝ }
+    ensures { λ x. ⌜ x ≡ planOf f a row p y e n within r ⌝ }
 {
     if has_right(row, r) {
-        granted_plan(a, row, p, y, e, n, within, r)
+        granted_plan(f, a, p, y, e, n, within, r)
     } else {
         refused(Answer::NoRight, y)
     }

@@ -53,22 +53,24 @@ pub fn make(start: Net, picks: &[u8], answers: &mut [u8]) -> Net
         i += 1;
         let a = host_of(b);
         let host_at = a.0 as usize;
-        let seat = seat_of(b, net.addresses, net.nodes[host_at]);
+        let seat = seat_of(b, net.format, net.addresses, net.nodes[host_at]);
         let place = seat.index;
         let turn = turn_of(seat, net.code[place]);
         let l = turn.target;
+        let from = turn.source;
         let target_at = l.0 as usize;
+        let source_at = from.0 as usize;
         let plan = if turn.sends {
-            plan_with(net.code, turn, net.nodes[target_at])
+            plan_with(net.code, turn, net.nodes[source_at])
         } else {
-            plan_of(turn, net.nodes[target_at], true)
+            plan_of(turn, net.nodes[source_at], true)
         };
         let answer = plan.answer;
         answers[at] = number_of(answer);
         if changes_net(answer) {
             let target = plan.target;
             net.nodes[target_at] = target;
-            net.nodes[host_at] = host_after(b, l, plan, net.nodes[host_at]);
+            net.nodes[host_at] = host_after(b, net.format, l, plan, net.nodes[host_at]);
             net.addresses = count_after(plan.opens, net.addresses);
         }
     }

@@ -12,11 +12,13 @@ use lib.ListN.{length, getD, set, List·getD-eq-default}
 use lib.Seq.{set-getD, set-set, set-comm, getD-set-same, getD-set-other}
 use borrow.Author.Tests.{lt-ltb, le-ltb, ltb-true}
 use Rattle.net.specs.Choice.{choose, both}
-use Rattle.net.specs.Records.{processAt, nodeAt, rightsAt, rowFor, withNode, withRow, withProcess, withTuple, withCounts, withoutTuple}
-use Rattle.net.specs.Records.{tupleAt, afterTaking, freeSlot, noRights, putIn, takenFrom, startedAtSlot, startedOn}
+use Rattle.net.specs.Records.{processAt, nodeAt, rightsAt, rowFor, withNode, withRows, withProcess, withTuple, withCounts, withoutTuple}
+use Rattle.net.specs.Records.{tupleAt, afterTaking, freeSlot, noRights, zeroRow, putIn, takenFrom, startedAtSlot, startedOn}
 use Rattle.net.specs.Records.{marked, movedTo, copiedTo, sentFrom, freeProcess, zeroNode, withVariable}
+use Rattle.net.specs.Shape.{ShapedNode}
 use Rattle.keeping.specs.Keeping.{keepsOf}
 use Rattle.net.proofs.Laws.{choose-true}
+use Rattle.net.proofs.Every.{chosen-lt}
 use Rattle.net.proofs.Lowest.{first-cases}
 use Rattle.matching.proofs.MatchingPromise.{matchingPromise as matching}
 use Rattle.keeping.proofs.KeepingPromise.{keepingPromise as keeping}
@@ -26,11 +28,11 @@ use Rattle.step.specs.Types.{Request}
 use Rattle.plans.specs.Request.{granted, targets, isNew}
 use Rattle.step.specs.Pick.{withHost, stopped, out, input, inFound, read, readFound, startedIn, eval, fork, create, created}
 use Rattle.step.specs.Pick.{createdAt, unused, carriedOut, acting, unchanged, performed, added, taken, opened}
-use Rattle.plans.specs.Additions.{tupleOf, gaining}
+use Rattle.plans.specs.Additions.{tupleOf, openedRows, creatorRows}
 use Rattle.step.specs.Types.{Plan}
 use Rattle.plans.specs.Plan.{going, refusing, changing, stopPlan, outPlan, inPlan, readPlan, startPlan, evalPlan}
 use Rattle.plans.specs.Plan.{opening, newPlan, grantedPlan, planOf}
-use Rattle.step.specs.Turn.{near, firstNear, targetIn}
+use Rattle.step.specs.Turn.{near, firstNear, targetIn, sourceIn}
 use Rattle.step.specs.PutBack.{changes, hostAfter, countAfter, targeted}
 use Rattle.step.specs.PutBack.{putBack}
 use Rattle.step.specs.Turn.{sentWithin}
@@ -147,7 +149,7 @@ module _ (s : Net) (a : Locality) (k : ℕ) (size : length (s .nodes) ≡ 16) (l
   unfolding putBack Moved hostAfter countAfter targeted withCounts withHost withNode nodeAt choose both Either
   moved-back w l p f c h =
       rw c
-      (ap {B = Picked} (λ (ns : List Node). record { answer = w; net = record { addresses = s .addresses; length = s .length; nodes = ns; code = s .code } })
+      (ap {B = Picked} (λ (ns : List Node). record { answer = w; net = record { format = s .format; addresses = s .addresses; length = s .length; nodes = ns; code = s .code } })
       (in-either-order (s .nodes) (a .0) (l .0) _ f (λ x. withProcess x k p) (omega arith) h))
 
   -- the target as it was
@@ -226,26 +228,33 @@ module _ (s : Net) (a : Locality) (k : ℕ) (size : length (s .nodes) ≡ 16) (l
 
   -- a new address is not the host's
   module _ (used : a .0 < s .addresses) (p : Process) (v : ℕ) (q : Place) where
-    open-back : (s .addresses < 16) → back s a k (unused s) (opening (nodeAt s a .row) p v q (unused s)) ≡ performed (created s a k p v q)
+    open-back : (s .addresses < 16) → back s a k (unused s) (opening (s .format) a p (nodeAt s a) v q (unused s)) ≡ performed (created s a k p v q)
     unfolding putBack opening hostAfter countAfter targeted withCounts withNode nodeAt changes choose both performed created createdAt opened unused Either
+        creatorRows rowFor movedTo withVariable
     open-back room =
         rw (lt-ltb (s .addresses) 16 room)
-        (ap {B = Picked} (λ (ns : List Node). record { answer = Answer.Performed; net = record { addresses = s .addresses + 1; length = s .length; nodes = ns; code = s .code } })
-        (in-either-order (s .nodes) (a .0) (s .addresses) _ (λ _. withRow zeroNode (gaining (nodeAt s a .row) (unused s)))
-        (λ x. withRow (withProcess x k (movedTo (withVariable p v (Value.Address (unused s))) q)) (gaining (x .row) (unused s)))
+        (ap {B = Picked} (λ (ns : List Node). record { answer = Answer.Performed; net = record { format = s .format; addresses = s .addresses + 1; length = s .length; nodes = ns; code = s .code } })
+        (in-either-order (s .nodes) (a .0) (s .addresses) _ (λ _. withRows zeroNode (openedRows (s .format) (nodeAt s a) a p (unused s)))
+        (λ x. withRows (withProcess x k (movedTo (withVariable p v (Value.Address (unused s))) q)) (creatorRows (s .format) x p (unused s)))
         (omega arith) (λ e. absurd (omega arith))))
 
-    new-back : back s a k (near (unused s) a) (newPlan (rowFor (nodeAt s a) p) p (nodeAt s (near (unused s) a)) v q (s .addresses)) ≡ create s a k p v q
-    unfolding newPlan create changes unused rowFor
+    new-back : back s a k (near (unused s) a) (newPlan (s .format) a p (nodeAt s a) v q (s .addresses)) ≡ create s a k p v q
+    unfolding newPlan create changes unused
     new-back =
         chosen-if (back s a k (near (unused s) a)) (ltb (s .addresses) 16) _ _ _ _
         (λ h. rw (near-is (unused s) a (ltb-true _ _ h)) (open-back (ltb-true _ _ h)))
         (λ h. refusing-back (near (unused s) a) Answer.NoRoom _ refl)
 
+-- ---- the row that a process is judged by has every address
+pub row-length : (x : Node) → ShapedNode x → (p : Process) → length (rowFor x p .rights) ≡ 16
+unfolding rowFor zeroRow
+row-length x shape p =
+    chosen-lt (λ (r : Row). length (r .rights) ≡ 16) (p .origin .0) 16 _ _ (λ h. shape .each-row (p .origin) h .rights-are) (λ h. refl)
+
 -- ---- every request of a process that stands in a slot of an address in use
 pub record Standing (s : Net) (a : Locality) (k : ℕ) : Type 0 where
   pub size : length (s .nodes) ≡ 16
-  pub rights : length (nodeAt s a .row .rights) ≡ 16
+  pub rights : (p : Process) → length (rowFor (nodeAt s a) p .rights) ≡ 16
   pub low : a .0 < 16
   pub used : a .0 < s .addresses
   pub busy : processAt (nodeAt s a) k .busy ≡ true
@@ -254,21 +263,23 @@ module _ (s : Net) (a : Locality) (k : ℕ) (seat : Standing s a k) (p : Process
   unfoldable pub target : Request → Locality
   target req = targetIn a (s .addresses) req
 
+  unfoldable pub source : Request → Node
+  source req = nodeAt s (sourceIn a req)
+
   -- the plan of a request in the net
   unfoldable pub planIn : Request → Plan
   planIn req =
-      planOf a (rowFor (nodeAt s a) p) p (nodeAt s (target req)) e (s .addresses)
-      (sentWithin (s .code) a p (nodeAt s (target req)) req) req
+      planOf (s .format) a (rowFor (nodeAt s a) p) p (source req) e (s .addresses) (sentWithin (s .code) a p (source req) req) req
 
-  here : (l : Locality) (f : Rights → Bool) → f noRights ≡ false → f (rightsAt (nodeAt s a .row) l) ≡ true → near l a ≡ l
-  here l f z h = near-is l a (over (nodeAt s a .row) l f (seat .rights) z h)
+  here : (l : Locality) (f : Rights → Bool) → f noRights ≡ false → f (rightsAt (rowFor (nodeAt s a) p) l) ≡ true → near l a ≡ l
+  here l f z h = near-is l a (over (rowFor (nodeAt s a) p) l f (seat .rights p) z h)
 
   granted-back : (req : Request) → granted (rowFor (nodeAt s a) p) req ≡ true
       → back s a k (target req)
-      (grantedPlan a (rowFor (nodeAt s a) p) p (nodeAt s (target req)) e (s .addresses)
-      (sentWithin (s .code) a p (nodeAt s (target req)) req) req)
+      (grantedPlan (s .format) a p (source req) e (s .addresses) (sentWithin (s .code) a p (source req) req) req)
       ≡ carriedOut s a k p e req
-  unfolding granted target targetIn firstNear targets isNew choose grantedPlan sentWithin carriedOut input read fork noRights changes unused rowFor
+  unfolding granted target source targetIn sourceIn firstNear targets isNew choose grantedPlan sentWithin carriedOut input read fork noRights
+      changes unused
   granted-back Request.Lack g = refusing-back s a k (seat .size) (seat .low) a Answer.NotSet _ refl
   granted-back Request.Stop g = stop-back s a k (seat .size) (seat .low) a
   granted-back (Request.Out l q) g =

@@ -2,28 +2,30 @@
 -- runs, of a node and of a net, in the facts of `NodeFacts.antt` and `NetFacts.antt` of `sound`.
 -- Assumes nothing.
 use Prim.Native.Nat.{ℕ, _+_, _-_, _<_, _≤_}
-use mathlib.Core.Path.{_≡_, refl}
+use mathlib.Core.Path.{_≡_, refl, sym, _∙_}
 use mathlib.Core.Bool.{true}
 use mathlib.Core.List.{List}
 use native.Mathlib.Omega.{arith}
+use lib.Dec.{eqb}
 use lib.ListN.{length, set}
 use borrow.Author.Tests.{lt-ltb}
 use Rattle.net.specs.Choice.{fold}
-use Rattle.net.specs.Records.{tupleAt, nodeAt, addressOf, zeroTuple, zeroNode, allRights}
-use Rattle.net.specs.Records.{withVariable, withRights, withRow, withProcess, withNode}
+use Rattle.net.specs.Records.{rowAt, rowFor, tupleAt, nodeAt, addressOf, zeroTuple, zeroNode, allRights, alike}
+use Rattle.net.specs.Records.{withVariable, withRights, withRows, withProcess, withNode, withCounts}
 use Rattle.net.specs.Records.{movedTo, copiedTo, sentFrom, afterTaking, withoutTuple}
 use Rattle.sound.specs.Soundness.{valueSound}
-use Rattle.net.proofs.Every.{chosen-lt, Every, every-set, every-weaken, Filled, filled-set, filled-add, filled-map}
+use Rattle.net.proofs.Every.{chosen, chosen-lt, Every, every-set, every-weaken, Filled, filled-set, filled-add, filled-map}
 use Rattle.net.proofs.Past.{pastTuple}
 use Rattle.net.proofs.FoldLaws.{fold-keeps}
-use Rattle.sound.proofs.NodeFacts.{TupleOk, RowOk, Running, ProcessOk, NodeOk}
-use Rattle.sound.proofs.NodeChanges.{runs, zero-node, with-row, with-process, with-tuple}
-use Rattle.sound.proofs.MoreAddresses.{running-more, node-more, instruction-more}
+use Rattle.net.proofs.ReadingLaws.{never}
+use Rattle.sound.proofs.NodeFacts.{TupleOk, RowOk, RowsOk, Running, ProcessOk, NodeOk}
+use Rattle.sound.proofs.NodeChanges.{runs, zero-row, alike-rows, other-row, zero-node, with-rows, with-process, with-tuple}
+use Rattle.sound.proofs.MoreAddresses.{running-more, rows-more, node-more, instruction-more}
 use Rattle.sound.proofs.NetFacts.{NetOk}
 use Rattle.sound.proofs.NetChanges.{node-at, with-node}
 use Rattle.step.specs.Types.{Locality, Value, Tuple, Row, Process, Node, Place, Net}
 use Rattle.step.specs.Pick.{withHost, added, taken, opened, unused, createdAt, created}
-use Rattle.plans.specs.Additions.{gaining}
+use Rattle.plans.specs.Additions.{gaining, ownRow, openedRows, creatorRows}
 
 -- an array set anew at each place
 pub set-each :
@@ -59,7 +61,7 @@ module _ (n k : ℕ) (p : Process) (r : Running n k p) where
   }
 
 -- ---- a node from which a tuple is taken
-module _ (n k : ℕ) (x : Node) (ok : NodeOk n k x) (i : ℕ) (h : i < x .stored) where
+module _ (f n k : ℕ) (x : Node) (ok : NodeOk f n k x) (i : ℕ) (h : i < x .stored) where
   after-taking : (j : ℕ) → Filled (TupleOk n) (λ t. t ≡ zeroTuple) (x .stored - 1) j (afterTaking x i j)
   unfolding afterTaking tupleAt
   after-taking j =
@@ -76,10 +78,10 @@ module _ (n k : ℕ) (x : Node) (ok : NodeOk n k x) (i : ℕ) (h : i < x .stored
       })
       (λ m. record { used = λ u. absurd (omega arith); unused = λ u. refl }))
 
-  without-tuple : NodeOk n k (withoutTuple x i)
+  without-tuple : NodeOk f n k (withoutTuple x i)
   unfolding withoutTuple
   without-tuple = record {
-    row-ok = ok .row-ok;
+    rows-ok = ok .rows-ok;
     processes-ok = ok .processes-ok;
     room = omega (arith, ok .room);
     tuples-ok = every-weaken (set-each pastTuple 16 (afterTaking x i) (x .tuples) (ok .tuples-ok .size-is))
@@ -92,20 +94,49 @@ module _ (s : Net) (ok : NetOk s) where
       (a : Locality) (i : ℕ) (p : Process) → a .0 < s .addresses → ProcessOk (s .addresses) (s .length) p
       → NetOk (withHost s a i p)
   unfolding withHost withNode
-  with-host a i p h g = with-node s ok a _ h (with-process _ _ _ (node-at s ok a h) i p g)
+  with-host a i p h g = with-node s ok a _ h (with-process _ _ _ _ (node-at s ok a h) i p g)
 
   pub added-kept : (l : Locality) (t : Tuple) → l .0 < s .addresses → TupleOk (s .addresses) t → NetOk (added s l t)
   unfolding added withNode
-  added-kept l t h g = with-node s ok l _ h (with-tuple _ _ _ (node-at s ok l h) t g)
+  added-kept l t h g = with-node s ok l _ h (with-tuple _ _ _ _ (node-at s ok l h) t g)
 
   pub taken-kept : (l : Locality) (i : ℕ) → l .0 < s .addresses → i < nodeAt s l .stored → NetOk (taken s l i)
   unfolding taken withNode
-  taken-kept l i h g = with-node s ok l _ h (without-tuple _ _ _ (node-at s ok l h) i g)
+  taken-kept l i h g = with-node s ok l _ h (without-tuple _ _ _ _ (node-at s ok l h) i g)
 
--- ---- one address more: the row of the creator, and of the new node
+-- ---- one address more: the rows of the creator, and of the new node
 gaining-ok : (n : ℕ) (r : Row) → RowOk n r → RowOk (n + 1) (gaining r (addressOf n))
 unfolding gaining withRights
 gaining-ok n r e = filled-add allRights tt e
+
+module _ (f n : ℕ) (x : Node) (ok : RowsOk f n (x .rows)) (p : Process) where
+  row-for-ok : RowOk n (rowFor x p)
+  unfolding rowFor rowAt
+  row-for-ok = chosen-lt (RowOk n) (p .origin .0) 16 _ _ (ok .each-ok .holds _) (λ h. zero-row n)
+
+  own-row-ok : (a : Locality) → RowOk n (ownRow x a)
+  unfolding ownRow rowAt
+  own-row-ok a = chosen-lt (RowOk n) (a .0) 16 _ _ (ok .each-ok .holds _) (λ h. zero-row n)
+
+  more-rows : RowsOk f (n + 1) (x .rows)
+  more-rows = rows-more n (n + 1) (omega arith) f (x .rows) ok
+
+  -- format 1
+  gained-ok : eqb f 1 ≡ true → RowsOk f (n + 1) (alike (gaining (rowFor x p) (addressOf n)))
+  gained-ok e = alike-rows f (n + 1) _ (gaining-ok n _ row-for-ok) (λ g. never (sym g ∙ e))
+
+  creator-rows-ok : p .origin .0 < n → RowsOk f (n + 1) (creatorRows f x p (addressOf n))
+  unfolding creatorRows
+  creator-rows-ok h =
+      chosen (RowsOk f (n + 1)) (eqb f 1) _ _ gained-ok
+      (λ e. other-row f (n + 1) _ (p .origin .0) _ e (omega arith) (gaining-ok n _ row-for-ok) more-rows)
+
+  opened-rows-ok : (a : Locality) → a .0 < n → RowsOk f (n + 1) (openedRows f x a p (addressOf n))
+  unfolding openedRows
+  opened-rows-ok a h =
+      chosen (RowsOk f (n + 1)) (eqb f 1) _ _ gained-ok
+      (λ e. let own = gaining-ok n _ (own-row-ok a) in
+      other-row f (n + 1) _ n _ e (omega arith) own (other-row f (n + 1) _ (a .0) _ e (omega arith) own more-rows))
 
 module _
     (s : Net) (ok : NetOk s) (a : Locality) (i : ℕ) (p : Process) (v : ℕ) (q : Place) (hosted : a .0 < s .addresses)
@@ -115,36 +146,41 @@ module _
     more = omega arith
 
     creator :
-        NodeOk (s .addresses + 1) (s .length)
-        (withRow
+        NodeOk (s .format) (s .addresses + 1) (s .length)
+        (withRows
         (withProcess (nodeAt s a) i (movedTo (withVariable p v (Value.Address (unused s))) q))
-        (gaining (nodeAt s a .row) (unused s)))
+        (creatorRows (s .format) (nodeAt s a) p (unused s)))
     unfolding valueSound unused
     creator =
+        let f : ℕ = s .format in
         let n : ℕ = s .addresses in
         let k : ℕ = s .length in
         let here = node-at s ok a hosted in
         let p-more = running-more n (n + 1) more k p running in
-        with-row (n + 1) k _
-        (with-process (n + 1) k _ (node-more n (n + 1) more k _ here) i _
+        with-rows f (n + 1) k _
+        (with-process f (n + 1) k _ (node-more n (n + 1) more f k _ here) i _
         (runs (n + 1) k _
         (moved (n + 1) k _ (with-variable (n + 1) k p p-more v _ (lt-ltb n (n + 1) (omega arith))) q next)))
-        _ (gaining-ok n _ (here .row-ok))
+        _ (creator-rows-ok f n _ (here .rows-ok) p (running .origin-ok))
 
     pub created-kept : NetOk (created s a i p v q)
-    unfolding created createdAt unused opened withNode
+    unfolding created createdAt unused opened withNode withCounts
     created-kept =
+        let f : ℕ = s .format in
         let n : ℕ = s .addresses in
         let k : ℕ = s .length in
         record {
+          format-least = ok .format-least;
+          format-most = ok .format-most;
           addresses-least = omega arith;
           addresses-most = omega arith;
           length-least = ok .length-least;
           length-most = ok .length-most;
           nodes-ok =
               filled-add _
-              (with-row (n + 1) k zeroNode (zero-node (n + 1) k) _ (gaining-ok n _ (node-at s ok a hosted .row-ok)))
+              (with-rows f (n + 1) k zeroNode (zero-node f (n + 1) k) _
+              (opened-rows-ok f n _ (node-at s ok a hosted .rows-ok) p a hosted))
               (filled-set (a .0) _ hosted creator
-              (filled-map (node-more n (n + 1) more k) (λ x e. e) (ok .nodes-ok)));
+              (filled-map (node-more n (n + 1) more f k) (λ x e. e) (ok .nodes-ok)));
           code-ok = filled-map (instruction-more n (n + 1) more k) (λ c e. e) (ok .code-ok);
         }

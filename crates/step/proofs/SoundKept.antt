@@ -161,7 +161,7 @@ pub step-sound-kept :
     → (soundOf (stepOf s b .net) ≡ true) × Shaped (stepOf s b .net)
 step-sound-kept s b shaped sound =
     let ok = pick-kept s b (sound-apart s shaped sound) .net-ok in
-    (net-sound _ ok, net-shaped _ _ _ ok)
+    (net-sound _ ok, net-shaped _ _ _ _ ok)
 
 pub sound-kept : SoundKept
 unfolding SoundKept pickOf

@@ -20,19 +20,19 @@ use Rattle.net.proofs.ReadingLaws.{never}
 use Rattle.step.specs.Types.{Locality, Place, Action, Row, Process, Node, Instruction, Net, Evaluated, Answer, Request, Plan, Picked}
 use Rattle.step.specs.Pick.{hostOf, slotOf, spareOf, stepOf, slotStep, processStep, acting, carriedOut, unchanged}
 use Rattle.step.specs.PutBack.{changes, putBack, hostAfter, countAfter, targeted}
-use Rattle.step.specs.Turn.{Seat, Turn, ready, refusal, met, indexIn, seated, seatOf, seatAt, targetIn, asking, turnOf, turnAt}
+use Rattle.step.specs.Turn.{Seat, Turn, ready, refusal, met, indexIn, seated, seatOf, seatAt, targetIn, sourceIn, asking, turnOf, turnAt}
 use Rattle.step.specs.Turn.{sentWithin, seatPlan, turnPlan, planWith, planAt, sendsCode}
 use Rattle.net.specs.Shape.{Shaped}
 use Rattle.net.proofs.Past.{pastNode}
-use Rattle.step.proofs.PutBack.{back, Standing, planIn, target, put-back-is}
+use Rattle.step.proofs.PutBack.{back, Standing, row-length, planIn, target, source, put-back-is}
 
 pub refusing-as : (x y : Answer) (z : Node) (plan : Plan) → x ≡ y → plan ≡ refusing x z → plan ≡ refusing y z
 refusing-as x y z plan e h = h ∙ ap (λ (w : Answer). refusing w z) e
 
 pub planned-by :
-    (h a : Locality) (row : Row) (p : Process) (y : Node) (e : Evaluated) (n : ℕ) (w : Bool) (r : Request) (x : Plan) → h ≡ a
-    → x ≡ planOf h row p y e n w r → x ≡ planOf a row p y e n w r
-planned-by h a row p y e n w r x d k = k ∙ ap (λ (l : Locality). planOf l row p y e n w r) d
+    (f : ℕ) (h a : Locality) (row : Row) (p : Process) (y : Node) (e : Evaluated) (n : ℕ) (w : Bool) (r : Request) (x : Plan) → h ≡ a
+    → x ≡ planOf f h row p y e n w r → x ≡ planOf f a row p y e n w r
+planned-by f h a row p y e n w r x d k = k ∙ ap (λ (l : Locality). planOf f l row p y e n w r) d
 
 -- no code is sent, so none can go beyond a row
 pub nothing-sent :
@@ -51,9 +51,9 @@ nothing-sent code a p y (Request.Fork q q′) x e h = refl
 -- ---- a plan put back, node by node
 module _ (s : Net) (b : ℕ) (l : Locality) (plan : Plan) (x : Bool) where
   pub put-is : (a : Locality) (host : Node) (n : ℕ) → a ≡ hostOf b → x ≡ true → x ≡ changes (plan .answer)
-      → host ≡ hostAfter plan (slotOf b) l (getD (set (s .nodes) (l .0) (plan .target)) (a .0) pastNode)
+      → host ≡ hostAfter (s .format) plan (slotOf b) l (getD (set (s .nodes) (l .0) (plan .target)) (a .0) pastNode)
       → n ≡ countAfter (plan .opens) (s .addresses)
-      → _≡_ {A = Net} (record { addresses = n; length = s .length; nodes = set (set (s .nodes) (l .0) (plan .target)) (a .0) host; code = s .code })
+      → _≡_ {A = Net} (record { format = s .format; addresses = n; length = s .length; nodes = set (set (s .nodes) (l .0) (plan .target)) (a .0) host; code = s .code })
       (putBack s (hostOf b) (slotOf b) l plan)
   unfolding putBack targeted withNode withCounts nodeAt
   put-is a host n e t c h m = rw (h, m, e) (sym (choose-true _ _ _ (sym c ∙ t)))
@@ -132,7 +132,7 @@ module _ (s : Net) (b : ℕ) where
       let busy = both-r (ltb (hostOf b .0) (s .addresses)) _ rest in
       record {
         size = shaped .nodes-are;
-        rights = shaped .each-node (hostOf b) (low shaped busy) .rights-are;
+        rights = row-length _ (shaped .each-node (hostOf b) (low shaped busy));
         low = low shaped busy;
         used = ltb-true _ _ (both-l _ _ rest);
         busy = busy;
@@ -142,7 +142,7 @@ module _ (s : Net) (b : ℕ) where
   Made = back s (hostOf b) (slotOf b) (turnAt s b .target) (planAt s (turnAt s b)) ≡ stepOf s b
 
   made-by : (x : Bool) → x ≡ ready b (s .addresses) p → Shaped s → Made
-  unfolding Made ready refusal stepOf slotStep planIn target processStep p
+  unfolding Made ready refusal stepOf slotStep planIn target source processStep p
       planAt planWith turnPlan seatPlan turnAt turnOf asking seatAt seatOf seated
   made-by true q shaped =
       ap (back s (hostOf b) (slotOf b) (turnAt s b .target)) (choose-true _ _ _ (sym q))
@@ -167,25 +167,27 @@ module _ (s : Net) (b : ℕ) where
 
 -- ---- straight lines: each value is what its call promises
 pub seat-as :
-    (b n : ℕ) (x : Node) (k : ℕ) (row : Row) (i : ℕ)
+    (b f n : ℕ) (x : Node) (k : ℕ) (row : Row) (i : ℕ)
     → k ≡ slotOf b
     → row ≡ rowFor x (processAt x k)
     → i ≡ indexIn (processAt x k .at)
-    → _≡_ {A = Seat} (record { pick = b; addresses = n; process = processAt x k; row = row; index = i }) (seatOf b n x)
+    → _≡_ {A = Seat} (record { pick = b; format = f; addresses = n; process = processAt x k; row = row; index = i })
+    (seatOf b f n x)
 unfolding seatOf seated
-seat-as b n x k row i h r d = rw (r, d, h)
+seat-as b f n x k row i h r d = rw (r, d, h)
 
 pub turned-as :
-    (z : Seat) (c m : Instruction) (host target : Locality) (req : Request) (e : Evaluated) (x : Bool)
+    (z : Seat) (c m : Instruction) (host target source : Locality) (req : Request) (e : Evaluated) (x : Bool)
     → host ≡ hostOf (z .pick)
     → m ≡ met (z .pick) (z .addresses) (z .process) c
     → req ≡ requestOf host (z .process) m
     → e ≡ evaluatedOf host (z .process) m
     → target ≡ targetIn host (z .addresses) req
+    → source ≡ sourceIn host req
     → x ≡ sendsCode req
-    → _≡_ {A = Turn} (record { seat = z; request = req; template = e; target = target; sends = x }) (turnOf z c)
+    → _≡_ {A = Turn} (record { seat = z; request = req; template = e; target = target; source = source; sends = x }) (turnOf z c)
 unfolding turnOf asking
-turned-as z c m host target req e x a d r t l y = rw (y, l, t, r, a, d)
+turned-as z c m host target source req e x a d r t l o y = rw (y, o, l, t, r, a, d)
 
 pub slot-as : (x y : Node) (p : Process) (k j : ℕ) → k ≡ j → y ≡ withProcess x k p → y ≡ withProcess x j p
 slot-as x y p k j e h = h ∙ ap (λ (i : ℕ). withProcess x i p) e
@@ -196,14 +198,14 @@ low-as a l h f = f h
 pub turn-at :
     (s : Net) (b : ℕ) (a : Locality) (seat : Seat) (turn : Turn)
     → a ≡ hostOf b
-    → seat ≡ seatOf b (s .addresses) (nodeAt s a)
+    → seat ≡ seatOf b (s .format) (s .addresses) (nodeAt s a)
     → turn ≡ turnOf seat (instructionAt (s .code) (placeOf (seat .index)))
     → turn ≡ turnAt s b
 unfolding turnAt seatAt
 turn-at s b a seat turn ha hs ht =
     ht
     ∙ ap (λ (z : Seat). turnOf z (instructionAt (s .code) (placeOf (z .index))))
-    (hs ∙ ap (λ (x : Locality). seatOf b (s .addresses) (nodeAt s x)) ha)
+    (hs ∙ ap (λ (x : Locality). seatOf b (s .format) (s .addresses) (nodeAt s x)) ha)
 
 -- sent code, judged by the row of the process that would start
 pub within-as : (code : List Instruction) (a : Locality) (p r : Process) (y : Node) (l : Locality) (sent : Place) (row : Row) (x : Bool)
@@ -213,12 +215,12 @@ within-as code a p r y l sent row x e b d = d ∙ ap (keepsOf code sent l) (b �
 -- a turn that sends no code has the plan by which none is judged
 pub unsent-as :
     (s : Net) (b : ℕ) (turn : Turn) (plan : Plan) → turn ≡ turnAt s b → turn .sends ≡ false
-    → plan ≡ turnPlan turn (nodeAt s (turn .target)) true → plan ≡ planAt s turn
+    → plan ≡ turnPlan turn (nodeAt s (turn .source)) true → plan ≡ planAt s turn
 unfolding planAt planWith turnAt turnOf asking
 unsent-as s b turn plan e h d =
     d
-    ∙ ap (turnPlan turn (nodeAt s (turn .target)))
-    (nothing-sent (s .code) (hostOf (turn .seat .pick)) (turn .seat .process) (nodeAt s (turn .target)) (turn .request) (turn .sends)
+    ∙ ap (turnPlan turn (nodeAt s (turn .source)))
+    (nothing-sent (s .code) (hostOf (turn .seat .pick)) (turn .seat .process) (nodeAt s (turn .source)) (turn .request) (turn .sends)
     (rw e refl) h)
 
 pub drawn-as :

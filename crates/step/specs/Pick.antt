@@ -3,14 +3,14 @@
 use Prim.Native.Nat.{ℕ, _+_, _/_, _%_}
 use lib.Dec.{eqb, ltb}
 use Rattle.net.specs.Choice.{choose}
-use Rattle.net.specs.Records.{processAt, nodeAt, instructionAt, rowFor, withProcess, withTuple, withNode, withRow}
+use Rattle.net.specs.Records.{processAt, nodeAt, instructionAt, rowFor, withProcess, withTuple, withNode, withRows}
 use Rattle.net.specs.Records.{withVariable, movedTo, copiedTo, sentFrom, withoutTuple, freeSlot, freeProcess, zeroNode}
-use Rattle.net.specs.Records.{marked, addressOf}
+use Rattle.net.specs.Records.{marked, addressOf, withCounts}
 use Rattle.matching.specs.Matching.{evaluatedOf, matchedOf}
 use Rattle.keeping.specs.Keeping.{keepsOf}
 use Rattle.sound.specs.Soundness.{soundOf}
 use Rattle.plans.specs.Request.{requestOf, granted}
-use Rattle.plans.specs.Additions.{tupleOf, gaining}
+use Rattle.plans.specs.Additions.{tupleOf, openedRows, creatorRows}
 use Rattle.step.specs.Types.{Locality, Place, Tuple, Process, Slot, Net, Instruction, Value}
 use Rattle.step.specs.Types.{Evaluated, Found, Matched, Answer, Picked, Request}
 
@@ -84,10 +84,11 @@ eval s a k p l sent q =
 unfoldable pub fork : Net → Locality → ℕ → Process → Place → Place → Picked
 fork s a k p q r = startedIn s a k a p (copiedTo p r) q (freeSlot (nodeAt s a))
 
--- new: the lowest unused address l. Its row is a copy of the creator's as it stood, with every right on itself; the
--- creator's row gains every right on it, and no other row changes
+-- new: the lowest unused address l. The rows of its node are made of the creator's as they stood (`openedRows`); the creator's
+-- gain every right on it (`creatorRows`), and no other row changes. In format 2 the row for the new origin is empty at every
+-- other node and at the creator, since no sound net has a right in the row for an unused origin
 unfoldable pub opened : Net → Net
-opened s = record { addresses = s .addresses + 1; length = s .length; nodes = s .nodes; code = s .code }
+opened s = withCounts s (s .addresses + 1) (s .length)
 
 -- the lowest unused address
 unfoldable pub unused : Net → Locality
@@ -97,9 +98,9 @@ unfoldable pub createdAt : Net → Locality → ℕ → Process → ℕ → Plac
 createdAt s a k p v q l =
     withNode
     (withNode (opened s) a
-    (withRow (withProcess (nodeAt s a) k (movedTo (withVariable p v (Value.Address l)) q)) (gaining (nodeAt s a .row) l)))
+    (withRows (withProcess (nodeAt s a) k (movedTo (withVariable p v (Value.Address l)) q)) (creatorRows (s .format) (nodeAt s a) p l)))
     l
-    (withRow zeroNode (gaining (nodeAt s a .row) l))
+    (withRows zeroNode (openedRows (s .format) (nodeAt s a) a p l))
 
 unfoldable pub created : Net → Locality → ℕ → Process → ℕ → Place → Net
 created s a k p v q = createdAt s a k p v q (unused s)

@@ -4,8 +4,8 @@ use Prim.Native.Nat.{ℕ, _+_}
 use mathlib.Core.Bool.{Bool, true, false}
 use lib.Dec.{ltb}
 use Rattle.net.specs.Choice.{choose}
-use Rattle.net.specs.Records.{nodeAt, withProcess, withNode, withRow, withCounts}
-use Rattle.plans.specs.Additions.{gaining}
+use Rattle.net.specs.Records.{nodeAt, withProcess, withNode, withRows, withCounts}
+use Rattle.plans.specs.Additions.{creatorRows}
 use Rattle.step.specs.Types.{Locality, Node, Net, Answer, Plan}
 
 -- the answer changes the net
@@ -22,10 +22,10 @@ changes Answer.NotInUse = false
 changes Answer.Malformed = false
 changes Answer.Unsound = false
 
--- the host with its process in slot k; where the target l is opened, its row gains every right on it
-unfoldable pub hostAfter : Plan → ℕ → Locality → Node → Node
-hostAfter plan k l x =
-    choose (plan .opens) (withRow (withProcess x k (plan .process)) (gaining (x .row) l))
+-- the host with its process in slot k; where the target l is opened, its rows gain every right on it as the format f has it
+unfoldable pub hostAfter : ℕ → Plan → ℕ → Locality → Node → Node
+hostAfter f plan k l x =
+    choose (plan .opens) (withRows (withProcess x k (plan .process)) (creatorRows f x (plan .process) l))
     (withProcess x k (plan .process))
 
 -- one address more, where there is room for it
@@ -39,7 +39,7 @@ unfoldable pub putBack : Net → Locality → ℕ → Locality → Plan → Net
 putBack s a k l plan =
     choose (changes (plan .answer))
     (withCounts
-    (withNode (targeted s l plan) a (hostAfter plan k l (nodeAt (targeted s l plan) a)))
+    (withNode (targeted s l plan) a (hostAfter (s .format) plan k l (nodeAt (targeted s l plan) a)))
     (countAfter (plan .opens) (s .addresses))
     (s .length))
     s

@@ -28,17 +28,17 @@ refusal b n = choose (eqb (spareOf b) 0) (choose (ltb (hostOf b .0) n) Answer.Fr
 unfoldable pub met : ℕ → ℕ → Process → Instruction → Instruction
 met b n p c = choose (ready b n p) (choose (ltb (p .at .0) 512) c zeroInstruction) zeroInstruction
 
--- ---- what a pick finds at its host x, n being the address count
+-- ---- what a pick finds at its host x, f being the format and n the address count
 
 -- the index of a place in the code: the place itself, where it is one
 unfoldable pub indexIn : Place → ℕ
 indexIn p = choose (ltb (p .0) 512) (p .0) 0
 
-unfoldable pub seated : ℕ → ℕ → Node → Process → Seat
-seated b n x p = record { pick = b; addresses = n; process = p; row = rowFor x p; index = indexIn (p .at) }
+unfoldable pub seated : ℕ → ℕ → ℕ → Node → Process → Seat
+seated b f n x p = record { pick = b; format = f; addresses = n; process = p; row = rowFor x p; index = indexIn (p .at) }
 
-unfoldable pub seatOf : ℕ → ℕ → Node → Seat
-seatOf b n x = seated b n x (processAt x (slotOf b))
+unfoldable pub seatOf : ℕ → ℕ → ℕ → Node → Seat
+seatOf b f n x = seated b f n x (processAt x (slotOf b))
 
 -- ---- the address that a request concerns beside its host a, n being the address count; a itself where no node has it
 unfoldable pub near : Locality → Locality → Locality
@@ -50,6 +50,10 @@ firstNear (l ∷ ls) a = near l a
 
 unfoldable pub targetIn : Locality → ℕ → Request → Locality
 targetIn a n r = choose (isNew r) (near (addressOf n) a) (firstNear (targets r) a)
+
+-- the address whose node its plan is drawn from: its target's, or its host's where the target has no node yet
+unfoldable pub sourceIn : Locality → Request → Locality
+sourceIn a r = choose (isNew r) a (firstNear (targets r) a)
 
 -- ---- whether a request sends code
 unfoldable pub sendsCode : Request → Bool
@@ -69,6 +73,7 @@ asking a z m = record {
   request = requestOf a (z .process) m;
   template = evaluatedOf a (z .process) m;
   target = targetIn a (z .addresses) (requestOf a (z .process) m);
+  source = sourceIn a (requestOf a (z .process) m);
   sends = sendsCode (requestOf a (z .process) m);
 }
 
@@ -77,7 +82,7 @@ turnOf z c = asking (hostOf (z .pick)) z (met (z .pick) (z .addresses) (z .proce
 
 -- of a pick in a net
 unfoldable pub seatAt : Net → ℕ → Seat
-seatAt s b = seatOf b (s .addresses) (nodeAt s (hostOf b))
+seatAt s b = seatOf b (s .format) (s .addresses) (nodeAt s (hostOf b))
 
 unfoldable pub turnAt : Net → ℕ → Turn
 turnAt s b = turnOf (seatAt s b) (instructionAt (s .code) (placeOf (seatAt s b .index)))
@@ -93,11 +98,11 @@ sentWithin code a p y (Request.Eval l sent q) = keepsOf code sent l (rowFor y (s
 sentWithin code a p y (Request.New v q) = true
 sentWithin code a p y (Request.Fork q q′) = true
 
--- ---- the plan of a turn: y is the node at its target, `within` whether sent code keeps within y's row for it
+-- ---- the plan of a turn: y is the node at its source, `within` whether sent code keeps within y's row for it
 unfoldable pub seatPlan : Seat → Evaluated → Request → Node → Bool → Plan
 seatPlan z e req y within =
     choose (ready (z .pick) (z .addresses) (z .process))
-    (planOf (hostOf (z .pick)) (z .row) (z .process) y e (z .addresses) within req)
+    (planOf (z .format) (hostOf (z .pick)) (z .row) (z .process) y e (z .addresses) within req)
     (refusing (refusal (z .pick) (z .addresses)) y)
 
 unfoldable pub turnPlan : Turn → Node → Bool → Plan
@@ -108,4 +113,4 @@ planWith code t y = turnPlan t y (sentWithin code (hostOf (t .seat .pick)) (t .s
 
 -- in a net
 unfoldable pub planAt : Net → Turn → Plan
-planAt s t = planWith (s .code) t (nodeAt s (t .target))
+planAt s t = planWith (s .code) t (nodeAt s (t .source))

@@ -34,25 +34,25 @@ pub struct Machine {
 impl Machine {
     // What a pick asks for.
     fn turn_at(self, b: u8) -> Turn
-        ensures { λ r. ⌜ (r ≡ turnAt (self .net) b) × (r .target .0 < 16) ⌝ }
+        ensures { λ r. ⌜ (r ≡ turnAt (self .net) b) × (r .target .0 < 16) × (r .source .0 < 16) ⌝ }
     {
         let net = self.net;
         let a = host_of(b);
         let host_at = a.0 as usize;
-        let seat = seat_of(b, net.addresses, net.nodes[host_at]);
+        let seat = seat_of(b, net.format, net.addresses, net.nodes[host_at]);
         let at = seat.index;
         turn_of(seat, net.code[at])
     }
 
-    // The plan of a turn.
+    // The plan of a turn, drawn from the node at its source.
     fn plan_at(self, turn: Turn) -> Plan
-        requires { ⌜ turn .target .0 < 16 ⌝ }
+        requires { ⌜ turn .source .0 < 16 ⌝ }
         ensures { λ r. ⌜ r ≡ planAt (self .net) turn ⌝ }
     {
         let net = self.net;
-        let l = turn.target;
-        let target_at = l.0 as usize;
-        plan_with(net.code, turn, net.nodes[target_at])
+        let source = turn.source;
+        let source_at = source.0 as usize;
+        plan_with(net.code, turn, net.nodes[source_at])
     }
 
     // The plan of a pick put back: its target l first, then its host as it is then.
@@ -68,7 +68,7 @@ impl Machine {
             let mut net = self.net;
             let target = plan.target;
             net.nodes[target_at] = target;
-            net.nodes[host_at] = host_after(b, l, plan, net.nodes[host_at]);
+            net.nodes[host_at] = host_after(b, net.format, l, plan, net.nodes[host_at]);
             net.addresses = count_after(plan.opens, net.addresses);
             self.net = net;
             self

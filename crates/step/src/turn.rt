@@ -9,23 +9,24 @@ use net::policy::Row;
 use net::process::Process;
 use plans::answer::Answer;
 use plans::plan::Plan;
-use plans::plan::gained;
 use plans::plan::plan_for;
 use plans::plan::refused;
 use plans::request::Request;
 use plans::request::ask;
+use plans::rows::creator_rows;
 ghost use Prim.Native.Nat.{_<_};
 ghost use mathlib.Core.Path.{_≡_};
 ghost use Rattle.net.specs.Records.{addressOf};
 ghost use Rattle.step.specs.Pick.{hostOf, slotOf};
 ghost use Rattle.step.specs.PutBack.{changes, hostAfter, countAfter};
-ghost use Rattle.step.specs.Turn.{ready, refusal, met, indexIn, seatOf, near, targetIn, turnOf};
+ghost use Rattle.step.specs.Turn.{ready, refusal, met, indexIn, seatOf, near, targetIn, sourceIn, turnOf};
 ghost use Rattle.step.specs.Turn.{sentWithin, seatPlan, turnPlan, planWith, sendsCode};
 
 // What a pick finds at its host: the process that it names, with the row that it is judged by and the index
-// of its instruction. `pick` is the pick itself, `addresses` the address count.
+// of its instruction. `pick` is the pick itself, `format` the net's format, `addresses` the address count.
 pub struct Seat {
     pub pick: u8,
+    pub format: usize,
     pub addresses: usize,
     pub process: Process,
     pub row: Row,
@@ -33,12 +34,13 @@ pub struct Seat {
 }
 
 // What a pick asks for from its seat, with its evaluated template, the address that it concerns beside its
-// host, and whether it sends code.
+// host, the address whose node its plan is drawn from, and whether it sends code.
 pub struct Turn {
     pub seat: Seat,
     pub request: Request,
     pub template: Evaluated,
     pub target: Locality,
+    pub source: Locality,
     pub sends: bool,
 }
 
@@ -135,6 +137,23 @@ fn target_of(a: Locality, n: usize, r: Request) -> Locality
     }
 }
 
+// The address whose node the plan of a request is drawn from: its target's, or the host a where that has no node yet.
+fn source_of(a: Locality, r: Request) -> Locality
+    ensures { λ x. ⌜ x ≡ sourceIn a r ⌝ }
+    ensures { λ x. ⌜ (a .0 < 16 → x .0 < 16) ⌝ }
+{
+    match r {
+        Request::Lack => a,
+        Request::Stop => a,
+        Request::Out(l, _) => nearest(l, a),
+        Request::In(l, _) => nearest(l, a),
+        Request::Read(l, _) => nearest(l, a),
+        Request::Eval(l, _, _) => nearest(l, a),
+        Request::New(_, _) => a,
+        Request::Fork(_, _) => a,
+    }
+}
+
 // Whether a request sends code.
 fn sends_code(r: Request) -> bool
     ensures { λ x. ⌜ x ≡ sendsCode r ⌝ }
@@ -151,9 +170,9 @@ fn sends_code(r: Request) -> bool
     }
 }
 
-// What a pick finds at its host: n is the address count.
-pub fn seat_of(b: u8, n: usize, host: Node) -> Seat
-    ensures { λ r. ⌜ (r ≡ seatOf b n host) × (r .index < 512) ⌝ }
+// What a pick finds at its host: f is the format, n the address count.
+pub fn seat_of(b: u8, f: usize, n: usize, host: Node) -> Seat
+    ensures { λ r. ⌜ (r ≡ seatOf b f n host) × (r .index < 512) ⌝ }
 {
     let k = slot_of(b);
     let process = host.processes[k];
@@ -161,6 +180,7 @@ pub fn seat_of(b: u8, n: usize, host: Node) -> Seat
     let index = index_of(process.at);
     Seat {
         pick: b,
+        format: f,
         addresses: n,
         process,
         row,
@@ -170,7 +190,7 @@ pub fn seat_of(b: u8, n: usize, host: Node) -> Seat
 
 // What a pick asks for from its seat, c being the instruction at the seat's index.
 pub fn turn_of(seat: Seat, c: Instruction) -> Turn
-    ensures { λ r. ⌜ (r ≡ turnOf seat c) × (r .target .0 < 16) ⌝ }
+    ensures { λ r. ⌜ (r ≡ turnOf seat c) × (r .target .0 < 16) × (r .source .0 < 16) ⌝ }
 {
     let host = host_of(seat.pick);
     let process = seat.process;
@@ -179,12 +199,14 @@ pub fn turn_of(seat: Seat, c: Instruction) -> Turn
     let request = asked.request;
     let template = asked.template;
     let target = target_of(host, seat.addresses, request);
+    let source = source_of(host, request);
     let sends = sends_code(request);
     Turn {
         seat,
         request,
         template,
         target,
+        source,
         sends,
     }
 }
@@ -208,7 +230,7 @@ fn sent_within(code: [Instruction; 512], a: Locality, p: Process, y: Node, r: Re
     }
 }
 
-// The plan from a seat: y is the node at the target, `within` whether sent code keeps within y's row for it.
+// The plan from a seat: y is the node at the source, `within` whether sent code keeps within y's row for it.
 fn seat_plan(seat: Seat, template: Evaluated, request: Request, y: Node, within: bool) -> Plan
     ensures { λ x. ⌜ x ≡ seatPlan seat template request y within ⌝ }
 {
@@ -216,6 +238,7 @@ fn seat_plan(seat: Seat, template: Evaluated, request: Request, y: Node, within:
     let host = host_of(seat.pick);
     if is_ready(seat.pick, seat.addresses, process) {
         plan_for(
+            seat.format,
             host,
             seat.row,
             process,
@@ -269,17 +292,17 @@ pub fn changes_net(answer: Answer) -> bool
     }
 }
 
-// The host x after a plan for the target l: its process in the slot of the pick, and every right on l where the
-// step opens it.
-pub fn host_after(b: u8, l: Locality, plan: Plan, x: Node) -> Node
-    ensures { λ r. ⌜ r ≡ hostAfter plan (slotOf b) l x ⌝ }
+// The host x after a plan for the target l: its process in the slot of the pick, and where the step opens l the rights on
+// it that the format f gives.
+pub fn host_after(b: u8, f: usize, l: Locality, plan: Plan, x: Node) -> Node
+    ensures { λ r. ⌜ r ≡ hostAfter f plan (slotOf b) l x ⌝ }
 {
     let k = slot_of(b);
     let process = plan.process;
     let moved = x.with_process(k, process);
     if plan.opens {
-        let row = gained(x.row, l);
-        moved.with_row(row)
+        let rows = creator_rows(f, x, process, l);
+        moved.with_rows(rows)
     } else {
         moved
     }

@@ -1,5 +1,5 @@
 -- `plans::plan::opened_node` meets its contract. Assumes nothing.
-use Rattle.plans.proofs.PlanLaws.{row-as}
+use Rattle.plans.proofs.PlanLaws.{rows-as}
 use borrow.Author.Needs.{needs}
 use Rattle.plans.proofs.plan.opened_node.Statement.{statement}
 use Rattle.plans.proofs.plan.opened_node.Tie as tie
@@ -11,4 +11,4 @@ opened-node-spec =
     (λ c κs. search needs)
     (λ c κs. search needs)
     (λ c κs. search needs)
-    (λ c. search (needs, row-as)))
+    (λ c. search (needs, rows-as)))

@@ -39,13 +39,14 @@ make-spec =
     (λ c. search needs)
     (λ c. search needs)
     (λ c. search needs)
+    (λ c. search needs)
     (λ c κs. search needs)
     (λ c. search needs)
     (λ c. search needs)
     (λ c κs. search needs)
     (λ c κs. search needs)
     (λ c.
-    let t = c .before .before .before .before in
+    let t = c .before .before .before .before .before .before in
     let h = t .before .before .before .before .before in
     let test = h .before .before in
     search (needs, test .loop-test .taken, test .before .loop .inv .0 .long, test .before .loop .inv .1))
@@ -57,24 +58,24 @@ make-spec =
     (λ c κs. search needs)
     (λ c.
     let n = c .before .before .before .before .before in
-    let t = n .before .before .before .before in
+    let t = n .before .before .before .before .before .before in
     let h = t .before .before .before .before .before in
     search (needs, h .host-of .ensures .1))
     (λ c.
     let n = c .before .before .before .before .before in
-    let t = n .before .before .before .before in
+    let t = n .before .before .before .before .before .before in
     let h = t .before .before .before .before .before in
     search (needs, h .host-of .ensures .1))
     (λ c κs. search needs)
     (λ c.
     let n = c .before .before .before .before .before .before in
-    let t = n .before .before .before .before in
+    let t = n .before .before .before .before .before .before in
     let h = t .before .before .before .before .before in
     let test = h .before .before in
     search (needs, test .loop-test .taken))
     (λ c.
     let n = c .before .before .before .before .before .before in
-    let t = n .before .before .before .before in
+    let t = n .before .before .before .before .before .before in
     let h = t .before .before .before .before .before in
     let test = h .before .before in
     let net = test .before .loop .net in
@@ -87,13 +88,13 @@ make-spec =
     (making-turn _ _ _ _ _ _ _ _ _ (inv .0) (test .loop-test .taken) made (n .number-of .ensures), inv .1))
     (λ c.
     let n = c .before .before in
-    let t = n .before .before .before .before in
+    let t = n .before .before .before .before .before .before in
     let h = t .before .before .before .before .before in
     let test = h .before .before in
     search (needs, test .loop-test .taken))
     (λ c.
     let n = c .before .before in
-    let t = n .before .before .before .before in
+    let t = n .before .before .before .before .before .before in
     let h = t .before .before .before .before .before in
     let test = h .before .before in
     let net = test .before .loop .net in

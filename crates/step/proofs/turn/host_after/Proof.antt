@@ -1,7 +1,7 @@
 -- `step::turn::host_after` meets its contract. Assumes nothing.
 use Rattle.net.proofs.Laws.{if-true, if-false}
 use Rattle.step.specs.PutBack.{hostAfter}
-use Rattle.plans.proofs.PlanLaws.{row-as}
+use Rattle.plans.proofs.PlanLaws.{rows-as}
 use Rattle.step.proofs.TurnLaws.{slot-as}
 use borrow.Author.Needs.{needs}
 use Rattle.step.proofs.turn.host_after.Statement.{statement}
@@ -16,5 +16,5 @@ host-after-spec =
     (λ c κs. search needs)
     (λ c κs. search needs)
     (λ c κs. search needs)
-    (λ c. search (needs, if-true, if-false, row-as, slot-as))
-    (λ c. search (needs, if-true, if-false, row-as, slot-as)))
+    (λ c. search (needs, if-true, if-false, rows-as, slot-as))
+    (λ c. search (needs, if-true, if-false, rows-as, slot-as)))

@@ -1,9 +1,9 @@
--- `plans::plan::gained` meets its contract. Assumes nothing.
+-- `plans::rows::gained` meets its contract. Assumes nothing.
 use Rattle.plans.specs.Additions.{gaining}
 use Rattle.plans.proofs.PlanLaws.{rights-as}
 use borrow.Author.Needs.{needs}
-use Rattle.plans.proofs.plan.gained.Statement.{statement}
-use Rattle.plans.proofs.plan.gained.Tie as tie
+use Rattle.plans.proofs.rows.gained.Statement.{statement}
+use Rattle.plans.proofs.rows.gained.Tie as tie
 
 pub gained-spec : {M : Type 1} → statement M
 unfolding gaining
