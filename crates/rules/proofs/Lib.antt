@@ -1,4 +1,5 @@
 pub mod DemandOne
+pub mod NewClaims
 pub mod Outcomes
 pub mod ReadBack
 pub mod Rules

@@ -58,7 +58,7 @@ record Seat (s : Net) (a : Locality) (k : ℕ) : Type 0 where
 module _ (s : Net) (a : Locality) (k : ℕ) (seat : Seat s a k) where
   runs : processIn s a k .busy ≡ true → Runs (s .addresses) (s .length) (processIn s a k)
   unfolding processIn
-  runs = running (s .addresses) (s .length) (nodeAt s a) k (seat .ok .nodes a (seat .used)) (seat .low)
+  runs = running (s .format) (s .addresses) (s .length) (nodeAt s a) k (seat .ok .nodes a (seat .used)) (seat .low)
 
   sound-action : (x : Action) → Stands s a k x → actionSound (s .addresses) (s .length) x ≡ true
   unfolding instructionIn
@@ -69,14 +69,14 @@ module _ (s : Net) (a : Locality) (k : ℕ) (seat : Seat s a k) where
   sent-low t sent q h = ltb-true _ _ (both-l _ _ (both-r _ _ (sound-action _ h)))
 
   few-stored : (l : Locality) → l .0 < s .addresses → nodeAt s l .stored ≤ 16
-  few-stored l h = stored-few (s .addresses) (s .length) (nodeAt s l) (seat .ok .nodes l h)
+  few-stored l h = stored-few (s .format) (s .addresses) (s .length) (nodeAt s l) (seat .ok .nodes l h)
 
 -- what the template of the process in slot k of address a meets at l
 abbrev met : Net → Locality → ℕ → Locality → Matched
 met s a k l = matchedOf (processIn s a k) (nodeAt s l) (templateIn s a k)
 
 -- ---- from the pick to the rule
-final-0 : numberOf Answer.Performed ≤ 1
+pub final-0 : numberOf Answer.Performed ≤ 1
 unfolding numberOf
 final-0 = omega arith
 

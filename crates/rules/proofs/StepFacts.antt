@@ -19,37 +19,38 @@ use Rattle.rules.specs.Types.{Aim}
 pub record Facts (s : Net) : Type 0 where
   pub few : s .addresses ≤ 16
   pub short : s .length ≤ 512
-  pub nodes : (a : Locality) → a .0 < s .addresses → nodeSound (s .addresses) (s .length) (nodeAt s a) ≡ true
+  pub nodes : (a : Locality) → a .0 < s .addresses → nodeSound (s .format) (s .addresses) (s .length) (nodeAt s a) ≡ true
   pub actions :
       (p : Place) → p .0 < s .length → actionSound (s .addresses) (s .length) (instructionAt (s .code) p .action) ≡ true
 
 pub facts : (s : Net) → soundOf s ≡ true → Facts s
 unfolding soundOf nodesSound codeSound instructionSound
 facts s h =
-    let few : s .addresses ≤ 16 = in-range-high 1 _ 16 (both-l _ _ (both-l _ _ h)) in
-    let short : s .length ≤ 512 = in-range-high 1 _ 512 (both-r _ _ (both-l _ _ h)) in
+    let rest = both-r _ _ h in
+    let few : s .addresses ≤ 16 = in-range-high 1 _ 16 (both-l _ _ (both-l _ _ rest)) in
+    let short : s .length ≤ 512 = in-range-high 1 _ 512 (both-r _ _ (both-l _ _ rest)) in
     record {
       few = few;
       short = short;
-      nodes = λ a l. choose-e _ _ _ (all-e 16 _ (both-l _ _ (both-r _ _ h)) (a .0) (omega arith)) (lt-ltb (a .0) _ l);
+      nodes = λ a l. choose-e _ _ _ (all-e 16 _ (both-l _ _ (both-r _ _ rest)) (a .0) (omega arith)) (lt-ltb (a .0) _ l);
       actions = λ p l.
-          both-l _ _ (choose-e _ _ _ (all-e 512 _ (both-r _ _ (both-r _ _ h)) (p .0) (omega arith)) (lt-ltb (p .0) _ l));
+          both-l _ _ (choose-e _ _ _ (all-e 512 _ (both-r _ _ (both-r _ _ rest)) (p .0) (omega arith)) (lt-ltb (p .0) _ l));
     }
 
 -- ---- a node
-pub stored-few : (n k : ℕ) (x : Node) → nodeSound n k x ≡ true → x .stored ≤ 16
+pub stored-few : (f n k : ℕ) (x : Node) → nodeSound f n k x ≡ true → x .stored ≤ 16
 unfolding nodeSound tuplesSound
-stored-few n k x h = leb-true _ _ (both-l _ _ (both-r _ _ (both-r _ _ h)))
+stored-few f n k x h = leb-true _ _ (both-l _ _ (both-r _ _ (both-r _ _ h)))
 
 pub record Runs (n k : ℕ) (p : Process) : Type 0 where
   pub placed : p .at .0 < k
   pub values : (v : ℕ) → v < 8 → valueSound n (variableAt p v) ≡ true
 
 pub running :
-    (n k : ℕ) (x : Node) (i : ℕ) → nodeSound n k x ≡ true → i < 4 → processAt x i .busy ≡ true
+    (f n k : ℕ) (x : Node) (i : ℕ) → nodeSound f n k x ≡ true → i < 4 → processAt x i .busy ≡ true
     → Runs n k (processAt x i)
 unfolding nodeSound processSound
-running n k x i h l b =
+running f n k x i h l b =
     let sound : processSound n k (processAt x i) ≡ true = all-e 4 _ (both-l _ _ (both-r _ _ h)) i l in
     let full = choose-e _ _ _ sound b in
     record {

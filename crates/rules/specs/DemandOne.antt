@@ -46,7 +46,7 @@ unfoldable pub pickedAction : Net → ℕ → Action
 pickedAction s b = instructionAt (s .code) (pickedProcess s b .at) .action
 
 -- demand 1, "No action is carried out whose right the hosting node's policy lacks": where the step is performed, the
--- hosting node's row, as it stood before, held the right
+-- hosting node's row for the origin of the process, as it stood before, held the right
 unfoldable pub OnlyWithRight : Type 0
 OnlyWithRight =
     (s : Net) (b : ℕ)

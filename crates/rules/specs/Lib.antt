@@ -1,3 +1,4 @@
 pub mod DemandOne
+pub mod NewClaims
 pub mod Rules
 pub mod Types

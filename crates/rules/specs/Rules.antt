@@ -32,7 +32,7 @@ instructionIn s a k = instructionAt (s .code) (processIn s a k .at)
 unfoldable pub templateIn : Net → Locality → ℕ → Evaluated
 templateIn s a k = evaluatedOf a (processIn s a k) (instructionIn s a k)
 
--- the row of the hosting node for the process
+-- the row of the hosting node for the process: the one for its origin (document 02, slip 10)
 unfoldable pub rowIn : Net → Locality → ℕ → Row
 rowIn s a k = rowFor (nodeAt s a) (processIn s a k)
 
@@ -54,7 +54,7 @@ pub record LowestFree (x : Node) (j : ℕ) : Type 0 where
   pub free : processAt x j .busy ≡ false
   pub lowest : (i : ℕ) → i < j → processAt x i .busy ≡ true
 
--- the code from the place `sent` keeps within the row of l: each instruction reached has its right
+-- the code from the place `sent` keeps within a row of l: each instruction reached has its right
 pub record KeepsWithin (code : List Instruction) (sent : Place) (l : Locality) (row : Row) : Type 0 where
   pub permitted : (q : Place) → Reaches code sent q → permits row l (instructionAt code q .action) ≡ true
 
@@ -99,8 +99,8 @@ pub data Reduces (s : Net) (a : Locality) (k : ℕ) : Net → Type 0 where
       (withHost s a k
       (movedTo (boundOf (processIn s a k) (tupleAt (nodeAt s l) i) (templateIn s a k)) q))
   -- l :: eval(Q)@l′.P ∥ l′ :: P′ ↣ l :: P ∥ l′ :: P′ | Q.
-  -- Q is the code at the sent place, judged by the row of l′; it has a copy of the variables, and l as its origin (document 02,
-  -- slip 10)
+  -- Q is the code at the sent place; it has a copy of the variables, and l as its origin, and is judged by the row of l′ for l
+  -- (document 02, slip 10)
   EVAL :
       {t : Target} {sent q : Place} {l : Locality} {j : ℕ}
       → Stands s a k (Action.Eval t sent q)
@@ -111,7 +111,7 @@ pub data Reduces (s : Net) (a : Locality) (k : ℕ) : Net → Type 0 where
       → Reduces s a k
       (withHost (withHost s a k (movedTo (processIn s a k) q)) l j (sentFrom a (processIn s a k) sent))
   -- L ⊢ l :: newloc(u).P ↣ L ∪ {l′} ⊢ l :: P[l′/u] ∥ l′ :: nil, where l′ is not in L.
-  -- L holds the addresses in use, and l′ is the lowest other one
+  -- L holds the addresses in use, and l′ is the lowest other one; `NewClaims.antt` has the rows of l and l′ afterwards
   NEW :
       {v : ℕ} {q : Place}
       → Stands s a k (Action.New v q)
