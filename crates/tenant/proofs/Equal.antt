@@ -3,20 +3,22 @@
 -- the node's own.
 -- Assumes nothing.
 use Prim.Native.Nat.{ℕ, zero, suc, _<_, _≤_}
-use mathlib.Core.Path.{_≡_, refl, sym, ap, subst, _∙_}
+use mathlib.Core.Path.{_≡_, refl, sym, ap, subst, subst₂, _∙_}
 use mathlib.Core.Bool.{Bool, false}
 use mathlib.Core.List.{List}
 use native.Mathlib.Omega.{arith}
 use native.Mathlib.Decide.{decLe}
 use lib.ListN.{getD, List·getD-eq-default}
 use lib.Seq.{ext-getD}
+use lib.Dec.{eqb}
 use Rattle.net.specs.Choice.{choose}
-use Rattle.net.specs.Records.{freeProcess, startingAt, zeroTemplateField, zeroInstruction, withAction}
-use Rattle.net.specs.Records.{fieldAt, rightsAt, processAt, tupleAt, patternAt, nodeAt, instructionAt, addressOf, placeOf}
-use Rattle.net.proofs.Every.{Every, every-replicate, Filled}
-use Rattle.net.proofs.Past.{pastProcess, pastTuple}
+use Rattle.net.specs.Records.{zeroRow, freeProcess, startingAt, zeroTemplateField, zeroInstruction, withAction}
+use Rattle.net.specs.Records.{fieldAt, rightsAt, rowAt, processAt, tupleAt, patternAt, nodeAt, instructionAt, addressOf, placeOf}
+use Rattle.net.proofs.Every.{Every, every-replicate, Filled, filled-map}
+use Rattle.net.proofs.Past.{pastRow, pastProcess, pastTuple}
 use Rattle.net.proofs.Past.{pastField, pastRights, pastTemplate, pastNode, pastInstruction}
-use Rattle.written.proofs.WrittenRow.{RowOk}
+use Rattle.sound.proofs.NodeFacts.{RowOk, RowsOk}
+use Rattle.written.proofs.ReadsWrites.{Ranged}
 use Rattle.written.proofs.WrittenProcesses.{Starts, ProcessesOk, node-is}
 use Rattle.written.proofs.WrittenTuples.{TupleOk}
 use Rattle.written.proofs.WrittenStore.{TuplesOk}
@@ -27,7 +29,7 @@ use Rattle.written.proofs.WrittenCode.{Evaluated}
 use Rattle.written.proofs.WrittenWhole.{NetOk}
 use Rattle.tenant.specs.Types.{Locality, Tuple, Row, Process, Node, Action, Instruction, Net}
 use Rattle.tenant.specs.TenantRule.{SameInstruction, SameCode, SamePolicy, SameTuple, SameTuples, SameStart, SameNode}
-use Rattle.tenant.proofs.Fence.{choose-both}
+use Rattle.tenant.proofs.Fence.{tested, choose-both}
 
 -- ---- a number is below a bound or not
 pub under : {A : Type 0} (i n : ℕ) → (i < n → A) → (n ≤ i → A) → A
@@ -57,12 +59,34 @@ filled-same d size n m xs ys c e e′ f =
     (λ l. sym (a .unused l) ∙ b .unused (omega arith)))
 
 -- ---- policies
-row-same : (n m : ℕ) (r r′ : Row) → n ≡ m → RowOk n r → RowOk m r′ → SamePolicy n r r′ → r ≡ r′
+row-same : (n : ℕ) (r r′ : Row) → RowOk n r → RowOk n r′ → SamePolicy n r r′ → r ≡ r′
 unfolding rightsAt
-row-same n m r r′ e ok ok′ same =
-    let rights = filled-same pastRights 16 n m (r .rights) (r′ .rights) e (ok .rights-ok) (ok′ .rights-ok)
-    (λ l h _ _. same .rights (addressOf l) h) in
+row-same n r r′ ok ok′ same =
+    let rights = filled-same pastRights 16 n n (r .rights) (r′ .rights) refl (filled-map (λ x u. u) (λ x. sym) ok)
+    (filled-map (λ x u. u) (λ x. sym) ok′) (λ l h _ _. same .rights (addressOf l) h) in
     λ i. record { create = same .creation i; rights = rights i }
+
+-- what the rows for each origin in use have, and rows without rights, the rows for every origin have: in format 1 they are as the
+-- first, in format 2 the others have no rights
+pub rows-both :
+    (Q : Row → Row → Type 0) (f n : ℕ) (rs rs′ : List Row) → 1 ≤ n → RowsOk f n rs → RowsOk f n rs′
+    → ((o : ℕ) → o < n → Q (getD rs o pastRow) (getD rs′ o pastRow)) → Q zeroRow zeroRow
+    → (o : ℕ) → o < 16 → Q (getD rs o pastRow) (getD rs′ o pastRow)
+rows-both Q f n rs rs′ some ok ok′ g z o h =
+    under o n (g o)
+    (λ past. tested (eqb f 1)
+    (λ e. subst₂ Q (sym (ok .as-first e o h)) (sym (ok′ .as-first e o h)) (g 0 (omega arith)))
+    (λ e. subst₂ Q (sym (ok .barred e o past h)) (sym (ok′ .barred e o past h)) z))
+
+rows-same :
+    (f n f′ n′ : ℕ) (rs rs′ : List Row) → f ≡ f′ → n ≡ n′ → Ranged 1 17 n → RowsOk f n rs → RowsOk f′ n′ rs′
+    → ((o : ℕ) → o < n → SamePolicy n (getD rs o pastRow) (getD rs′ o pastRow)) → rs ≡ rs′
+rows-same f n f′ n′ rs rs′ c e count ok ok′ same =
+    let other : RowsOk f n rs′ = subst₂ (λ (g m : ℕ). RowsOk g m rs′) (sym c) (sym e) ok′ in
+    every-same pastRow 16 rs rs′ (ok .each-ok) (other .each-ok)
+    (λ o h _ _. rows-both _≡_ f n rs rs′ (count .above) ok other
+    (λ j l. let u : j < 16 = omega (arith, count .below) in
+    row-same n _ _ (ok .each-ok .holds j u) (other .each-ok .holds j u) (same j l)) refl o h)
 
 -- ---- tuples
 tuple-same : (a : Locality) (n m : ℕ) (u u′ : Tuple) → TupleOk a n u → TupleOk a m u′ → SameTuple u u′ → u ≡ u′
@@ -108,10 +132,12 @@ slots-same a k c k′ c′ x x′ ok ok′ same =
 
 -- ---- nodes
 node-same :
-    (a n k m l : ℕ) (x x′ : Node) → n ≡ m → WithTuples a n k x → WithTuples a m l x′ → SameNode n x x′ → x ≡ x′
-node-same a n k m l x x′ e ok ok′ same =
+    (a f n k f′ m l : ℕ) (x x′ : Node) → f ≡ f′ → n ≡ m → Ranged 1 17 n → WithTuples a f n k x → WithTuples a f′ m l x′
+    → SameNode n x x′ → x ≡ x′
+unfolding rowAt
+node-same a f n k f′ m l x x′ c e count ok ok′ same =
     node-is x′ _ _ _ _
-    (row-same n m (x .row) (x′ .row) e (ok .row-ok) (ok′ .row-ok) (same .policy))
+    (rows-same f n f′ m (x .rows) (x′ .rows) c e count (ok .rows-ok) (ok′ .rows-ok) (λ o h. same .policy (addressOf o) h))
     (slots-same (addressOf a) k _ l _ x x′ (ok .slots-ok .slots) (ok′ .slots-ok .slots) (same .processes))
     (same .tuples .count)
     (tuples-same (addressOf a) n m x x′ (ok .store-ok) (ok′ .store-ok) (same .tuples))
@@ -171,15 +197,15 @@ module _ (s t : Net) (ok : NetOk s) (ok′ : NetOk t) where
       (λ p h a b. instruction-same _ _ (templated _ _ _ a) (templated _ _ _ b) (same .instructions (placeOf p) h))
 
   pub nodes-same :
-      (tenant : Locality → Bool) → s .addresses ≡ t .addresses
+      (tenant : Locality → Bool) → s .format ≡ t .format → s .addresses ≡ t .addresses
       → ((a : Locality) → a .0 < s .addresses → tenant a ≡ false → SameNode (s .addresses) (nodeAt s a) (nodeAt t a))
       → (a : Locality) → tenant a ≡ false → nodeAt s a ≡ nodeAt t a
   unfolding nodeAt
-  nodes-same tenant e f a o =
+  nodes-same tenant c e f a o =
       under (a .0) 16
       (λ u. let x = ok .nodes-ok .holds (a .0) u in let y = ok′ .nodes-ok .holds (a .0) u in
       under (a .0) (s .addresses)
-      (λ h. node-same (a .0) _ _ _ _ _ _ e (x .used h) (y .used (omega arith)) (f a h o))
+      (λ h. node-same (a .0) _ _ _ _ _ _ _ _ c e (ok .addresses-ok) (x .used h) (y .used (omega arith)) (f a h o))
       (λ h. sym (x .unused h) ∙ y .unused (omega arith)))
       (λ u. List·getD-eq-default (s .nodes) pastNode (omega (arith, ok .nodes-ok .size-is))
       ∙ sym (List·getD-eq-default (t .nodes) pastNode (omega (arith, ok′ .nodes-ok .size-is))))

@@ -14,9 +14,9 @@ use Rattle.step.specs.Pick.{readFound, read, startedIn, eval, fork, unused, cre
 use Rattle.step.specs.Pick.{processStep, slotStep, stepOf}
 use Rattle.tenant.specs.Types.{Locality, Place, Tuple, Process, Slot, Net, Evaluated, Found, Request, Answer}
 use Rattle.tenant.specs.Types.{Rights, Picked}
-use Rattle.tenant.proofs.View.{view, view-addresses, view-code, view-node, view-out, view-in, view-opened}
+use Rattle.tenant.proofs.View.{view, view-format, view-addresses, view-code, view-node, view-out, view-in, view-opened}
 use Rattle.tenant.proofs.View.{seen, seen-choose, seen-unchanged, seen-performed}
-use Rattle.tenant.proofs.Fence.{Fence, tested, never, choose-both, new-outside}
+use Rattle.tenant.proofs.Fence.{Fence, tested, never, choose-both, for-fenced, new-outside}
 
 module _ (tenant : Locality → Bool) where
   -- ---- changes outside the tenant
@@ -39,7 +39,7 @@ module _ (tenant : Locality → Bool) where
       (s : Net) (a : Locality) (k : ℕ) (p : Process) (v : ℕ) (q : Place) → tenant a ≡ false → tenant (unused s) ≡ false
       → view tenant (created s a k p v q) ≡ created (view tenant s) a k p v q
   unfolding created createdAt unused
-  created-out s a k p v q h g = simp (view-out, view-node, view-opened, view-addresses)
+  created-out s a k p v q h g = simp (view-out, view-node, view-opened, view-format, view-addresses)
 
   ruleset outward = (
     seen-choose,
@@ -58,10 +58,10 @@ module _ (tenant : Locality → Bool) where
   module _ (s : Net) (f : Fence tenant s) (a : Locality) (k : ℕ) (o : tenant a ≡ false) where
     -- the target of a right that an outside row has is outside
     target-out :
-        (l : Locality) (right : Rights → Bool) → right noRights ≡ false → right (rightsAt (nodeAt s a .row) l) ≡ true
-        → tenant l ≡ false
-    target-out l right n h =
-        tested (tenant l) (λ t. never _ h (ap right (f .rows a .outside l o t) ∙ n)) (λ t. t)
+        (p : Process) (l : Locality) (right : Rights → Bool) → right noRights ≡ false
+        → right (rightsAt (rowFor (nodeAt s a) p) l) ≡ true → tenant l ≡ false
+    target-out p l right n h =
+        tested (tenant l) (λ t. never _ h (ap right (for-fenced tenant s a p f .outside l o t) ∙ n)) (λ t. t)
 
     none-reads : choose (noRights .take) true (noRights .read) ≡ false
     unfolding choose noRights
@@ -95,17 +95,17 @@ module _ (tenant : Locality → Bool) where
     done-out :
         (p : Process) (e : Evaluated) (r : Request) → granted (rowFor (nodeAt s a) p) r ≡ true
         → seen tenant (carriedOut s a k p e r) ≡ carriedOut (view tenant s) a k p e r
-    unfolding carriedOut granted out input read eval create fork rowFor mayTake mayRead mayPut maySend noRights
+    unfolding carriedOut granted out input read eval create fork mayTake mayRead mayPut maySend noRights
     done-out p e Request.Lack h = simp outward
     done-out p e Request.Stop h = stopped-out
     done-out p e (Request.Out l q) h =
-        let t : tenant l ≡ false = target-out l (λ x. x .put) refl h in simp outward
+        let t : tenant l ≡ false = target-out p l (λ x. x .put) refl h in simp outward
     done-out p e (Request.In l q) h =
-        let t : tenant l ≡ false = target-out l (λ x. x .take) refl h in simp (outward, in-out)
+        let t : tenant l ≡ false = target-out p l (λ x. x .take) refl h in simp (outward, in-out)
     done-out p e (Request.Read l q) h =
-        let t : tenant l ≡ false = target-out l (λ x. choose (x .take) true (x .read)) none-reads h in simp (outward, read-out)
+        let t : tenant l ≡ false = target-out p l (λ x. choose (x .take) true (x .read)) none-reads h in simp (outward, read-out)
     done-out p e (Request.Eval l sent q) h =
-        let t : tenant l ≡ false = target-out l (λ x. x .send) refl h in simp (outward, started-out)
+        let t : tenant l ≡ false = target-out p l (λ x. x .send) refl h in simp (outward, started-out)
     done-out p e (Request.New v q) h = let t = new-outside tenant s f in simp outward
     done-out p e (Request.Fork q r) h = simp (outward, started-out)
 
@@ -175,19 +175,19 @@ module _ (tenant : Locality → Bool) where
 
     done-in :
         (p : Process) (e : Evaluated) (r : Request) → granted (rowFor (nodeAt s a) p) r ≡ true → Unseen s (carriedOut s a k p e r)
-    unfolding carriedOut granted stopped out input read eval create fork rowFor mayTake mayRead mayPut maySend mayCreate
+    unfolding carriedOut granted stopped out input read eval create fork mayTake mayRead mayPut maySend mayCreate
     done-in p e Request.Lack h = unseen-unchanged s _
     done-in p e Request.Stop h = record { same = host-in s a k _ o }
     done-in p e (Request.Out l q) h =
-        let t : tenant l ≡ true = target-in l _ h (f .rows a .no-put l o) in
+        let t : tenant l ≡ true = target-in l _ h (for-fenced tenant s a p f .no-put l o) in
         chosen (Unseen s) _ _ _ (λ _. unseen-performed s _ (simp inward)) (λ _. unseen-unchanged s _)
-    done-in p e (Request.In l q) h = in-in _ q _ _ (target-in l _ h (f .rows a .no-take l o))
+    done-in p e (Request.In l q) h = in-in _ q _ _ (target-in l _ h (for-fenced tenant s a p f .no-take l o))
     done-in p e (Request.Read l q) h = read-in q _ _
     done-in p e (Request.Eval l sent q) h =
         chosen (Unseen s) _ _ _
-        (λ _. started-in _ p _ q _ (target-in l _ h (f .rows a .no-send l o)))
+        (λ _. started-in _ p _ q _ (target-in l _ h (for-fenced tenant s a p f .no-send l o)))
         (λ _. unseen-unchanged s _)
-    done-in p e (Request.New v q) h = never _ h (f .rows a .no-creation o)
+    done-in p e (Request.New v q) h = never _ h (for-fenced tenant s a p f .no-creation o)
     done-in p e (Request.Fork q r) h = started-in a p _ q _ o
 
   step-unseen : (s : Net) (b : ℕ) → Fence tenant s → tenant (hostOf b) ≡ true → Unseen s (stepOf s b)

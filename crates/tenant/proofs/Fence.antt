@@ -1,24 +1,26 @@
 -- The fence between a tenant and the rest, over all numbers, and that every step keeps it.
 -- Assumes nothing.
 use Prim.Native.Nat.{ℕ, zero, suc, _<_}
-use mathlib.Core.Path.{_≡_, refl, sym, subst, _∙_}
+use mathlib.Core.Path.{_≡_, refl, sym, ap, subst, _∙_}
 use mathlib.Core.Bool.{Bool, true, false}
 use mathlib.Core.List.{List, [], _∷_}
 use native.Mathlib.Omega.{arith}
-use lib.ListN.{getD, set}
+use lib.ListN.{getD, set, replicate}
 use lib.Seq.{getD-set-other}
+use lib.Dec.{ltb}
 use Rattle.net.specs.Choice.{choose}
-use Rattle.net.specs.Records.{nodeAt, rightsAt, rowFor, noRights, addressOf}
-use Rattle.net.specs.Records.{withNode, withProcess, withTuple, withoutTuple, withRow, withRights}
+use Rattle.net.specs.Records.{nodeAt, rightsAt, rowAt, rowFor, noRights, zeroRow, alike, addressOf}
+use Rattle.net.specs.Records.{withNode, withCounts, withProcess, withTuple, withoutTuple, withRows, withRights}
 use Rattle.keeping.specs.Keeping.{mayCreate}
 use Rattle.net.proofs.Every.{chosen}
+use Rattle.net.proofs.Past.{pastRow}
 use Rattle.plans.specs.Request.{granted}
 use Rattle.step.specs.Pick.{unchanged, performed, withHost, stopped, added, out, taken, inFound, input}
-use Rattle.plans.specs.Additions.{gaining}
+use Rattle.plans.specs.Additions.{gaining, ownRow, openedRows, creatorRows}
 use Rattle.step.specs.Pick.{readFound, read, startedIn, eval, fork, opened, unused, createdAt, created, create, carriedOut, acting}
 use Rattle.step.specs.Pick.{processStep, slotStep, stepOf}
-use Rattle.tenant.specs.Types.{Locality, Place, Tuple, Process, Row, Node, Slot, Net, Evaluated, Found, Request, Answer}
-use Rattle.tenant.specs.Types.{Picked}
+use Rattle.tenant.specs.Types.{Locality, Place, Tuple, Rights, Row, Process, Node, Slot, Net, Evaluated, Found, Request}
+use Rattle.tenant.specs.Types.{Answer, Picked}
 
 -- what a test comes to
 pub tested : {A : Type 0} (b : Bool) → (b ≡ true → A) → (b ≡ false → A) → A
@@ -35,7 +37,7 @@ choose-both true x x′ y y′ f e = f refl
 choose-both false x x′ y y′ f e = e
 
 -- an element after one is set
-pub at-set :
+at-set :
     {A : Type 0} (P : A → Type 0) (xs : List A) (a b : ℕ) (y d : A) → (b ≡ a → P y) → P (getD xs b d)
     → P (getD (set xs a y) b d)
 at-set P [] a b y d f p = p
@@ -44,7 +46,13 @@ at-set P (x ∷ xs) zero (suc b) y d f p = p
 at-set P (x ∷ xs) (suc a) zero y d f p = p
 at-set P (x ∷ xs) (suc a) (suc b) y d f p = at-set P xs a b y d (λ e. f (omega arith)) p
 
--- ---- what is asked of the row of one address
+-- an element of a list of equals
+at-alike : {A : Type 0} (P : A → Type 0) (n b : ℕ) (y d : A) → P y → P d → P (getD (replicate n y) b d)
+at-alike P zero b y d p q = q
+at-alike P (suc n) zero y d p q = p
+at-alike P (suc n) (suc b) y d p q = at-alike P n b y d p q
+
+-- ---- what is asked of a row of one address
 pub record FencedRow (tenant : Locality → Bool) (a : Locality) (r : Row) : Type 0 where
   pub outside : (l : Locality) → tenant a ≡ false → tenant l ≡ true → rightsAt r l ≡ noRights
   pub no-creation : tenant a ≡ true → r .create ≡ false
@@ -52,32 +60,83 @@ pub record FencedRow (tenant : Locality → Bool) (a : Locality) (r : Row) : Typ
   pub no-put : (l : Locality) → tenant a ≡ true → tenant l ≡ false → rightsAt r l .put ≡ false
   pub no-send : (l : Locality) → tenant a ≡ true → tenant l ≡ false → rightsAt r l .send ≡ false
 
+-- of each of its rows, whatever the origin: past their end stands a row without rights
+pub record FencedRows (tenant : Locality → Bool) (a : Locality) (rs : List Row) : Type 0 where
+  pub each : (o : ℕ) → FencedRow tenant a (getD rs o pastRow)
+
 pub record Fence (tenant : Locality → Bool) (s : Net) : Type 0 where
   pub below : (a : Locality) → tenant a ≡ true → a .0 < s .addresses
-  pub rows : (a : Locality) → FencedRow tenant a (nodeAt s a .row)
+  pub rows : (a : Locality) → FencedRows tenant a (nodeAt s a .rows)
 
 module _ (tenant : Locality → Bool) where
+  -- ---- rows without rights
+  bare-fenced :
+      (a : Locality) (r : Row) → r .create ≡ false → ((l : Locality) → rightsAt r l ≡ noRights) → FencedRow tenant a r
+  unfolding noRights
+  bare-fenced a r e f = record {
+    outside = λ l _ _. f l;
+    no-creation = λ _. e;
+    no-take = λ l _ _. ap (λ (x : Rights). x .take) (f l);
+    no-put = λ l _ _. ap (λ (x : Rights). x .put) (f l);
+    no-send = λ l _ _. ap (λ (x : Rights). x .send) (f l);
+  }
+
+  pub zero-fenced : (a : Locality) → FencedRow tenant a zeroRow
+  unfolding zeroRow rightsAt noRights
+  zero-fenced a =
+      bare-fenced a zeroRow refl (λ l. at-alike (λ (x : Rights). x ≡ noRights) 16 (l .0) noRights _ refl refl)
+
+  pub past-fenced : (a : Locality) → FencedRow tenant a pastRow
+  unfolding rightsAt noRights
+  past-fenced a = bare-fenced a pastRow refl (λ l. refl)
+
+  -- ---- the row that a process is judged by
+  row-fenced :
+      (s : Net) (a o : Locality) → Fence tenant s → FencedRow tenant a (choose (ltb (o .0) 16) (rowAt (nodeAt s a) o) zeroRow)
+  unfolding rowAt
+  row-fenced s a o f = chosen (FencedRow tenant a) _ _ _ (λ _. f .rows a .each (o .0)) (λ _. zero-fenced a)
+
+  pub for-fenced : (s : Net) (a : Locality) (p : Process) → Fence tenant s → FencedRow tenant a (rowFor (nodeAt s a) p)
+  unfolding rowFor
+  for-fenced s a p f = row-fenced s a (p .origin) f
+
+  -- and the one that a new node takes for itself
+  own-fenced : (s : Net) (a : Locality) → Fence tenant s → FencedRow tenant a (ownRow (nodeAt s a) a)
+  unfolding ownRow
+  own-fenced s a f = row-fenced s a a f
+
+  -- ---- lists of rows
+  pub alike-fenced : (a : Locality) (r : Row) → FencedRow tenant a r → FencedRows tenant a (alike r)
+  unfolding alike
+  alike-fenced a r g = record { each = λ o. at-alike (FencedRow tenant a) 16 o r pastRow g (past-fenced a) }
+
+  set-fenced :
+      (a : Locality) (rs : List Row) (o : ℕ) (r : Row) → FencedRows tenant a rs → FencedRow tenant a r
+      → FencedRows tenant a (set rs o r)
+  set-fenced a rs o r f g =
+      record { each = λ b. at-set (FencedRow tenant a) rs o b r pastRow (λ _. g) (f .each b) }
+
   -- ---- changes that leave rows as they are
   with-node :
-      (s : Net) (a : Locality) (x : Node) → Fence tenant s → FencedRow tenant a (x .row) → Fence tenant (withNode s a x)
+      (s : Net) (a : Locality) (x : Node) → Fence tenant s → FencedRows tenant a (x .rows) → Fence tenant (withNode s a x)
   unfolding withNode nodeAt
   with-node s a x f g = record {
     below = f .below;
-    rows = λ b. at-set (λ y. FencedRow tenant b (y .row)) (s .nodes) (a .0) (b .0) x _
-        (λ e. subst (λ (c : ℕ). FencedRow tenant (addressOf c) (x .row)) (sym e) g) (f .rows b);
+    rows = λ b. at-set (λ y. FencedRows tenant b (y .rows)) (s .nodes) (a .0) (b .0) x _
+        (λ e. subst (λ (c : ℕ). FencedRows tenant (addressOf c) (x .rows)) (sym e) g) (f .rows b);
   }
 
   with-host : (s : Net) (a : Locality) (k : ℕ) (p : Process) → Fence tenant s → Fence tenant (withHost s a k p)
   unfolding withHost withProcess
   with-host s a k p f = with-node s a _ f (f .rows a)
 
-  tuple-row : (x : Node) (t : Tuple) → withTuple x t .row ≡ x .row
+  tuple-rows : (x : Node) (t : Tuple) → withTuple x t .rows ≡ x .rows
   unfolding withTuple
-  tuple-row x t = chosen (λ (y : Node). y .row ≡ x .row) _ _ _ (λ _. refl) (λ _. refl)
+  tuple-rows x t = chosen (λ (y : Node). y .rows ≡ x .rows) _ _ _ (λ _. refl) (λ _. refl)
 
   added-kept : (s : Net) (l : Locality) (t : Tuple) → Fence tenant s → Fence tenant (added s l t)
   unfolding added
-  added-kept s l t f = with-node s l _ f (subst (FencedRow tenant l) (sym (tuple-row _ t)) (f .rows l))
+  added-kept s l t f = with-node s l _ f (subst (FencedRows tenant l) (sym (tuple-rows _ t)) (f .rows l))
 
   taken-kept : (s : Net) (l : Locality) (i : ℕ) → Fence tenant s → Fence tenant (taken s l i)
   unfolding taken withoutTuple
@@ -88,30 +147,55 @@ module _ (tenant : Locality → Bool) where
   unfolding unused
   new-outside s f = tested (tenant (unused s)) (λ e. absurd (omega (arith, f .below _ e))) (λ e. e)
 
-  gaining-kept :
-      (s : Net) (r : Row) (b : Locality) → Fence tenant s → tenant b ≡ false
-      → ((l : Locality) → tenant l ≡ true → rightsAt r l ≡ noRights) → FencedRow tenant b (gaining r (unused s))
-  unfolding gaining unused withRights rightsAt
-  gaining-kept s r b f o g = record {
-    outside = λ l _ h.
-        getD-set-other (r .rights) (s .addresses) (l .0) _ _ (λ e. absurd (omega (arith, f .below l h))) ∙ g l h;
+  -- no row of an outside address has a right over the tenant
+  outside-fenced :
+      (b : Locality) (r : Row) → tenant b ≡ false → ((l : Locality) → tenant l ≡ true → rightsAt r l ≡ noRights)
+      → FencedRow tenant b r
+  outside-fenced b r o g = record {
+    outside = λ l _ t. g l t;
     no-creation = λ e. never _ e o;
     no-take = λ l e. never _ e o;
     no-put = λ l e. never _ e o;
     no-send = λ l e. never _ e o;
   }
 
+  -- a row of the outside address a serves as one of the outside address b, and so does the same that gains the new address
+  module _ (s : Net) (f : Fence tenant s) (a b : Locality) (h : tenant a ≡ false) (o : tenant b ≡ false) where
+    moved : (r : Row) → FencedRow tenant a r → FencedRow tenant b r
+    moved r g = outside-fenced b r o (λ l. g .outside l h)
+
+    gaining-kept : (r : Row) → FencedRow tenant a r → FencedRow tenant b (gaining r (unused s))
+    unfolding gaining unused withRights rightsAt
+    gaining-kept r g =
+        outside-fenced b _ o
+        (λ l t. getD-set-other (r .rights) (s .addresses) (l .0) _ _ (λ e. absurd (omega (arith, f .below l t)))
+        ∙ g .outside l h t)
+
   opened-kept : (s : Net) → Fence tenant s → Fence tenant (opened s)
-  unfolding opened nodeAt
+  unfolding opened withCounts nodeAt
   opened-kept s f = record { below = λ a h. omega (arith, f .below a h); rows = f .rows }
 
-  created-kept :
-      (s : Net) (a : Locality) (k : ℕ) (p : Process) (v : ℕ) (q : Place) → Fence tenant s → tenant a ≡ false
-      → Fence tenant (created s a k p v q)
-  unfolding created createdAt withRow
-  created-kept s a k p v q f h =
-      with-node _ _ _ (with-node _ a _ (opened-kept s f) (gaining-kept s _ a f h (λ l. f .rows a .outside l h)))
-      (gaining-kept s _ _ f (new-outside s f) (λ l. f .rows a .outside l h))
+  module _ (s : Net) (a : Locality) (k : ℕ) (p : Process) (v : ℕ) (q : Place) (f : Fence tenant s) (h : tenant a ≡ false) where
+    creator-fenced : FencedRows tenant a (creatorRows (s .format) (nodeAt s a) p (unused s))
+    unfolding creatorRows
+    creator-fenced =
+        let gained = gaining-kept s f a a h h _ (for-fenced s a p f) in
+        chosen (FencedRows tenant a) _ _ _ (λ _. alike-fenced a _ gained) (λ _. set-fenced a _ _ _ (f .rows a) gained)
+
+    opened-fenced : FencedRows tenant (unused s) (openedRows (s .format) (nodeAt s a) a p (unused s))
+    unfolding openedRows
+    opened-fenced =
+        let l = unused s in
+        let o = new-outside s f in
+        let own = gaining-kept s f a l h o _ (own-fenced s a f) in
+        let copied : FencedRows tenant l (nodeAt s a .rows) =
+        record { each = λ i. moved s f a l h o _ (f .rows a .each i) } in
+        chosen (FencedRows tenant l) _ _ _ (λ _. alike-fenced l _ (gaining-kept s f a l h o _ (for-fenced s a p f)))
+        (λ _. set-fenced l _ _ _ (set-fenced l _ _ _ copied own) own)
+
+    created-kept : Fence tenant (created s a k p v q)
+    unfolding created createdAt withRows
+    created-kept = with-node _ _ _ (with-node _ a _ (opened-kept s f) creator-fenced) opened-fenced
 
   -- ---- an answer's net
   record Kept (r : Picked) : Type 0 where
@@ -143,7 +227,7 @@ module _ (tenant : Locality → Bool) where
 
     done-kept :
         (p : Process) (e : Evaluated) (r : Request) → granted (rowFor (nodeAt s a) p) r ≡ true → Kept (carriedOut s a k p e r)
-    unfolding carriedOut granted stopped out input read eval create fork rowFor mayCreate
+    unfolding carriedOut granted stopped out input read eval create fork mayCreate
     done-kept p e Request.Lack h = same-kept s _ f
     done-kept p e Request.Stop h = record { fenced = with-host s a k _ f }
     done-kept p e (Request.Out l q) h =
@@ -155,7 +239,7 @@ module _ (tenant : Locality → Bool) where
     done-kept p e (Request.New v q) h =
         chosen Kept _ _ _
         (λ _. performed-kept _ (created-kept s a k p v q f
-        (tested (tenant a) (λ t. never _ h (f .rows a .no-creation t)) (λ t. t)))) (λ _. same-kept s _ f)
+        (tested (tenant a) (λ t. never _ h (for-fenced s a p f .no-creation t)) (λ t. t)))) (λ _. same-kept s _ f)
     done-kept p e (Request.Fork q r) h = started-kept a p _ q _
 
   step-kept : (s : Net) (b : ℕ) → Fence tenant s → Kept (stepOf s b)

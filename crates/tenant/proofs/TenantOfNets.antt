@@ -82,16 +82,16 @@ module _ (tenant : Locality → Bool) where
 
   -- ---- two nets
   same-view :
-      (s t : Net) → Shaped s → Shaped t → s .addresses ≡ t .addresses → s .code ≡ t .code
+      (s t : Net) → Shaped s → Shaped t → s .format ≡ t .format → s .addresses ≡ t .addresses → s .code ≡ t .code
       → ((a : Locality) → tenant a ≡ false → nodeAt s a ≡ nodeAt t a) → view tenant s ≡ view tenant t
   unfolding view nodeAt
-  same-view s t g g′ n c f =
+  same-view s t g g′ m n c f =
       let e = blanked-same (counted tenant) (s .nodes) (t .nodes) _ (g .nodes-are ∙ sym (g′ .nodes-are)) (λ i. f (addressOf i)) in
-      λ i. record { addresses = n i; length = 0; nodes = e i; code = c i }
+      λ i. record { format = m i; addresses = n i; length = 0; nodes = e i; code = c i }
 
   equal-node : (x y : Node) → x ≡ y → Equal x y
   equal-node x y e = record {
-    policy = ap (λ (z : Node). z .row) e;
+    policy = ap (λ (z : Node). z .rows) e;
     count = ap (λ (z : Node). z .stored) e;
     tuples = ap (λ (z : Node). z .tuples) e;
     processes = ap (λ (z : Node). z .processes) e;
@@ -114,12 +114,12 @@ module _ (tenant : Locality → Bool) where
 
   pub tenant-of-nets :
       (s t : Net) (bs bs′ : List ℕ) → soundOf s ≡ true → soundOf t ≡ true → Shaped s → Shaped t
-      → s .addresses ≡ t .addresses → s .code ≡ t .code → ((a : Locality) → tenant a ≡ false → nodeAt s a ≡ nodeAt t a)
-      → Fence tenant s → Fence tenant t
+      → s .format ≡ t .format → s .addresses ≡ t .addresses → s .code ≡ t .code
+      → ((a : Locality) → tenant a ≡ false → nodeAt s a ≡ nodeAt t a) → Fence tenant s → Fence tenant t
       → struck tenant bs ≡ struck tenant bs′ → Agree tenant bs bs′ (ranFrom s bs) (ranFrom t bs′)
-  tenant-of-nets s t bs bs′ h h′ g g′ n c nodes f f′ e =
+  tenant-of-nets s t bs bs′ h h′ g g′ m n c nodes f f′ e =
       agree bs bs′ _ _
       (ap (viewed bs) (same-run s bs g h) ∙ run-viewed s bs f
       ∙ ap (stepped (view tenant s)) e
-      ∙ ap (λ x. stepped x (struck tenant bs′)) (same-view s t g g′ n c nodes)
+      ∙ ap (λ x. stepped x (struck tenant bs′)) (same-view s t g g′ m n c nodes)
       ∙ sym (run-viewed t bs′ f′) ∙ sym (ap (viewed bs′) (same-run t bs′ g′ h′)))

@@ -8,7 +8,7 @@ use mathlib.Core.Bool.{Bool, true, false}
 use mathlib.Core.List.{List, [], _∷_}
 use lib.ListN.{length, getD, set}
 use Rattle.net.specs.Choice.{choose}
-use Rattle.net.specs.Records.{zeroNode, nodeAt, withNode, addressOf}
+use Rattle.net.specs.Records.{zeroNode, nodeAt, withNode, withCounts, addressOf}
 use Rattle.net.proofs.Laws.{choose-true, choose-false}
 use Rattle.step.specs.Pick.{unchanged, performed, opened}
 use Rattle.tenant.specs.Types.{Locality, Node, Net, Answer, Picked}
@@ -73,7 +73,11 @@ module _ (tenant : Locality → Bool) where
   counted i = tenant (addressOf i)
 
   unfoldable pub view : Net → Net
-  view s = record { addresses = s .addresses; length = 0; nodes = blanked counted (s .nodes); code = s .code }
+  view s = record { format = s .format; addresses = s .addresses; length = 0; nodes = blanked counted (s .nodes); code = s .code }
+
+  pub view-format : (s : Net) → view s .format ≡ s .format
+  unfolding view
+  view-format s = refl
 
   pub view-addresses : (s : Net) → view s .addresses ≡ s .addresses
   unfolding view
@@ -91,16 +95,16 @@ module _ (tenant : Locality → Bool) where
   unfolding view withNode
   view-out s a x h i =
       let ns = blanked-out counted (s .nodes) (a .0) x h in
-      record { addresses = s .addresses; length = 0; nodes = ns i; code = s .code }
+      record { format = s .format; addresses = s .addresses; length = 0; nodes = ns i; code = s .code }
 
   pub view-in : (s : Net) (a : Locality) (x : Node) → tenant a ≡ true → view (withNode s a x) ≡ view s
   unfolding view withNode
   view-in s a x h i =
       let ns = blanked-in counted (s .nodes) (a .0) x h in
-      record { addresses = s .addresses; length = 0; nodes = ns i; code = s .code }
+      record { format = s .format; addresses = s .addresses; length = 0; nodes = ns i; code = s .code }
 
   pub view-opened : (s : Net) → view (opened s) ≡ opened (view s)
-  unfolding view opened
+  unfolding view opened withCounts
   view-opened s = refl
 
   -- ---- an answer and its net

@@ -5,7 +5,7 @@ use mathlib.Core.Path.{_≡_}
 use mathlib.Core.Bool.{Bool, true, false}
 use mathlib.Core.List.{List, [], _∷_}
 use Rattle.net.specs.Choice.{choose}
-use Rattle.net.specs.Records.{nodeAt, rightsAt, processAt, tupleAt, fieldAt, instructionAt, patternAt, noRights}
+use Rattle.net.specs.Records.{nodeAt, rightsAt, rowAt, processAt, tupleAt, fieldAt, instructionAt, patternAt, noRights}
 use Rattle.image.specs.Image.{openedOf}
 use Rattle.step.specs.Pick.{hostOf}
 use Rattle.tenant.specs.Types.{Locality, Place, Tuple, Rights, Row, Process, Node, Instruction, Net, Answer}
@@ -60,19 +60,20 @@ pub record SameStart (p p′ : Process) : Type 0 where
   pub busy : p .busy ≡ p′ .busy
   pub place : p .busy ≡ true → p .at ≡ p′ .at
 
--- "equal policies, tuples and starting processes", "starting processes slot by slot in their places"
+-- "equal policies, tuples and starting processes": a policy is a node's rows, for each origin in use ("its premises speak of each
+-- row of a node", document 02, slip 10); "starting processes slot by slot in their places"
 pub record SameNode (addresses : ℕ) (x x′ : Node) : Type 0 where
-  pub policy : SamePolicy addresses (x .row) (x′ .row)
+  pub policy : (o : Locality) → o .0 < addresses → SamePolicy addresses (rowAt x o) (rowAt x′ o)
   pub tuples : SameTuples x x′
   pub processes : (k : ℕ) → k < 4 → SameStart (processAt x k) (processAt x′ k)
 
--- ---- what is asked of each image. "A policy grants what its row holds": the rights of address a's policy over address l,
--- and its right to create
-unfoldable pub grants : Net → Locality → Locality → Rights
-grants s a l = rightsAt (nodeAt s a .row) l
+-- ---- what is asked of each image. "A policy grants what its row holds": the rights over address l that address a's policy
+-- grants to code of origin o, and the right to create
+unfoldable pub grants : Net → Locality → Locality → Locality → Rights
+grants s a o l = rightsAt (rowAt (nodeAt s a) o) l
 
-unfoldable pub creates : Net → Locality → Bool
-creates s a = nodeAt s a .row .create
+unfoldable pub creates : Net → Locality → Locality → Bool
+creates s a o = rowAt (nodeAt s a) o .create
 
 -- "at most read means no i, o or e": of the rights held, though i at an address covers reading there
 pub record AtMostRead (r : Rights) : Type 0 where
@@ -81,18 +82,31 @@ pub record AtMostRead (r : Rights) : Type 0 where
   pub no-send : r .send ≡ false
 
 -- "no outside policy grants a right over a tenant's address; a tenant's policy grants no creation and, outside, at most
--- read"
+-- read", in each row
 pub record Fenced (tenant : Locality → Bool) (s : Net) : Type 0 where
-  pub outside : (a l : Locality) → a .0 < s .addresses → tenant a ≡ false → tenant l ≡ true → grants s a l ≡ noRights
-  pub no-creation : (a : Locality) → tenant a ≡ true → creates s a ≡ false
+  pub outside :
+      (a o l : Locality)
+      → a .0 < s .addresses
+      → o .0 < s .addresses
+      → tenant a ≡ false
+      → tenant l ≡ true
+      → grants s a o l ≡ noRights
+  pub no-creation : (a o : Locality) → tenant a ≡ true → o .0 < s .addresses → creates s a o ≡ false
   pub at-most-read :
-      (a l : Locality) → tenant a ≡ true → l .0 < s .addresses → tenant l ≡ false → AtMostRead (grants s a l)
+      (a o l : Locality)
+      → tenant a ≡ true
+      → o .0 < s .addresses
+      → l .0 < s .addresses
+      → tenant l ≡ false
+      → AtMostRead (grants s a o l)
 
 -- ---- the premises on the nets of the two images. "The tenant's addresses are any set of those below the image's count, the
 -- empty and the full one among them"; "equal address counts and code and, at addresses outside the tenant's, equal
--- policies, tuples and starting processes"; and the fence "in each image"
+-- policies, tuples and starting processes"; and the fence "in each image". "The tenant rule asks one format of both images"
+-- (document 02, slip 10)
 pub record Alike (tenant : Locality → Bool) (s t : Net) : Type 0 where
   pub below : (a : Locality) → tenant a ≡ true → a .0 < s .addresses
+  pub format : s .format ≡ t .format
   pub addresses : s .addresses ≡ t .addresses
   pub code : SameCode s t
   pub nodes : (a : Locality) → a .0 < s .addresses → tenant a ≡ false → SameNode (s .addresses) (nodeAt s a) (nodeAt t a)
@@ -103,7 +117,7 @@ pub record Alike (tenant : Locality → Bool) (s t : Net) : Type 0 where
 -- busy, each record whole", so each of a node's parts as a whole. "Equality of tuples between two runs now covers this mark
 -- as well" (document 02, slip 8): a tuple's record holds it
 pub record Equal (x y : Node) : Type 0 where
-  pub policy : x .row ≡ y .row
+  pub policy : x .rows ≡ y .rows
   pub count : x .stored ≡ y .stored
   pub tuples : x .tuples ≡ y .tuples
   pub processes : x .processes ≡ y .processes
