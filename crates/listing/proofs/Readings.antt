@@ -13,9 +13,9 @@ use lib.Dec.{ltb}
 use lib.IntN.{ℤ}
 use Rattle.net.specs.Choice.{choose, all}
 use Rattle.net.specs.Records.{fieldAt, variableAt, processAt, tupleAt, patternAt, nodeAt, instructionAt, addressOf}
-use Rattle.net.specs.Records.{zeroField, zeroTuple, unsetVariable, freeProcess, zeroNode, withField, marked, withVariable, withRow, withProcess}
+use Rattle.net.specs.Records.{zeroField, zeroTuple, unsetVariable, freeProcess, zeroNode, withField, marked, withVariable, withRows, withProcess}
 use Rattle.net.specs.Records.{withTuple, withNode, movedTo, copiedTo, sentFrom, afterTaking, withoutTuple, processCount}
-use Rattle.net.specs.Records.{zeroTemplateField, zeroInstruction, emptyNet}
+use Rattle.net.specs.Records.{zeroTemplateField, zeroInstruction, emptyNet, withCounts}
 use Rattle.net.specs.declared.instruction.TemplateField.{TemplateField}
 use Rattle.net.proofs.Laws.{both-l, both-r, all-e}
 use Rattle.net.proofs.Every.{chosen}
@@ -186,9 +186,9 @@ tuple-ok e h =
 
 -- ---- changes of a node
 module _ (x : Node) (ok : NodeOk x) where
-  with-row : (r : Row) → NodeOk (withRow x r)
-  unfolding withRow processAt tupleAt
-  with-row r = record { processes = ok .processes; tuples = ok .tuples }
+  with-rows : (rows : List Row) → NodeOk (withRows x rows)
+  unfolding withRows processAt tupleAt
+  with-rows rows = record { processes = ok .processes; tuples = ok .tuples }
 
   with-process : (k : ℕ) (p : Process) → ProcessOk p → NodeOk (withProcess x k p)
   unfolding withProcess processAt tupleAt
@@ -236,7 +236,7 @@ module _ (s : Net) (ok : NetOk s) where
   with-host a k p h = with-node a _ (with-process _ (ok .nodes a) k p h)
 
   opened-ok : NetOk (opened s)
-  unfolding opened nodeAt
+  unfolding opened withCounts nodeAt
   opened-ok = record { nodes = ok .nodes; code = ok .code }
 
 created-ok : (s : Net) → NetOk s → (a : Locality) (k : ℕ) (p : Process) (v : ℕ) (q : Place) → ProcessOk p → NetOk (created s a k p v q)
@@ -244,8 +244,8 @@ unfolding created createdAt heldItem itemFits
 created-ok s ok a k p v q h =
     with-node _
     (with-node (opened s) (opened-ok s ok) a _
-    (with-row _ (with-process _ (ok .nodes a) k _ (moved _ (with-variable p h v (Value.Address (unused s)) refl) q)) _))
-    (unused s) _ (with-row zeroNode zero-node _)
+    (with-rows _ (with-process _ (ok .nodes a) k _ (moved _ (with-variable p h v (Value.Address (unused s)) refl) q)) _))
+    (unused s) _ (with-rows zeroNode zero-node _)
 
 -- ---- a pick
 pub record After (r : Picked) : Type 0 where

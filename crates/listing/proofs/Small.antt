@@ -19,7 +19,7 @@ use Rattle.fresh.specs.Fresh.{readingFits, itemFits}
 use Rattle.text.specs.Decimal.{decimal}
 use Rattle.image.specs.Image.{openedOf, numberOf}
 use Rattle.accepted.specs.ImageClaims.{AcceptedIsSound, RefusedIsNumbered}
-use Rattle.accepted.specs.LengthClaims.{FirstBytesDecide}
+use Rattle.accepted.specs.LengthClaims.{longestImage, FirstBytesDecide}
 use Rattle.accepted.proofs.AcceptedSound.{accepted-is-sound, refused-is-numbered}
 use Rattle.accepted.proofs.LengthClaims.{firstBytesDecide}
 use Rattle.faults.specs.FaultClaims.{RefusedWith, FaultInside}
@@ -52,9 +52,9 @@ module _ (image : List ℕ) (f : Fault) (e : openedOf image .answer ≡ Verdict.
   place-short : Short (f .place)
   unfolding FirstBytesDecide FaultInside RefusedWith
   place-short =
-      let same = ap (λ (o : Opened). o .answer) (firstBytesDecide image 14750 (omega arith)) in
-      let inside = faultInside (take 14750 image) f (same ∙ e) in
-      short _ (omega (arith, inside, length-take 14750 image))
+      let same = ap (λ (o : Opened). o .answer) (firstBytesDecide image (suc longestImage) (omega arith)) in
+      let inside = faultInside (take (suc longestImage) image) f (same ∙ e) in
+      short _ (omega (arith, inside, length-take (suc longestImage) image))
 
 -- ---- counts
 fewer-count : (count size : ℕ) → fewer count size ≤ count
@@ -92,9 +92,9 @@ tuple-short n t m h g = record {
       item-short n _ m (h .fields-ok .holds i (omega (arith, size)) .used (omega (arith, count))) (g .each i);
 }
 
-node-short : (a n k : ℕ) (x : Node) → a < 16 → n ≤ 16 → NodeSound n k x → NodeOk x → NodeHas Short a x
+node-short : (a f n k : ℕ) (x : Node) → a < 16 → n ≤ 16 → NodeSound f n k x → NodeOk x → NodeHas Short a x
 unfolding tupleAt
-node-short a n k x l m h g = record {
+node-short a f n k x l m h g = record {
   at = short a (omega arith);
   stored = short _ (omega (arith, h .room));
   busy = short _ (omega (arith, busy-few x));
@@ -110,7 +110,7 @@ net-short s h g = record {
   nodes = λ a l.
       let size = fewer-below (s .addresses) 16 in
       let count = fewer-count (s .addresses) 16 in
-      node-short a _ _ _ (omega (arith, size)) (h .addresses-most) (node-at s h (addressOf a) (omega (arith, count)))
+      node-short a _ _ _ _ (omega (arith, size)) (h .addresses-most) (node-at s h (addressOf a) (omega (arith, count)))
       (g .nodes (addressOf a));
 }
 

@@ -8,7 +8,7 @@ use mathlib.Core.List.{List, [], _∷_}
 use native.Mathlib.Omega.{arith}
 use lib.ListN.{length, getD, set, length-set}
 use lib.Seq.{getD-set-same, getD-set-other}
-use Rattle.net.specs.Records.{nodeAt, tupleAt, marked, zeroNode, withNode, withProcess, withRow, withTuple}
+use Rattle.net.specs.Records.{nodeAt, tupleAt, marked, zeroNode, withNode, withCounts, withProcess, withRows, withTuple}
 use Rattle.net.specs.Records.{withoutTuple, afterTaking}
 use Rattle.net.proofs.Laws.{split}
 use Rattle.net.proofs.Every.{chosen-lt}
@@ -186,13 +186,13 @@ none-stood : (x y : Node) → y .stored ≡ 0 → Stood x y
 none-stood x y e = record { each = λ i l. absurd (omega arith) }
 
 opened-stood : (s : Net) (c : Locality) → Stood (nodeAt s c) (nodeAt (opened s) c)
-unfolding nodeAt opened
+unfolding nodeAt opened withCounts
 opened-stood s c = stays (nodeAt s c)
 
 pub created-stood :
     (s : Net) (a : Locality) (k : ℕ) (p : Process) (v : ℕ) (q : Place) (c : Locality)
     → Stood (nodeAt s c) (nodeAt (created s a k p v q) c)
-unfolding created createdAt opened withRow withProcess zeroNode
+unfolding created createdAt opened withCounts withRows withProcess zeroNode
 created-stood s a k p v q c =
     node-at (λ m. Stood (nodeAt s m)) _ (unused s) _ (none-stood _ _ refl) c
     (node-at (λ m. Stood (nodeAt s m)) (opened s) a _ (same-stood (record { stored-is = refl; tuples-are = refl })) c

@@ -10,7 +10,7 @@ use native.Mathlib.Omega.{arith}
 use native.Mathlib.Decide.{decLe}
 use lib.ListN.{List·getD-eq-default}
 use borrow.Author.Tests.{lt-ltb, eqb-true}
-use Rattle.net.specs.Choice.{all}
+use Rattle.net.specs.Choice.{all, inRange}
 use Rattle.net.specs.Records.{emptyNet, zeroNode, addressOf, nodeAt, tupleAt}
 use Rattle.net.specs.Shape.{Shaped}
 use Rattle.net.proofs.Laws.{both-l, both-r, implies-e, all-e, in-range-low}
@@ -41,7 +41,7 @@ record Starts (s : Net) : Type 0 where
 -- the empty net is not sound
 used : (s : Net) → soundOf s ≡ true → 1 ≤ s .addresses
 unfolding soundOf
-used s h = in-range-low 1 _ 16 (both-l _ _ (both-l _ _ h))
+used s h = in-range-low 1 _ 16 (both-l _ _ (both-l _ _ (both-r (inRange 1 (s .format) 2) _ h)))
 
 empty-not : {C : Type 0} (s : Net) → emptyNet ≡ s → soundOf s ≡ true → C
 unfolding emptyNet

@@ -5,7 +5,7 @@ use mathlib.Core.Path.{_≡_, refl, ap, subst, _∙_}
 use mathlib.Core.List.{List}
 use native.Mathlib.Omega.{arith}
 use lib.Seq.{getD-set-other, set-comm}
-use Rattle.net.specs.Records.{nodeAt, withNode}
+use Rattle.net.specs.Records.{nodeAt, withNode, withCounts}
 use Rattle.step.specs.Types.{Locality, Node, Net}
 use Rattle.step.specs.Pick.{opened}
 
@@ -27,20 +27,26 @@ openings (grow e) = openings e + 1
 openings (put l _ x e) = openings e
 
 module _ {A : Locality → Type 0} where
+  pub format-kept : (e : Edit A) (s : Net) → done e s .format ≡ s .format
+  unfolding done opened withCounts withNode
+  format-kept none s = refl
+  format-kept (grow e) s = format-kept e s
+  format-kept (put l _ x e) s = format-kept e s
+
   pub code-kept : (e : Edit A) (s : Net) → done e s .code ≡ s .code
-  unfolding done opened withNode
+  unfolding done opened withCounts withNode
   code-kept none s = refl
   code-kept (grow e) s = code-kept e s
   code-kept (put l _ x e) s = code-kept e s
 
   pub count-is : (e : Edit A) (s : Net) → done e s .addresses ≡ s .addresses + openings e
-  unfolding done opened withNode openings
+  unfolding done opened withCounts withNode openings
   count-is none s = omega arith
   count-is (grow e) s = let rest = count-is e s in omega (arith, rest)
   count-is (put l _ x e) s = count-is e s
 
   pub grow-through : (e : Edit A) (s : Net) → done e (opened s) ≡ opened (done e s)
-  unfolding done opened withNode
+  unfolding done opened withCounts withNode
   grow-through none s = refl
   grow-through (grow e) s = ap opened (grow-through e s)
   grow-through (put l _ x e) s = ap (λ (t : Net). withNode t l x) (grow-through e s)
@@ -51,7 +57,7 @@ module _ {A B : Locality → Type 0} (away : (l : Locality) → A l → B l → 
   other l m h g e = away m g (subst B (λ i. record { 0 = e i }) h)
 
   pub node-kept : (e : Edit A) (s : Net) (l : Locality) → B l → nodeAt (done e s) l ≡ nodeAt s l
-  unfolding done opened withNode nodeAt
+  unfolding done opened withCounts withNode nodeAt
   node-kept none s l h = refl
   node-kept (grow e) s l h = node-kept e s l h
   node-kept (put m g x e) s l h =
@@ -60,11 +66,11 @@ module _ {A B : Locality → Type 0} (away : (l : Locality) → A l → B l → 
   put-put : (s : Net) (l m : Locality) (x y : Node) → B l → A m → withNode (withNode s l x) m y ≡ withNode (withNode s m y) l x
   unfolding withNode
   put-put s l m x y h g =
-      ap {B = Net} (λ (ns : List Node). record { addresses = s .addresses; length = s .length; nodes = ns; code = s .code })
+      ap {B = Net} (λ (ns : List Node). record { format = s .format; addresses = s .addresses; length = s .length; nodes = ns; code = s .code })
       (set-comm (s .nodes) (l .0) (m .0) x y (other l m h g))
 
   grow-put : (s : Net) (l : Locality) (x : Node) → opened (withNode s l x) ≡ withNode (opened s) l x
-  unfolding opened withNode
+  unfolding opened withCounts withNode
   grow-put s l x = refl
 
   pub put-through : (e : Edit A) (s : Net) (l : Locality) (x : Node) → B l → done e (withNode s l x) ≡ withNode (done e s) l x

@@ -18,7 +18,7 @@ use Rattle.step.specs.declared.machine.Picked.{Picked}
 use Rattle.tenant.proofs.Fence.{choose-both}
 use Rattle.order.specs.Types.{Locality, Net, Request}
 use Rattle.order.specs.OrderRule.{processOf, meets, asks, opens}
-use Rattle.order.proofs.Edits.{Edit, done, openings, code-kept, count-is, node-kept, grow-through, put-through}
+use Rattle.order.proofs.Edits.{Edit, done, openings, format-kept, code-kept, count-is, node-kept, grow-through, put-through}
 use Rattle.order.proofs.Concerns.{Concern, is-host, Covered, covered, first-among}
 
 -- an answer and its net, edited
@@ -73,7 +73,7 @@ module _ {A B : Locality → Type 0} (away : (l : Locality) → A l → B l → 
       (s : Net) (a : Locality) (k : ℕ) (p : Process) (v : ℕ) (q : Place) → B a → B (unused s) → openings e ≡ 0
       → done e (created s a k p v q) ≡ created (done e s) a k p v q
   unfolding created createdAt unused
-  created-through s a k p v q h g n = simp (same-put, same-node, grow-through, same-count)
+  created-through s a k p v q h g n = simp (same-put, same-node, grow-through, format-kept, same-count)
 
   ruleset passing = (
     through-choose,

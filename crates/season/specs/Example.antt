@@ -3,13 +3,13 @@
 use mathlib.Core.Path.{_≡_}
 use mathlib.Core.List.{List, [], _∷_, _++_}
 use Prim.Native.Nat.{ℕ}
-use Rattle.net.specs.Records.{addressOf, withNode, withCounts, emptyNet, zeroRow}
+use Rattle.net.specs.Records.{addressOf, withNode, withCounts, emptyNet, zeroRow, alike}
 use Rattle.text.specs.Bytes.{bytes}
 use Rattle.season.specs.Types.{Net, Node}
 use Rattle.season.specs.Season.{MadeRun, figuresOf}
 
 unfoldable pub holding : ℕ → Node
-holding n = record { row = zeroRow; processes = []; stored = n; tuples = [] }
+holding n = record { rows = alike zeroRow; processes = []; stored = n; tuples = [] }
 
 -- three tuples at address 0, the only one in use
 unfoldable pub threeLeft : Net

@@ -12,7 +12,8 @@ use lib.Seq.{map-set-same, getD-set-same, getD-set-other}
 use lib.Dec.{eqb}
 use borrow.Author.Tests.{lt-ltb}
 use Rattle.net.specs.Choice.{choose, fold}
-use Rattle.net.specs.Records.{processAt, nodeAt, withProcess, withTuple, withNode, withRow, withoutTuple, zeroNode, movedTo, addressOf}
+use Rattle.net.specs.Records.{processAt, nodeAt, withProcess, withTuple, withNode, withRows, withCounts, withoutTuple, zeroNode, movedTo}
+use Rattle.net.specs.Records.{addressOf}
 use Rattle.net.specs.Shape.{Shaped}
 use Rattle.net.proofs.Laws.{choose-true, choose-false, split}
 use Rattle.net.proofs.Every.{chosen, chosen-lt}
@@ -122,11 +123,11 @@ module _ (s : Net) where
 
   -- an address is opened
   opened-counts : counts (opened s) ≡ counts s
-  unfolding counts opened
+  unfolding counts opened withCounts
   opened-counts = refl
 
   opened-count : (l : Locality) → nodeAt s l .stored ≡ nodeAt (opened s) l .stored
-  unfolding nodeAt opened
+  unfolding nodeAt opened withCounts
   opened-count l = refl
 
   -- a process is replaced
@@ -225,13 +226,13 @@ module _ (s : Net) (ok : NetOk s) (a : Locality) (k : ℕ) (hosted : a .0 < s .a
 
   -- the new address has no tuples
   created-counts : (v : ℕ) (q : Place) → counts (created s a k p v q) ≡ set (counts s) (s .addresses) 0
-  unfolding created createdAt unused withRow withProcess zeroNode
+  unfolding created createdAt unused withRows withProcess zeroNode
   created-counts v q =
       node-counts _ (unused s) _
       ∙ ap (λ (cs : List ℕ). set cs (s .addresses) 0) (counts-same (opened s) a _ (opened-count s a) ∙ opened-counts s)
 
   created-tuples : (v : ℕ) (q : Place) → tuplesOf (created s a k p v q) ≡ tuplesOf s
-  unfolding created createdAt opened withNode
+  unfolding created createdAt opened withCounts withNode
   created-tuples v q =
       tuples-sum (created s a k p v q) ∙ ap (sum (s .addresses + 1)) (created-counts v q)
       ∙ sum-open (s .addresses) (counts s) ∙ sym (tuples-sum s)
