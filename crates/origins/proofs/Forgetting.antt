@@ -7,8 +7,9 @@ use mathlib.Core.List.{List, [], _∷_, map}
 use lib.Dec.{ltb}
 use lib.ListN.{set, List·getD-map}
 use Rattle.net.specs.Choice.{choose, firstBelow}
-use Rattle.net.specs.Records.{freeProcess, zeroNode, nodeAt, processAt, rowFor, withVariable, withRow, withProcess}
-use Rattle.net.specs.Records.{withTuple, withNode, movedTo, copiedTo, sentFrom, afterTaking, tupleAt, withoutTuple, freeSlot}
+use Rattle.net.specs.Records.{freeProcess, zeroNode, nodeAt, processAt, rowAt, rowFor, withVariable, withRows, withProcess}
+use Rattle.net.specs.Records.{withTuple, withNode, withCounts, movedTo, copiedTo, sentFrom, afterTaking, tupleAt}
+use Rattle.net.specs.Records.{withoutTuple, freeSlot}
 use Rattle.net.proofs.Past.{pastProcess, pastNode}
 use Rattle.step.specs.Pick.{unchanged, performed, opened}
 use Rattle.step.specs.Types.{Place, Value, Tuple, Row, Slot, Answer}
@@ -20,11 +21,11 @@ forgetProcess p = record { busy = p .busy; at = p .at; origin = record { 0 = 0 }
 
 unfoldable pub forgetNode : Node → Node
 forgetNode x =
-    record { row = x .row; processes = map forgetProcess (x .processes); stored = x .stored; tuples = x .tuples }
+    record { rows = x .rows; processes = map forgetProcess (x .processes); stored = x .stored; tuples = x .tuples }
 
 unfoldable pub forget : Net → Net
 forget s =
-    record { addresses = s .addresses; length = s .length; nodes = map forgetNode (s .nodes); code = s .code }
+    record { format = s .format; addresses = s .addresses; length = s .length; nodes = map forgetNode (s .nodes); code = s .code }
 
 -- ---- a map over a list
 map-set : {A : Type 0} (f : A → A) (xs : List A) (i : ℕ) (y : A) → map f (set xs i y) ≡ set (map f xs) i (f y)
@@ -45,13 +46,13 @@ node-twice : (x : Node) → forgetNode (forgetNode x) ≡ forgetNode x
 unfolding forgetNode
 node-twice x i =
     let ps = map-twice forgetProcess process-twice (x .processes) in
-    record { row = x .row; processes = ps i; stored = x .stored; tuples = x .tuples }
+    record { rows = x .rows; processes = ps i; stored = x .stored; tuples = x .tuples }
 
 pub forget-twice : (s : Net) → forget (forget s) ≡ forget s
 unfolding forget
 forget-twice s i =
     let ns = map-twice forgetNode node-twice (s .nodes) in
-    record { addresses = s .addresses; length = s .length; nodes = ns i; code = s .code }
+    record { format = s .format; addresses = s .addresses; length = s .length; nodes = ns i; code = s .code }
 
 -- ---- what is read of a process
 pub forget-busy : (p : Process) → forgetProcess p .busy ≡ p .busy
@@ -86,14 +87,9 @@ unfolding forgetProcess freeProcess
 forget-free = refl
 
 -- ---- what is read of a node
-pub forget-row : (x : Node) → forgetNode x .row ≡ x .row
-unfolding forgetNode
-forget-row x = refl
-
--- every process of a node is judged by its only row
-pub row-only : (x : Node) (p : Process) → rowFor x p ≡ x .row
-unfolding rowFor
-row-only x p = refl
+pub forget-row-for : (x : Node) (p : Process) → rowFor (forgetNode x) p ≡ rowFor x p
+unfolding rowFor rowAt forgetNode
+forget-row-for x p = refl
 
 pub forget-stored : (x : Node) → forgetNode x .stored ≡ x .stored
 unfolding forgetNode
@@ -108,16 +104,16 @@ unfolding freeSlot forgetProcess
 forget-slot x i = firstBelow 4 (λ j. not (process-at x j i .busy)) Slot.Number Slot.Full
 
 -- ---- changes of a node
-pub forget-with-row : (x : Node) (r : Row) → forgetNode (withRow x r) ≡ withRow (forgetNode x) r
-unfolding forgetNode withRow
-forget-with-row x r = refl
+pub forget-with-rows : (x : Node) (rs : List Row) → forgetNode (withRows x rs) ≡ withRows (forgetNode x) rs
+unfolding forgetNode withRows
+forget-with-rows x rs = refl
 
 pub forget-with-process :
     (x : Node) (k : ℕ) (p : Process) → forgetNode (withProcess x k p) ≡ withProcess (forgetNode x) k (forgetProcess p)
 unfolding forgetNode withProcess
 forget-with-process x k p i =
     let ps = map-set forgetProcess (x .processes) k p in
-    record { row = x .row; processes = ps i; stored = x .stored; tuples = x .tuples }
+    record { rows = x .rows; processes = ps i; stored = x .stored; tuples = x .tuples }
 
 node-choose : (b : Bool) (x y : Node) → forgetNode (choose b x y) ≡ choose b (forgetNode x) (forgetNode y)
 unfolding choose
@@ -137,6 +133,10 @@ unfolding forgetNode zeroNode forgetProcess freeProcess
 forget-zero = refl
 
 -- ---- the net
+pub forget-format : (s : Net) → forget s .format ≡ s .format
+unfolding forget
+forget-format s = refl
+
 pub forget-addresses : (s : Net) → forget s .addresses ≡ s .addresses
 unfolding forget
 forget-addresses s = refl
@@ -153,10 +153,10 @@ pub forget-with-node : (s : Net) (a : Locality) (x : Node) → forget (withNode 
 unfolding forget withNode
 forget-with-node s a x i =
     let ns = map-set forgetNode (s .nodes) (a .0) x in
-    record { addresses = s .addresses; length = s .length; nodes = ns i; code = s .code }
+    record { format = s .format; addresses = s .addresses; length = s .length; nodes = ns i; code = s .code }
 
 pub forget-opened : (s : Net) → forget (opened s) ≡ opened (forget s)
-unfolding forget opened
+unfolding forget opened withCounts
 forget-opened s = refl
 
 -- ---- an answer and its net

@@ -1,4 +1,6 @@
+pub mod FormatClaims
 pub mod Forgetting
 pub mod Matching
+pub mod OneRow
 pub mod OriginClaims
 pub mod Steps

@@ -1,5 +1,6 @@
--- The claim of `specs/OriginClaims.antt`: sound nets are alike exactly when they are equal with their origins forgotten, and a
--- pick looks at no origin (`Steps.antt`). Both nets stay sound, so that 10 is answered in neither. Assumes nothing.
+-- The claim of `specs/OriginClaims.antt`: sound nets are alike exactly when they are equal with their origins forgotten, and in
+-- format 1 a pick rests on no origin (`Steps.antt`). Both nets stay sound, so that 10 is answered in neither, and in format 1.
+-- Assumes nothing.
 use Prim.Native.Nat.{ℕ, _<_}
 use mathlib.Core.Path.{_≡_, refl, sym, ap, ap₂, _∙_}
 use mathlib.Core.Bool.{true, false}
@@ -14,7 +15,7 @@ use Rattle.net.proofs.Every.{filled-each}
 use Rattle.net.proofs.Past.{pastProcess, pastNode}
 use Rattle.sound.specs.Soundness.{soundOf}
 use Rattle.sound.proofs.NodeFacts.{of-zero}
-use Rattle.sound.proofs.NetFacts.{NetOk}
+use Rattle.sound.proofs.NetFacts.{NetOk, sound-apart}
 use Rattle.step.specs.Pick.{pickOf}
 use Rattle.step.specs.declared.machine.Picked.{Picked}
 use Rattle.step.specs.SoundKept.{SoundKept}
@@ -24,6 +25,8 @@ use Rattle.run.proofs.SoundRuns.{ran-sound}
 use Rattle.origins.specs.Types.{Locality, Process, Node, Net}
 use Rattle.origins.specs.OriginClaims.{AlikeProcess, AlikeNode, AlikeNet, OriginIdle}
 use Rattle.origins.proofs.Forgetting.{forgetProcess, forgetNode, forget, process-at, node-at, seen}
+use Rattle.origins.proofs.FormatClaims.{formatStays}
+use Rattle.origins.proofs.OneRow.{one-row}
 use Rattle.origins.proofs.Steps.{step-same}
 
 -- ---- alike nets are equal with their origins forgotten
@@ -46,7 +49,7 @@ node-to : (x x′ : Node) → ShapedNode x → ShapedNode x′ → AlikeNode x x
 unfolding forgetNode
 node-to x x′ z z′ h i =
     let ps = processes-to x x′ z z′ h in
-    record { row = h .row i; processes = ps i; stored = h .stored i; tuples = h .tuples i }
+    record { rows = h .rows i; processes = ps i; stored = h .stored i; tuples = h .tuples i }
 
 nodes-to : (s t : Net) → Shaped s → Shaped t → AlikeNet s t → map forgetNode (s .nodes) ≡ map forgetNode (t .nodes)
 unfolding nodeAt forget
@@ -63,7 +66,7 @@ net-to : (s t : Net) → Shaped s → Shaped t → AlikeNet s t → forget s ≡
 unfolding forget
 net-to s t z z′ h i =
     let ns = nodes-to s t z z′ h in
-    record { addresses = h .addresses i; length = h .length i; nodes = ns i; code = h .code i }
+    record { format = h .format i; addresses = h .addresses i; length = h .length i; nodes = ns i; code = h .code i }
 
 -- ---- and the other way about, of sound nets: a free slot of theirs is the zero record
 record FreeIsZero (x : Node) : Type 0 where
@@ -95,7 +98,7 @@ process-back p p′ e f f′ =
 node-back : (x x′ : Node) → FreeIsZero x → FreeIsZero x′ → forgetNode x ≡ forgetNode x′ → AlikeNode x x′
 unfolding forgetNode
 node-back x x′ f f′ e = record {
-  row = ap (λ (y : Node). y .row) e;
+  rows = ap (λ (y : Node). y .rows) e;
   stored = ap (λ (y : Node). y .stored) e;
   tuples = ap (λ (y : Node). y .tuples) e;
   processes = λ k h.
@@ -106,6 +109,7 @@ node-back x x′ f f′ e = record {
 net-back : (s t : Net) → NetOk s → NetOk t → forget s ≡ forget t → AlikeNet s t
 unfolding forget
 net-back s t ok ok′ e = record {
+  format = ap (λ (u : Net). u .format) e;
   addresses = ap (λ (u : Net). u .addresses) e;
   length = ap (λ (u : Net). u .length) e;
   code = ap (λ (u : Net). u .code) e;
@@ -114,30 +118,36 @@ net-back s t ok ok′ e = record {
       (sym (node-at s a) ∙ ap (λ (u : Net). nodeAt u a) e ∙ node-at t a);
 }
 
--- ---- a run
-pick-same :
-    (s t : Net) (b : ℕ) → soundOf s ≡ true → soundOf t ≡ true → forget s ≡ forget t
-    → seen (pickOf s b) ≡ seen (pickOf t b)
+-- ---- a run: both nets stay sound and of format 1
+record Good (s : Net) : Type 0 where
+  shaped : Shaped s
+  sound : soundOf s ≡ true
+  format-is : s .format ≡ 1
+
+pick-good : (s : Net) (b : ℕ) → Good s → Good (pickOf s b .net)
+unfolding SoundKept
+pick-good s b g =
+    let kept = sound-kept s b (g .shaped) (g .sound) in
+    record { shaped = kept .1; sound = kept .0; format-is = formatStays .pick s b ∙ g .format-is }
+
+pick-same : (s t : Net) (b : ℕ) → Good s → Good t → forget s ≡ forget t → seen (pickOf s b) ≡ seen (pickOf t b)
 unfolding pickOf
-pick-same s t b sound sound′ e =
-    ap seen (choose-true _ _ _ sound) ∙ step-same s t b e ∙ sym (ap seen (choose-true _ _ _ sound′))
+pick-same s t b g g′ e =
+    let one = one-row s (sound-apart s (g .shaped) (g .sound)) (g .format-is) in
+    let one′ = one-row t (sound-apart t (g′ .shaped) (g′ .sound)) (g′ .format-is) in
+    ap seen (choose-true _ _ _ (g .sound)) ∙ step-same s t b one one′ e ∙ sym (ap seen (choose-true _ _ _ (g′ .sound)))
 
 record Same (r r′ : Ran) : Type 0 where
   answers : r .answers ≡ r′ .answers
   forgotten : forget (r .net) ≡ forget (r′ .net)
 
-run-same :
-    (s t : Net) (picks : List ℕ) → Shaped s → Shaped t → soundOf s ≡ true → soundOf t ≡ true → forget s ≡ forget t
-    → Same (ranFrom s picks) (ranFrom t picks)
-unfolding ranFrom answered SoundKept seen
-run-same s t [] z z′ sound sound′ e = record { answers = refl; forgotten = e }
-run-same s t (b ∷ bs) z z′ sound sound′ e =
-    let one = pick-same s t b sound sound′ e in
-    let kept = sound-kept s b z sound in
-    let kept′ = sound-kept t b z′ sound′ in
+run-same : (s t : Net) (picks : List ℕ) → Good s → Good t → forget s ≡ forget t → Same (ranFrom s picks) (ranFrom t picks)
+unfolding ranFrom answered seen
+run-same s t [] g g′ e = record { answers = refl; forgotten = e }
+run-same s t (b ∷ bs) g g′ e =
+    let one = pick-same s t b g g′ e in
     let rest =
-    run-same (pickOf s b .net) (pickOf t b .net) bs (kept .1) (kept′ .1) (kept .0) (kept′ .0)
-    (ap (λ (r : Picked). r .net) one) in
+    run-same (pickOf s b .net) (pickOf t b .net) bs (pick-good s b g) (pick-good t b g′) (ap (λ (r : Picked). r .net) one) in
     record {
       answers = ap₂ (λ x xs. x ∷ xs) (ap (λ (r : Picked). r .answer) one) (rest .answers);
       forgotten = rest .forgotten;
@@ -145,8 +155,10 @@ run-same s t (b ∷ bs) z z′ sound sound′ e =
 
 pub originIdle : OriginIdle
 unfolding OriginIdle
-originIdle s t picks z z′ sound sound′ h =
-    let same = run-same s t picks z z′ sound sound′ (net-to s t z z′ h) in
+originIdle s t picks z z′ sound sound′ f h =
+    let g : Good s = record { shaped = z; sound = sound; format-is = f } in
+    let g′ : Good t = record { shaped = z′; sound = sound′; format-is = sym (h .format) ∙ f } in
+    let same = run-same s t picks g g′ (net-to s t z z′ h) in
     record {
       answers = same .answers;
       net = net-back _ _ (ran-sound s picks z sound) (ran-sound t picks z′ sound′) (same .forgotten);

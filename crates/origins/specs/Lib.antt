@@ -1,2 +1,3 @@
+pub mod FormatClaims
 pub mod OriginClaims
 pub mod Types
