@@ -1,11 +1,13 @@
 // A whole net as bytes, for tests: what is written is tested and not proved. The layout, in order; numbers
 // are little-endian, and every record is written, in use or not:
 //
+//   format       1
 //   addresses    1
 //   code length  2
-//   16 nodes, 546 bytes each:
-//     create     1
-//     16 rights  1 each: 8 take, 4 read, 2 put, 1 send
+//   16 nodes, 801 bytes each:
+//     16 rows, for origins 0 to 15, 17 bytes each:
+//       create     1
+//       16 rights  1 each: 8 take, 4 read, 2 put, 1 send
 //     4 processes, 44 bytes each:
 //       busy     1
 //       place    2
@@ -24,8 +26,8 @@
 //     count      1
 //     4 template fields, 5 bytes each: kind 1 (0 to 5 as in document 01), value 4
 //
-// A value is a reading in two's complement, an address or a variable. In all 23,587 bytes, of which the
-// first 8,739 are the counts and the nodes.
+// A value is a reading in two's complement, an address or a variable. In all 27,668 bytes, of which the
+// first 12,820 are the format, the counts and the nodes.
 use crate::bytes::put_count;
 use crate::bytes::put_two;
 use crate::code::put_instruction;
@@ -58,9 +60,10 @@ fn put_code(out: &mut [u8], at: usize, net: Net) -> usize {
     next
 }
 
-// The counts and the nodes, which a pick can change.
+// The format, the counts and the nodes: all that is not code.
 pub fn put_state(out: &mut [u8], at: usize, net: Net) -> usize {
-    let counted = put_count(out, at, net.addresses);
+    let formed = put_count(out, at, net.format);
+    let counted = put_count(out, formed, net.addresses);
     let length = (net.length % 65536) as u16;
     let measured = put_two(out, counted, length);
     put_nodes(out, measured, net)

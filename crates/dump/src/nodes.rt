@@ -36,6 +36,17 @@ fn put_row(out: &mut [u8], at: usize, row: Row) -> usize {
     next
 }
 
+fn put_rows(out: &mut [u8], at: usize, node: Node) -> usize {
+    let mut next = at;
+    let mut i = 0;
+    while i < 16 {
+        let row = node.rows[i];
+        next = put_row(out, next, row);
+        i += 1;
+    }
+    next
+}
+
 fn put_value(out: &mut [u8], at: usize, value: Value) -> usize {
     match value {
         Value::Unset => put_kind(out, at, 0, 0),
@@ -101,8 +112,7 @@ fn put_tuples(out: &mut [u8], at: usize, node: Node) -> usize {
 }
 
 pub fn put_node(out: &mut [u8], at: usize, node: Node) -> usize {
-    let row = node.row;
-    let ruled = put_row(out, at, row);
+    let ruled = put_rows(out, at, node);
     let peopled = put_processes(out, ruled, node);
     put_tuples(out, peopled, node)
 }

@@ -102,14 +102,13 @@ fn print_edges(edges: &[u8]) -> bool {
     at >= edges.len()
 }
 
-// The net without the right to create at address 0, which no pick takes away.
+// The net, of format 1, without the right to create at address 0, which no pick takes away.
 fn without_creation(start: Net) -> Net {
     let mut net = start;
-    let mut node = net.nodes[0];
-    let mut row = node.row;
+    let node = net.nodes[0];
+    let mut row = node.rows[0];
     row.create = false;
-    node.row = row;
-    net.nodes[0] = node;
+    net.nodes[0] = node.with_rows(row.alike());
     net
 }
 

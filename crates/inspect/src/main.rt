@@ -16,7 +16,7 @@ fn answer(image: &[u8]) -> bool {
     let opened = read_image(image);
     let answer = opened.answer;
     let net = opened.net;
-    let mut out = [0u8; 23592];
+    let mut out = [0u8; 27673];
     out[0] = number_of(answer);
     let place = place_of(answer) % 4294967296;
     put_four(&mut out, 1, place as u32);

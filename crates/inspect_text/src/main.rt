@@ -25,7 +25,7 @@ fn answer(text: &[u8]) -> bool {
     let opened = read_text(text);
     let answer = opened.answer;
     let net = opened.net;
-    let mut out = [0u8; 23588];
+    let mut out = [0u8; 27669];
     out[0] = number_of(answer);
     put_net(&mut out, 1, net);
     print(&out)

@@ -36,7 +36,7 @@ fn digest_of(s: &[u8]) -> u64 {
 
 // The digest of what a pick can change.
 fn digest_state(net: Net) -> u64 {
-    let mut out = [0u8; 8739];
+    let mut out = [0u8; 12820];
     put_state(&mut out, 0, net);
     digest_of(&out)
 }
@@ -92,7 +92,7 @@ fn make_picks(net: Net, picks: &[u8]) -> Made {
 }
 
 fn write_net(net: Net) -> bool {
-    let mut out = [0u8; 23587];
+    let mut out = [0u8; 27668];
     put_net(&mut out, 0, net);
     print(&out)
 }
@@ -116,9 +116,9 @@ fn run_next(net: Net, count: usize) -> bool {
 
 // One record; false at the end of the input, or where something fails.
 fn take_turn() -> bool {
-    let mut head = [0u8; 23589];
-    if read_first(&mut head, 23589) {
-        let count = bytes::two_at(&head, 23587);
+    let mut head = [0u8; 27670];
+    if read_first(&mut head, 27670) {
+        let count = bytes::two_at(&head, 27668);
         run_next(net_of(&head), count as usize)
     } else {
         false

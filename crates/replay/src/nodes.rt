@@ -90,6 +90,17 @@ fn tuple_at(s: &[u8], at: usize) -> Tuple {
     tuple
 }
 
+fn with_rows(s: &[u8], at: usize, node: Node) -> Node {
+    let mut ruled = node;
+    let mut i = 0;
+    while i < 16 {
+        let row = row_at(s, past(at, i * 17));
+        ruled = ruled.with_row(Locality(i as u8), row);
+        i += 1;
+    }
+    ruled
+}
+
 fn with_processes(s: &[u8], at: usize, node: Node) -> Node {
     let mut peopled = node;
     let mut i = 0;
@@ -114,9 +125,8 @@ fn with_tuples(s: &[u8], at: usize, node: Node) -> Node {
 }
 
 pub fn node_at(s: &[u8], at: usize) -> Node {
-    let row = row_at(s, at);
     let zero = Node::zero();
-    let ruled = zero.with_row(row);
-    let peopled = with_processes(s, past(at, 17), ruled);
-    with_tuples(s, past(at, 193), peopled)
+    let ruled = with_rows(s, at, zero);
+    let peopled = with_processes(s, past(at, 272), ruled);
+    with_tuples(s, past(at, 448), peopled)
 }

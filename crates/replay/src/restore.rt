@@ -9,7 +9,7 @@ fn with_nodes(s: &[u8], net: Net) -> Net {
     let mut peopled = net;
     let mut i = 0;
     while i < 16 {
-        let node = node_at(s, 3 + i * 546);
+        let node = node_at(s, 4 + i * 801);
         peopled.nodes[i] = node;
         i += 1;
     }
@@ -20,7 +20,7 @@ fn with_code(s: &[u8], net: Net) -> Net {
     let mut coded = net;
     let mut i = 0;
     while i < 512 {
-        let instruction = instruction_at(s, 8739 + i * 29);
+        let instruction = instruction_at(s, 12820 + i * 29);
         coded.code[i] = instruction;
         i += 1;
     }
@@ -29,8 +29,9 @@ fn with_code(s: &[u8], net: Net) -> Net {
 
 pub fn net_of(s: &[u8]) -> Net {
     let mut net = Net::empty();
-    let length = two_at(s, 1);
-    net.addresses = count_at(s, 0);
+    let length = two_at(s, 2);
+    net.format = count_at(s, 0);
+    net.addresses = count_at(s, 1);
     net.length = length as usize;
     let peopled = with_nodes(s, net);
     with_code(s, peopled)
