@@ -44,6 +44,20 @@ static void use_run(void) {
     expect(cavindorum_run(image, SIZE(image), picks, 0, answers, 0) == 0, "no picks are a run");
 }
 
+/* The register's image in format 2, where its one row is for its own code. */
+static void use_formats(void) {
+    const uint8_t performed[] = {0, 1, 7};
+    uint8_t other[SIZE(image)], answers[] = {99, 99, 99};
+    memcpy(other, image, SIZE(image));
+    other[0] = 0x30;
+    expect(cavindorum_run(other, SIZE(other), picks, SIZE(picks), answers, SIZE(answers)) == 21,
+           "there is no format 3");
+    other[0] = 0x20;
+    expect(cavindorum_run(other, SIZE(other), picks, SIZE(picks), answers, SIZE(answers)) == 0,
+           "a run of format 2 is made");
+    expect(memcmp(answers, performed, SIZE(answers)) == 0, "its answers are those of format 1");
+}
+
 static size_t written(size_t image_length, size_t length) {
     return cavindorum_register(image, image_length, picks, SIZE(picks), text, length);
 }
@@ -120,6 +134,7 @@ static void use_names(void) {
 
 int main(void) {
     use_run();
+    use_formats();
     use_texts();
     use_names();
     use_refusal_place();

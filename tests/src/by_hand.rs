@@ -77,16 +77,13 @@ pub fn from(address: u8, tuple: Tuple) -> Tuple {
 
 // Nets.
 
-/// Stops only, at addresses without rights.
+/// Stops only, at addresses without rights, in format 1.
 pub fn stops(addresses: u8, length: u16) -> Net {
-    let mut net = Net::empty();
-    net.address_count = addresses;
-    net.code_length = length;
-    net
+    Net::of(SINGLE_ROW, addresses, length)
 }
 
 /// This code and, after it, one more stop; a process at place 0 of
-/// address 0 in slot 0. No rights.
+/// address 0 in slot 0. No rights, and format 1.
 pub fn net(addresses: u8, code: &[Instruction]) -> Net {
     let mut net = stops(addresses, code.len() as u16 + 1);
     net.code[..code.len()].copy_from_slice(code);
@@ -94,9 +91,42 @@ pub fn net(addresses: u8, code: &[Instruction]) -> Net {
     net
 }
 
-/// Grants one node these rights over an address, and no others over it.
+/// The same net in format 2: code of each origin in use has the rights that
+/// it had in format 1, where its origin did not matter.
+pub fn in_format_2(mut net: Net) -> Net {
+    net.format = ROW_BY_ORIGIN;
+    let count = net.address_count as usize;
+    for node in net.nodes.iter_mut() {
+        node.rows[count..].fill(Row::ZERO);
+    }
+    net
+}
+
+/// The same net with the row of each node for itself in place of its rows for
+/// other origins in use.
+pub fn own_rows_alone(net: &Net) -> Net {
+    let mut net = net.clone();
+    for at in 0..net.address_count as usize {
+        let own = net.nodes[at].rows[at];
+        net.each_row(at, |row| *row = own);
+    }
+    net
+}
+
+/// Grants one node these rights over an address, and no others over it, to
+/// code of every origin.
 pub fn grant(net: &mut Net, by: usize, over: usize, rights: Rights) {
-    net.nodes[by].row.rights[over] = rights;
+    net.each_row(by, |row| row.rights[over] = rights);
+}
+
+/// The same to code of one origin alone, as format 2 can.
+pub fn grant_from(net: &mut Net, by: usize, origin: usize, over: usize, rights: Rights) {
+    net.nodes[by].rows[origin].rights[over] = rights;
+}
+
+/// Grants one node the right n, to code of every origin.
+pub fn grant_create(net: &mut Net, by: usize) {
+    net.each_row(by, |row| row.create = true);
 }
 
 /// Gives a node tuples of these fields, oldest first and each from the node
@@ -121,17 +151,15 @@ pub fn paper_net() -> Net {
     net
 }
 
-/// A net with the longest image: everything full, and outs and ins of
-/// four readings at written addresses.
+/// A net with the longest image of format 1: everything full, and outs and
+/// ins of four readings at written addresses.
 pub fn longest() -> Net {
     let mut random = Random::new(14_749);
     let mut reading = move || random.number() as i32;
     let mut net = stops(16, 512);
     for at in 0..ADDRESSES {
-        let node = &mut net.nodes[at];
-        node.row.create = true;
-        node.row.rights = [Rights::ALL; ADDRESSES];
-        let own = Locality(at as u8);
+        net.each_row(at, |row| *row = Row::ALL);
+        let (node, own) = (&mut net.nodes[at], Locality(at as u8));
         node.processes = [0, 100, 300, 511].map(|place| Process::starting(Place(place), own));
         let tuples = [0; TUPLES].map(|_| readings(&[0; 4].map(|_| reading())));
         fill(&mut net, at, &tuples);
@@ -143,6 +171,11 @@ pub fn longest() -> Net {
         net.code[at as usize] = action(target, &fields, (at + 1) % 512);
     }
     net
+}
+
+/// The same in format 2, whose image is the longest of all.
+pub fn longest_of_format_2() -> Net {
+    in_format_2(longest())
 }
 
 // Images.

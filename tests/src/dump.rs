@@ -11,15 +11,22 @@ use std::process::ChildStdout;
 const ORIGIN: usize = 3;
 
 // Bytes of the records.
+const FORMAT: usize = 1;
 const COUNTS: usize = 3;
+const HEAD: usize = FORMAT + COUNTS;
 const ROW: usize = 1 + ADDRESSES;
+const ROWS: usize = ADDRESSES * ROW;
 const PROCESS: usize = ORIGIN + 1 + 5 * VARIABLES;
 const TUPLE: usize = 1 + 5 * FIELDS + 1;
-const NODE: usize = ROW + SLOTS * PROCESS + 1 + TUPLES * TUPLE;
+const NODE: usize = ROWS + SLOTS * PROCESS + 1 + TUPLES * TUPLE;
 const INSTRUCTION: usize = 9 + 5 * FIELDS;
 
 /// The bytes of a dumped net.
-pub const DUMP_BYTES: usize = COUNTS + ADDRESSES * NODE + INSTRUCTIONS * INSTRUCTION;
+pub const DUMP_BYTES: usize = STATE_BYTES + INSTRUCTIONS * INSTRUCTION;
+
+/// Those of them that a pick can change: the format, the counts and the
+/// nodes.
+pub const STATE_BYTES: usize = HEAD + ADDRESSES * NODE;
 
 /// What is made of a text: 0 or the number it is refused with, and the dump
 /// of the net it gives.
@@ -38,9 +45,10 @@ pub struct OpenedImage {
     pub dump: Vec<u8>,
 }
 
-/// The counts and the nodes as bytes: what a pick can change.
+/// The format, the counts and the nodes as bytes: what a pick can change.
 pub fn dump_state(net: &Net) -> Vec<u8> {
     let mut out = Vec::with_capacity(DUMP_BYTES);
+    out.push(net.format);
     out.push(net.address_count);
     put_two(&mut out, net.code_length);
     for node in net.nodes.iter() {
@@ -69,10 +77,8 @@ fn put_kind(out: &mut Vec<u8>, kind: u8, value: i32) {
 }
 
 fn put_node(out: &mut Vec<u8>, node: &Node) {
-    out.push(node.row.create as u8);
-    for rights in &node.row.rights {
-        let high = (rights.take as u8) << 3 | (rights.read as u8) << 2;
-        out.push(high | (rights.put as u8) << 1 | rights.send as u8);
+    for row in &node.rows {
+        put_row(out, row);
     }
     for process in &node.processes {
         put_process(out, process);
@@ -81,6 +87,15 @@ fn put_node(out: &mut Vec<u8>, node: &Node) {
     for tuple in &node.tuples {
         put_tuple(out, tuple);
     }
+}
+
+// n, then the rights over each address in a byte.
+fn put_row(out: &mut Vec<u8>, row: &Row) {
+    out.push(row.create as u8);
+    out.extend(row.rights.map(|rights| {
+        let high = (rights.take as u8) << 3 | (rights.read as u8) << 2;
+        high | (rights.put as u8) << 1 | rights.send as u8
+    }));
 }
 
 // Whether it is busy, the place, the origin and the variables.
@@ -150,9 +165,11 @@ fn put_action(out: &mut Vec<u8>, action: &Action) {
 
 /// The record that a byte of a dump is of.
 pub fn record_at(byte: usize) -> String {
-    let (nodes, code) = (COUNTS, COUNTS + ADDRESSES * NODE);
-    if byte < nodes {
-        format!("counts, byte {byte}")
+    let (counts, nodes, code) = (FORMAT, HEAD, STATE_BYTES);
+    if byte < counts {
+        "format".to_string()
+    } else if byte < nodes {
+        format!("counts, byte {}", byte - counts)
     } else if byte < code {
         let at = byte - nodes;
         format!("node {}, {}", at / NODE, record_of_node(at % NODE))
@@ -163,10 +180,10 @@ pub fn record_at(byte: usize) -> String {
 
 // The record that a byte of a node is of.
 fn record_of_node(byte: usize) -> String {
-    let (processes, count) = (ROW, ROW + SLOTS * PROCESS);
+    let (processes, count) = (ROWS, ROWS + SLOTS * PROCESS);
     let tuples = count + 1;
     if byte < processes {
-        format!("row, byte {byte}")
+        one_of("row for origin", byte, ROW)
     } else if byte < count && (byte - processes) % PROCESS == ORIGIN {
         format!("origin of process {}", (byte - processes) / PROCESS)
     } else if byte < count {
@@ -252,14 +269,15 @@ fn read_bytes<const COUNT: usize>(output: &mut impl Read) -> [u8; COUNT] {
 #[cfg(test)]
 mod tests {
     use super::*;
-    use crate::by_hand::SEND;
+    use crate::by_hand::{PUT, SEND};
 
     #[test]
     fn a_dump_has_its_length() {
-        assert_eq!((PROCESS, NODE), (44, 546));
-        assert_eq!(DUMP_BYTES, 23_587);
+        assert_eq!((ROW, PROCESS, TUPLE), (17, 44, 22));
+        assert_eq!((NODE, INSTRUCTION), (801, 29));
+        assert_eq!((STATE_BYTES, DUMP_BYTES), (12_820, 27_668));
         assert_eq!(dump(&Net::empty()).len(), DUMP_BYTES);
-        assert_eq!(dump_state(&Net::empty()).len(), 8_739);
+        assert_eq!(dump_state(&Net::empty()).len(), STATE_BYTES);
     }
 
     /// The records in which the dump of a changed empty net is another.
@@ -277,11 +295,21 @@ mod tests {
     const LAST: i32 = 1 << 24;
 
     /// Changes of one byte each, and the record that it is of.
-    const CHANGES: [(fn(&mut Net), &str); 13] = [
+    const CHANGES: [(fn(&mut Net), &str); 17] = [
+        (|net| net.format = 1, "format"),
+        (|net| net.address_count = 1, "counts, byte 0"),
         (|net| net.code_length = 1, "counts, byte 1"),
         (
-            |net| net.nodes[4].row.rights[15] = SEND,
-            "node 4, row, byte 16",
+            |net| net.nodes[0].rows[0].create = true,
+            "node 0, row for origin 0, byte 0",
+        ),
+        (
+            |net| net.nodes[4].rows[3].rights[15] = SEND,
+            "node 4, row for origin 3, byte 16",
+        ),
+        (
+            |net| net.nodes[15].rows[15].rights[0] = SEND,
+            "node 15, row for origin 15, byte 1",
         ),
         (
             |net| net.nodes[4].processes[3].busy = true,
@@ -349,15 +377,10 @@ mod tests {
 
     #[test]
     fn each_record_shows() {
-        let mut net = Net::empty();
-        net.address_count = 2;
-        net.code_length = 300;
-        net.nodes[0].row.rights[1] = Rights {
-            take: true,
-            read: false,
-            put: true,
-            send: false,
-        };
+        let mut net = Net::of(7, 2, 300);
+        net.nodes[0].rows[0].rights[1] = SEND;
+        net.nodes[0].rows[5].create = true;
+        net.nodes[0].rows[5].rights[15] = Rights { take: true, ..PUT };
         net.nodes[0].processes[0] = Process::starting(Place(258), NINE);
         net.nodes[0].processes[0].variables[7] = Value::Address(Locality(1));
         net.nodes[0].tuple_count = 1;
@@ -367,17 +390,21 @@ mod tests {
         net.code[0] = Instruction::plain(Action::Eval { target, sent, next });
         net.code[0].fields[0] = TemplateField::FormalAddress(6);
         let bytes = dump(&net);
-        assert_eq!(bytes[..3], [2, 44, 1]);
-        assert_eq!(bytes[3..6], [0, 0, 10]);
+        assert_eq!(bytes[..4], [7, 2, 44, 1]);
+        // The rows for origins 0 and 5, with n and the first rights.
+        assert_eq!(bytes[4..8], [0, 0, 1, 0]);
+        assert_eq!(bytes[89..92], [1, 0, 0]);
+        // The end of the latter and the begin of the next.
+        assert_eq!(bytes[104..107], [0, 10, 0]);
         // Busy, the place, the origin, and the first variable's kind.
-        assert_eq!(bytes[20..25], [1, 2, 1, 9, 0]);
-        assert_eq!(bytes[59..64], [2, 1, 0, 0, 0]);
+        assert_eq!(bytes[276..281], [1, 2, 1, 9, 0]);
+        assert_eq!(bytes[315..320], [2, 1, 0, 0, 0]);
         // The next process is free.
-        assert_eq!(bytes[64..108], [0; 44]);
-        assert_eq!(bytes[196..203], [1, 1, 1, 0xFE, 0xFF, 0xFF, 0xFF]);
+        assert_eq!(bytes[320..364], [0; 44]);
+        assert_eq!(bytes[452..459], [1, 1, 1, 0xFE, 0xFF, 0xFF, 0xFF]);
         // The last field, the mark, and the count of the next tuple.
-        assert_eq!(bytes[213..220], [1, 0, 0, 0, 0, 1, 0]);
-        let code = &bytes[8_739..];
+        assert_eq!(bytes[469..476], [1, 0, 0, 0, 0, 1, 0]);
+        let code = &bytes[12_820..];
         assert_eq!(code[..9], [4, 2, 3, 1, 1, 5, 0, 0, 0]);
         assert_eq!(code[9..14], [5, 6, 0, 0, 0]);
     }

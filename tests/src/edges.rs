@@ -1,7 +1,8 @@
 //! The edges of document 01 ("Edges, those with * to be proved"; that of i
 //! without r as document 02, slip 6, answers it), each as an image and picks:
 //! first those without a star, then those that
-//! crates/edges/specs/Starred.antt claims.
+//! crates/edges/specs/Starred.antt claims. Beside them, in a list of their
+//! own, those of format 2 (document 02, slip 10).
 
 use crate::bits::{BitWriter, Sort};
 use crate::by_hand::*;
@@ -79,6 +80,12 @@ pub fn withdrawn() -> (Net, String) {
     let answer = pick(&mut net, 0);
     let lines = format!("edge creation at 16 addresses, n withdrawn\npick 1 0 0 {answer}\n");
     (creation(16, true), lines)
+}
+
+/// The same with an image of format 2.
+pub fn withdrawn_of_format_2() -> (Net, String) {
+    let (start, lines) = withdrawn();
+    (in_format_2(start), lines)
 }
 
 /// The files of the program `edges`.
@@ -237,15 +244,65 @@ fn barred_at_full_target() -> Net {
 
 fn creation(addresses: u8, create: bool) -> Net {
     let mut net = net(addresses, &[new(0, 1)]);
-    net.nodes[0].row.create = create;
+    net.each_row(0, |row| row.create = create);
     net
 }
 
 // Address 0 holds n and sends a creation to address 1, which does not.
 fn sent_creation() -> Net {
     let mut net = net(16, &[eval(written(1), 1, 2), new(0, 2)]);
-    net.nodes[0].row.create = true;
+    grant_create(&mut net, 0);
     grant(&mut net, 0, 1, SEND);
+    net
+}
+
+// Format 2.
+
+/// Edges of format 2, at the most addresses: like those of document 01, and
+/// with n for code of one origin alone.
+pub fn of_format_2() -> Vec<Edge> {
+    let format = |format: u8| {
+        let image = [&[format << 4], &ONE_STOP[1..]].concat();
+        edge(&format!("one stop of format {format}"), &image, &[])
+    };
+    let of_2 = |name, net, picks: &[u8]| net_edge(name, in_format_2(net), picks);
+    let mut edges: Vec<Edge> = [0, 1, 2, 3, 15].map(format).into();
+    edges.extend([
+        of_2("16 addresses", stops(16, 1), &[0xF0]),
+        of_2(
+            "creation at 15 addresses",
+            creation(15, true),
+            &[0xF0, 0x00, 0xF0],
+        ),
+        of_2("creation at 16 addresses with n", creation(16, true), &[0]),
+        of_2(
+            "creation at 16 addresses without n, started",
+            creation(16, false),
+            &[0],
+        ),
+        of_2(
+            "creation at 16 addresses without n, sent",
+            sent_creation(),
+            &[0],
+        ),
+        net_edge(
+            "creation at 16 addresses, sent, with n for the target's own code",
+            sent_creation_with_n_for(1),
+            &[0x00, 0x10],
+        ),
+        net_edge(
+            "creation at 16 addresses, sent, with n for code of the sender",
+            sent_creation_with_n_for(0),
+            &[0x00, 0x10],
+        ),
+    ]);
+    edges
+}
+
+// The target lets code of one origin create.
+fn sent_creation_with_n_for(origin: usize) -> Net {
+    let mut net = in_format_2(sent_creation());
+    net.nodes[1].rows[origin].create = true;
     net
 }
 

@@ -1,11 +1,12 @@
-//! Five small nets that a person can follow, with picks and register, one of
-//! them with a listing of the old program and one with names, and an image
-//! that is refused. They are stored below `examples`.
+//! Six small nets that a person can follow, with picks and register, one of
+//! them with a listing of the old program, one with names and one of format 2,
+//! and an image that is refused. They are stored below `examples`.
 
 pub mod damaged;
 mod listing;
 pub mod names;
 mod nets;
+mod origins;
 
 use crate::image::{read_image, write_image};
 use crate::names::names_by;
@@ -23,7 +24,8 @@ pub struct Example {
     pub title: &'static str,
     /// What the example shows.
     pub about: &'static str,
-    /// The net in the planners' notation.
+    /// The net in the planners' notation; of a net of format 2 the lines
+    /// after the rows.
     pub notation: &'static str,
     /// The same net, written by hand.
     pub net: Net,
@@ -43,6 +45,7 @@ pub fn examples() -> Vec<Example> {
         nets::new_address(),
         nets::tenant(),
         nets::named_stations(),
+        origins::rows_by_origin(),
     ]
 }
 
@@ -65,9 +68,17 @@ fn bytes_text(bytes: &[u8]) -> String {
     bytes.join(" ") + "\n"
 }
 
+const READS_TEXT: &str = ", and so does `../../target/bin/register_text`, which reads the text";
+
 impl Example {
     pub fn image(&self) -> Vec<u8> {
         write_image(&self.net)
+    }
+
+    /// The text of the net. One of format 2 has none: texts know no rows by
+    /// origin.
+    pub fn text(&self) -> Option<&'static str> {
+        (self.net.format == SINGLE_ROW).then_some(self.notation)
     }
 
     pub fn pick_bytes(&self) -> Vec<u8> {
@@ -84,12 +95,14 @@ impl Example {
     fn files(&self) -> Vec<Stored> {
         let file = |name: &str, content| file(self.name, name, content);
         let mut files = vec![
-            file("net.txt", self.notation.as_bytes().to_vec()),
             file("net.bin", self.image()),
             file("picks.bin", self.pick_bytes()),
             file("register.txt", self.register().into_bytes()),
             file("README.md", self.readme().into_bytes()),
         ];
+        if let Some(text) = self.text() {
+            files.push(file("net.txt", text.as_bytes().to_vec()));
+        }
         if let Some(listing) = self.listing {
             files.push(file("listing.txt", listing.as_bytes().to_vec()));
         }
@@ -100,8 +113,12 @@ impl Example {
     }
 
     fn readme(&self) -> String {
-        let (title, about, notation) = (self.title, self.about, self.notation);
+        let (title, about, net) = (self.title, self.about, self.about_net());
         let (table, register) = (self.table(), self.register());
+        let (rows_after, reads_text) = match self.text() {
+            None => (self.about_rows_after(), ""),
+            Some(_) => (String::new(), READS_TEXT),
+        };
         let names = self.names.as_ref();
         let names = names.map_or(String::new(), |entries| self.about_names(entries));
         let listing = self
@@ -109,19 +126,35 @@ impl Example {
             .map_or(String::new(), |text| self.about_listing(text));
         format!(
             "# {title}\n\n{about}\n\
-             ## The net\n\n\
-             In the planners' notation, as `net.txt` has it; `net.bin` holds the same net as an image, which \
-             `../../target/bin/pack` makes of the text.\n\n\
-             ```\n{notation}```\n\n\
+             ## The net\n\n{net}\
              ## The picks\n\n\
              One byte each in `picks.bin`.\n\n\
              {table}\n\
-             {names}\
+             {rows_after}{names}\
              ## The register\n\n\
-             Run in this directory, `../../target/bin/register` prints what `register.txt` holds, and so does \
-             `../../target/bin/register_text`, which reads the text:\n\n\
+             Run in this directory, `../../target/bin/register` prints what `register.txt` holds{reads_text}:\n\n\
              ```\n{register}```\n{listing}"
         )
+    }
+
+    fn about_net(&self) -> String {
+        match self.text() {
+            None => self.about_rows(),
+            Some(text) => format!(
+                "In the planners' notation, as `net.txt` has it; `net.bin` holds the same net as an image, which \
+                 `../../target/bin/pack` makes of the text.\n\n\
+                 ```\n{text}```\n\n"
+            ),
+        }
+    }
+
+    // The net at the end of the picks.
+    fn net_after(&self) -> Net {
+        let mut net = self.net.clone();
+        for byte in self.pick_bytes() {
+            pick(&mut net, byte);
+        }
+        net
     }
 
     // The picks one by one, as a table.
@@ -150,10 +183,11 @@ mod tests {
     #[test]
     fn the_texts_give_the_nets_of_the_images() {
         for example in examples() {
-            let read = read_text(example.notation.as_bytes());
             let image = read_image(&example.image());
             assert_eq!(image.as_ref(), Ok(&example.net), "{}", example.name);
-            assert_eq!(read, Ok(example.net), "{}", example.name);
+            if let Some(text) = example.text() {
+                assert_eq!(read_text(text.as_bytes()), Ok(example.net));
+            }
         }
     }
 }

@@ -1,9 +1,11 @@
 //! Random nets, images and picks for tests. The same seed gives the same.
 
+mod by_origin;
 mod code;
 mod damage;
 mod sending;
 
+pub use by_origin::by_origin_net;
 pub use damage::{change_record, damaged_image, random_net};
 pub use sending::sending_net;
 
@@ -14,12 +16,16 @@ use crate::sound::{keeps_within, reached};
 use crate::step::{pick_address, pick_slot, step};
 use code::{CodeWriter, Style};
 
-/// A net as an image could write it down: faults 21 to 29 absent, but
-/// starting processes may reach beyond their rows.
+/// A net as an image of either format could write it down: faults 21 to 29
+/// absent, but starting processes may reach beyond their rows.
 pub fn image_net(random: &mut Random) -> Net {
-    let mut net = Net::empty();
-    net.address_count = address_count(random);
-    net.code_length = code_length(random);
+    let format = random.choose(&FORMATS);
+    image_net_of(random, format)
+}
+
+/// The same of one format.
+pub fn image_net_of(random: &mut Random, format: u8) -> Net {
+    let mut net = Net::of(format, address_count(random), code_length(random));
     let style = Style::new(random, net.address_count, net.code_length);
     fill_rows(random, &mut net);
     fill_processes(random, &mut net);
@@ -30,7 +36,13 @@ pub fn image_net(random: &mut Random) -> Net {
 
 /// A net as an image could write it down, mostly one that is accepted.
 pub fn valid_net(random: &mut Random) -> Net {
-    let mut net = image_net(random);
+    let format = random.choose(&FORMATS);
+    valid_net_of(random, format)
+}
+
+/// The same of one format.
+pub fn valid_net_of(random: &mut Random, format: u8) -> Net {
+    let mut net = image_net_of(random, format);
     match random.below(20) {
         0..=11 => grant_needed(&mut net),
         12..=18 => move_starts(random, &mut net),
@@ -48,7 +60,13 @@ pub fn valid_image(random: &mut Random) -> Vec<u8> {
 /// variables set, full nodes, rows that bar the code, processes and tuples
 /// from anywhere.
 pub fn sound_net(random: &mut Random) -> Net {
-    let mut net = image_net(random);
+    let format = random.choose(&FORMATS);
+    sound_net_of(random, format)
+}
+
+/// The same of one format.
+pub fn sound_net_of(random: &mut Random, format: u8) -> Net {
+    let mut net = image_net_of(random, format);
     mark_tuples(random, &mut net);
     for address in 0..net.address_count as usize {
         for slot in 0..SLOTS {
@@ -80,9 +98,23 @@ pub fn set_origins(random: &mut Random, net: &mut Net) {
     }
 }
 
+/// The same net with address 0 as the origin of all its processes.
+pub fn without_origins(net: &Net) -> Net {
+    let mut net = net.clone();
+    let processes = net.nodes.iter_mut().flat_map(|node| &mut node.processes);
+    processes.for_each(|process| process.origin = Locality(0));
+    net
+}
+
 /// A sound net some picks after its start.
 pub fn net_after_picks(random: &mut Random) -> Net {
-    let mut net = valid_net(random);
+    let format = random.choose(&FORMATS);
+    net_after_picks_of(random, format)
+}
+
+/// The same of one format.
+pub fn net_after_picks_of(random: &mut Random, format: u8) -> Net {
+    let mut net = valid_net_of(random, format);
     for _ in 0..random.below(80) {
         pick_and_step(random, &mut net);
     }
@@ -199,19 +231,48 @@ fn variables(random: &mut Random, count: u8) -> [Value; VARIABLES] {
 
 // Rows, processes and tuples of a net.
 
+const GENEROSITIES: [usize; 5] = [0, 20, 50, 80, 100];
+
+// In format 2 either all rows are of one generosity, or each has its own.
 fn fill_rows(random: &mut Random, net: &mut Net) {
-    let generosity = random.choose(&[0, 20, 50, 80, 100]);
+    let mut generosity = random.choose(&GENEROSITIES);
+    let each_its_own = random.percent(50);
     let count = net.address_count as usize;
-    for node in &mut net.nodes[..count] {
-        node.row.create = random.percent(generosity);
-        for rights in &mut node.row.rights[..count] {
-            *rights = Rights {
-                take: random.percent(generosity),
-                read: random.percent(generosity),
-                put: random.percent(generosity),
-                send: random.percent(generosity),
-            };
+    for at in 0..count {
+        if net.format == SINGLE_ROW {
+            net.nodes[at].rows = [row(random, count, generosity); ADDRESSES];
+            continue;
         }
+        for origin in 0..count {
+            if each_its_own {
+                generosity = random.choose(&GENEROSITIES);
+            }
+            net.nodes[at].rows[origin] = row(random, count, generosity);
+        }
+    }
+}
+
+// A row that holds about so many of a hundred rights over these addresses.
+fn row(random: &mut Random, count: usize, generosity: usize) -> Row {
+    let mut row = Row::ZERO;
+    row.create = random.percent(generosity);
+    for rights in &mut row.rights[..count] {
+        *rights = Rights {
+            take: random.percent(generosity),
+            read: random.percent(generosity),
+            put: random.percent(generosity),
+            send: random.percent(generosity),
+        };
+    }
+    row
+}
+
+// The rows of a node that an image's row for an origin gives: in format 2
+// that one alone, otherwise all.
+fn rows_for(format: u8, node: &mut Node, origin: usize) -> &mut [Row] {
+    match format {
+        ROW_BY_ORIGIN => &mut node.rows[origin..=origin],
+        _ => &mut node.rows,
     }
 }
 
@@ -270,7 +331,8 @@ fn fill_code(random: &mut Random, net: &mut Net, style: &Style) {
 
 // Making starting processes keep within their rows.
 
-/// Grants each starting process what its code needs and its row lacks.
+/// Grants each starting process what its code needs and its node's row for
+/// itself lacks.
 pub fn grant_needed(net: &mut Net) {
     for address in 0..net.address_count {
         for slot in 0..SLOTS {
@@ -284,10 +346,12 @@ pub fn grant_needed(net: &mut Net) {
 
 fn grant_reached(net: &mut Net, address: Locality, place: Place) {
     let marks = reached(&net.code[..], net.code_length, place);
-    let row = &mut net.nodes[address.0 as usize].row;
-    let both = marks.iter().zip(net.code.iter());
-    for (_, instruction) in both.filter(|(reached, _)| **reached) {
-        grant(row, &instruction.action, address);
+    let own = address.0 as usize;
+    for row in rows_for(net.format, &mut net.nodes[own], own) {
+        let both = marks.iter().zip(net.code.iter());
+        for (_, instruction) in both.filter(|(reached, _)| **reached) {
+            grant(row, &instruction.action, address);
+        }
     }
 }
 
@@ -328,7 +392,7 @@ fn move_starts(random: &mut Random, net: &mut Net) {
 }
 
 fn place_within(random: &mut Random, net: &Net, address: Locality) -> Option<Place> {
-    let row = &net.nodes[address.0 as usize].row;
+    let row = net.nodes[address.0 as usize].row_for(address);
     let mut tries = (0..20).map(|_| start(random, net.code_length));
     tries.find(|place| keeps_within(&net.code[..], net.code_length, *place, address, row))
 }

@@ -1,5 +1,6 @@
 //! The image of a net, read and written (document 01, "The image" and
-//! "Numbers for an image"; document 02, slip 2: where an image went bad).
+//! "Numbers for an image"; document 02, slip 2: where an image went bad;
+//! slip 10: format 2, with a row for each origin).
 
 mod fresh;
 mod reader;
@@ -68,7 +69,7 @@ pub fn read_layout(bytes: &[u8]) -> Result<Net, Fault> {
     Ok(reader::read(bytes)?.0)
 }
 
-/// Whether each busy process keeps within its node's row.
+/// Whether each busy process keeps within its node's row for the node itself.
 pub fn starts_keep_within(net: &Net) -> bool {
     (0..net.address_count).all(|address| {
         let processes = net.nodes[address as usize].processes.iter();
@@ -77,9 +78,10 @@ pub fn starts_keep_within(net: &Net) -> bool {
     })
 }
 
-// Whether code started at a place keeps within the row of its address.
+// Whether code started at a place keeps within the row of its address for
+// that address.
 fn start_keeps_within(net: &Net, address: Locality, place: Place) -> bool {
-    let row = &net.nodes[address.0 as usize].row;
+    let row = net.nodes[address.0 as usize].row_for(address);
     keeps_within(&net.code[..], net.code_length, place, address, row)
 }
 
@@ -93,7 +95,8 @@ pub fn image_of(net: &Net) -> Result<Vec<u8>, u8> {
 }
 
 /// The image of a net with counts in range. Nothing is judged; each
-/// number is cut to the width of its field.
+/// number is cut to the width of its field. In format 2 a node has its rows
+/// for the origins in use, otherwise its row for itself.
 pub fn write_image(net: &Net) -> Vec<u8> {
     write_with_fields(net).0
 }

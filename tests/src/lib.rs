@@ -4,6 +4,7 @@
 
 pub mod bits;
 pub mod by_hand;
+pub mod by_origin;
 pub mod dump;
 pub mod edges;
 pub mod examples;

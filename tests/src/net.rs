@@ -1,5 +1,8 @@
 //! The records of a net (document 01, "The net"; document 02, slip 8: the
-//! mark of a tuple; slip 10: the origin of a process).
+//! mark of a tuple; slip 10: the format, the origin of a process and a row
+//! for each origin).
+
+mod shown;
 
 /// Most addresses in a net.
 pub const ADDRESSES: usize = 16;
@@ -13,6 +16,13 @@ pub const FIELDS: usize = 4;
 pub const INSTRUCTIONS: usize = 512;
 /// Variables of each process.
 pub const VARIABLES: usize = 8;
+
+/// The format of a net whose nodes have one row each.
+pub const SINGLE_ROW: u8 = 1;
+/// The format of a net whose nodes have a row for each origin.
+pub const ROW_BY_ORIGIN: u8 = 2;
+/// Both formats.
+pub const FORMATS: [u8; 2] = [SINGLE_ROW, ROW_BY_ORIGIN];
 
 /// A network address, numbered from 0.
 #[derive(Clone, Copy, PartialEq, Eq, Debug)]
@@ -50,7 +60,7 @@ pub struct Tuple {
 
 /// The rights of a row over one address: i, r, o, e. What a row holds is kept
 /// as it is written; i grants reading whether or not r is held beside it.
-#[derive(Clone, Copy, PartialEq, Eq, Debug)]
+#[derive(Clone, Copy, PartialEq, Eq)]
 pub struct Rights {
     pub take: bool,
     pub read: bool,
@@ -59,7 +69,7 @@ pub struct Rights {
 }
 
 /// A policy row: the right n and the rights over each address.
-#[derive(Clone, Copy, PartialEq, Eq, Debug)]
+#[derive(Clone, Copy, PartialEq, Eq)]
 pub struct Row {
     pub create: bool,
     pub rights: [Rights; ADDRESSES],
@@ -77,9 +87,11 @@ pub struct Process {
 }
 
 /// What stands at one address. Tuples stand oldest first.
-#[derive(Clone, PartialEq, Eq, Debug)]
+#[derive(Clone, PartialEq, Eq)]
 pub struct Node {
-    pub row: Row,
+    /// The rows, one for the code of each origin. In format 1 all are equal,
+    /// in format 2 those for unused origins are zero.
+    pub rows: [Row; ADDRESSES],
     pub processes: [Process; SLOTS],
     pub tuple_count: u8,
     pub tuples: [Tuple; TUPLES],
@@ -148,8 +160,10 @@ pub struct Instruction {
 
 /// The whole net. Nodes past `address_count` and instructions past
 /// `code_length` are zero records.
-#[derive(Clone, PartialEq, Eq, Debug)]
+#[derive(Clone, PartialEq, Eq)]
 pub struct Net {
+    /// The format of its image, 1 or 2; the empty net has 0.
+    pub format: u8,
     pub address_count: u8,
     pub code_length: u16,
     pub nodes: Box<[Node; ADDRESSES]>,
@@ -202,6 +216,10 @@ impl Row {
         create: false,
         rights: [Rights::NONE; ADDRESSES],
     };
+    pub const ALL: Row = Row {
+        create: true,
+        rights: [Rights::ALL; ADDRESSES],
+    };
 
     /// The rights over an address; none over a number that is no address.
     pub fn over(&self, address: Locality) -> Rights {
@@ -234,11 +252,16 @@ impl Process {
 
 impl Node {
     pub const ZERO: Node = Node {
-        row: Row::ZERO,
+        rows: [Row::ZERO; ADDRESSES],
         processes: [Process::FREE; SLOTS],
         tuple_count: 0,
         tuples: [Tuple::ZERO; TUPLES],
     };
+
+    /// The row for code of this origin, an address.
+    pub fn row_for(&self, origin: Locality) -> &Row {
+        &self.rows[origin.0 as usize]
+    }
 
     /// The lowest free slot, if any.
     pub fn free_slot(&self) -> Option<usize> {
@@ -279,11 +302,37 @@ impl Net {
     /// The empty net: address count 0, every record zero or unset.
     pub fn empty() -> Net {
         Net {
+            format: 0,
             address_count: 0,
             code_length: 0,
             nodes: boxed(Node::ZERO),
             code: boxed(Instruction::STOP),
         }
+    }
+
+    /// The empty net but for its format and counts.
+    pub fn of(format: u8, address_count: u8, code_length: u16) -> Net {
+        Net {
+            format,
+            address_count,
+            code_length,
+            ..Net::empty()
+        }
+    }
+
+    /// How many rows of a node may hold rights: in format 2 those for the
+    /// origins in use, otherwise all.
+    pub fn row_count(&self) -> usize {
+        match self.format {
+            ROW_BY_ORIGIN => (self.address_count as usize).min(ADDRESSES),
+            _ => ADDRESSES,
+        }
+    }
+
+    /// Changes all rows of a node that may hold rights, alike.
+    pub fn each_row(&mut self, at: usize, change: impl Fn(&mut Row)) {
+        let count = self.row_count();
+        self.nodes[at].rows[..count].iter_mut().for_each(change);
     }
 }
 
@@ -302,9 +351,23 @@ mod tests {
     #[test]
     fn the_empty_net_is_all_zero() {
         let net = Net::empty();
-        assert_eq!((net.address_count, net.code_length), (0, 0));
+        assert_eq!((net.format, net.address_count, net.code_length), (0, 0, 0));
         assert!(net.nodes.iter().all(|node| *node == Node::ZERO));
         assert!(net.code.iter().all(|code| *code == Instruction::STOP));
+    }
+
+    /// In format 1 all rows of a node change alike, in format 2 those for
+    /// origins in use.
+    #[test]
+    fn rows_are_changed_alike() {
+        for (format, addresses, changed) in [(1, 3, 16), (2, 3, 3), (2, 16, 16), (2, 1, 1)] {
+            let mut net = Net::of(format, addresses, 1);
+            net.each_row(2, |row| row.create = true);
+            let rows = &net.nodes[2].rows;
+            assert!((0..ADDRESSES).all(|origin| rows[origin].create == (origin < changed)));
+            assert!(net.nodes[1] == Node::ZERO && net.nodes[3] == Node::ZERO);
+            assert_eq!(net.nodes[2].row_for(Locality(0)).rights, Row::ZERO.rights);
+        }
     }
 
     #[test]

@@ -240,7 +240,7 @@ mod tests {
     #[test]
     fn the_net_line_has_the_image_s_count() {
         let mut net = net(1, &[new(0, 0)]);
-        net.nodes[0].row.create = true;
+        grant_create(&mut net, 0);
         let expected = "net 1 2\npick 1 0 0 0\nnode 0 0 1\nnode 1 0 0\ntotal 0\n";
         assert_eq!(register(&write_image(&net), &[0]), expected);
     }

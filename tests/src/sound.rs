@@ -1,7 +1,7 @@
 //! Soundness of a net (document 01, "One pick"), and what code reaches
 //! and whether it keeps within a row ("Reaching and rights"; document 02,
 //! slip 6: taking covers reading; slips 8 and 10: marks and origins are
-//! addresses of the net).
+//! addresses of the net; slip 10: the rows in each format).
 
 use crate::net::*;
 
@@ -105,8 +105,8 @@ fn known(target: Target, address: Locality) -> Option<Locality> {
     }
 }
 
-/// Whether a net is sound. The empty net is not: its counts are out of
-/// range.
+/// Whether a net is sound. The empty net is not: its format is none, and its
+/// counts are out of range.
 pub fn sound(net: &Net) -> bool {
     counts_in_range(net) && nodes_sound(net) && code_sound(net)
 }
@@ -125,11 +125,24 @@ fn nodes_sound(net: &Net) -> bool {
 
 fn node_sound(net: &Net, node: &Node) -> bool {
     let processes = node.processes.iter();
-    row_sound(net, &node.row)
+    rows_sound(net, &node.rows)
         && processes
             .into_iter()
             .all(|process| process_sound(net, process))
         && tuples_sound(net, node)
+}
+
+// In format 1 the rows are equal, in format 2 those for unused origins hold
+// nothing; there is no other format.
+fn rows_sound(net: &Net, rows: &[Row; ADDRESSES]) -> bool {
+    match net.format {
+        SINGLE_ROW => row_sound(net, &rows[0]) && rows.iter().all(|row| *row == rows[0]),
+        ROW_BY_ORIGIN => {
+            let (used, unused) = rows.split_at(net.address_count as usize);
+            used.iter().all(|row| row_sound(net, row)) && unused.iter().all(|row| *row == Row::ZERO)
+        }
+        _ => false,
+    }
 }
 
 // No right over an unused address.

@@ -49,11 +49,18 @@ impl Load {
     }
 }
 
-/// The longest image, and a net in which every action is performed.
-pub fn loads() -> [Load; 2] {
+/// The longest image, and a net in which every action is performed; then both
+/// of format 2.
+pub fn loads() -> [Load; 4] {
     let mut random = Random::new(501);
     let mut picks = || (0..MOST_PICKS).map(|_| random.byte() & 0xFC).collect();
-    [longest(), busy()].map(|net| Load {
+    let nets = [
+        longest(),
+        busy(),
+        longest_of_format_2(),
+        in_format_2(busy()),
+    ];
+    nets.map(|net| Load {
         net,
         picks: picks(),
     })
@@ -64,12 +71,11 @@ pub fn loads() -> [Load; 2] {
 pub fn busy() -> Net {
     let mut net = stops(15, 512);
     for at in 0..15 {
-        let node = &mut net.nodes[at];
-        node.row.create = true;
-        node.row.rights[..15].fill(Rights::ALL);
+        grant_create(&mut net, at);
+        (0..15).for_each(|over| grant(&mut net, at, over, Rights::ALL));
         let places = [0, 8, 16, 24].map(|place| (place + 32 * at as u16) % 504);
         let own = Locality(at as u8);
-        node.processes = places.map(|place| Process::starting(Place(place), own));
+        net.nodes[at].processes = places.map(|place| Process::starting(Place(place), own));
     }
     for first in (0..504).step_by(8) {
         net.code[first as usize..][..8].copy_from_slice(&round(first));
@@ -214,17 +220,20 @@ fn checking(load: &Load) -> [Job; 2] {
 
 // Each run twice, and an image that is refused.
 fn sharing() -> Job {
-    let [one, two] = loads().map(|load| (load.image(), load.picks));
-    let longer = [&one.0[..], &[0]].concat();
-    let files: [(&str, &[u8]); 5] = [
-        ("one/net.bin", &one.0),
-        ("one/picks.bin", &one.1),
-        ("two/net.bin", &two.0),
-        ("two/picks.bin", &two.1),
-        ("refused/net.bin", &longer),
-    ];
-    let folders = ["one", "refused", "two", "one", "two"];
-    let runs = [&one, &two].map(|(image, picks)| season::run(image, picks));
+    let loads = loads().map(|load| (load.image(), load.picks));
+    let longer = [&loads[0].0[..], &[0]].concat();
+    let files = |number: usize| ["net.bin", "picks.bin"].map(|file| format!("{number}/{file}"));
+    let names: Vec<String> = (0..loads.len()).flat_map(files).collect();
+    let contents = loads.iter().flat_map(|(image, picks)| [image, picks]);
+    let files = names.iter().zip(contents);
+    let mut files: Vec<(&str, &[u8])> = files
+        .map(|(name, content)| (&name[..], &content[..]))
+        .collect();
+    files.push(("refused/net.bin", &longer));
+    let folders = ["0", "refused", "1", "2", "3", "0", "1", "2", "3"];
+    let runs = loads
+        .each_ref()
+        .map(|(image, picks)| season::run(image, picks));
     let runs: Vec<season::Run> = runs.into_iter().flatten().collect();
     let printed = season::printed(&runs.repeat(2));
     Job::new(&files, &[], printed.into_bytes()).given(&folders)
@@ -246,7 +255,7 @@ fn inspecting_texts() -> Job {
 }
 
 fn registering_text(text: &[u8]) -> Job {
-    let ([_, Load { picks, .. }], lists) = (loads(), longest_lists());
+    let ([_, Load { picks, .. }, ..], lists) = (loads(), longest_lists());
     let printed = register_text_named(text, &picks, &names_by(&lists[0], &lists[1]).0);
     job_with_lists(&[("net.txt", text), ("picks.bin", &picks)], &lists, printed)
 }
@@ -285,22 +294,24 @@ mod tests {
     use super::*;
     use crate::step::{pick_address, pick_slot, step};
 
-    /// Each action is performed in the busy net, all seven.
+    /// Each action is performed in the busy nets, all seven.
     #[test]
     fn every_action_is_performed() {
-        let [_, busy] = loads();
-        let mut net = busy.net.clone();
-        let mut performed = [0; 7];
-        for pick in &busy.picks {
-            let node = &net.nodes[usize::from(pick_address(*pick).0)];
-            let process = node.processes[usize::from(pick_slot(*pick))];
-            let action = net.code[usize::from(process.at.0)].action;
-            if step(&mut net, *pick) <= 1 {
-                performed[number(&action)] += 1;
+        let [_, one, _, two] = loads();
+        for busy in [one, two] {
+            let mut net = busy.net.clone();
+            let mut performed = [0; 7];
+            for pick in &busy.picks {
+                let node = &net.nodes[usize::from(pick_address(*pick).0)];
+                let process = node.processes[usize::from(pick_slot(*pick))];
+                let action = net.code[usize::from(process.at.0)].action;
+                if step(&mut net, *pick) <= 1 {
+                    performed[number(&action)] += 1;
+                }
             }
+            assert_eq!(performed[5], 1);
+            assert!(performed.iter().all(|count| *count > 0), "{performed:?}");
         }
-        assert_eq!(performed[5], 1);
-        assert!(performed.iter().all(|count| *count > 0), "{performed:?}");
     }
 
     fn number(action: &Action) -> usize {

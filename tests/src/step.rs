@@ -1,5 +1,6 @@
 //! One pick (document 01, "One pick"; document 02, slip 6: taking covers
-//! reading; slip 10: the origin of sent and of forked code).
+//! reading; slip 10: the origin of sent and of forked code, by which the row
+//! is chosen, and the rows after a new).
 
 use crate::matching::{bind, evaluate, evaluate_tuple, oldest_fitting};
 use crate::net::*;
@@ -97,9 +98,14 @@ impl Run<'_> {
         &mut self.net.nodes[address.0 as usize]
     }
 
-    // The hosting node's rights over a target.
+    // The hosting node's row for the origin of the process.
+    fn row(&self) -> &Row {
+        self.node(self.host).row_for(self.process().origin)
+    }
+
+    // The rights over a target in that row.
     fn rights(&self, target: Locality) -> Rights {
-        self.node(self.host).row.over(target)
+        self.row().over(target)
     }
 
     // The address a target means; 6 when its variable holds none.
@@ -163,12 +169,13 @@ impl Run<'_> {
         Ok((target, index))
     }
 
-    // The sent code is judged by the target's row, self meaning the target;
-    // its origin is the host, wherever the sending code came from.
+    // The sent code is judged by the target's row for the host, self meaning
+    // the target; its origin is the host, wherever the sending code came
+    // from.
     fn eval(&mut self, target: Target, sent: Place, next: Place) -> Result<(), u8> {
         let target = self.resolve(target)?;
         require(self.rights(target).send)?;
-        let row = &self.node(target).row;
+        let row = self.node(target).row_for(self.host);
         if !keeps_within(&self.net.code[..], self.net.code_length, sent, target, row) {
             return Err(SENT_CODE_BARRED);
         }
@@ -199,27 +206,55 @@ impl Run<'_> {
     }
 
     fn new_address(&mut self, variable: u8, next: Place) -> Result<(), u8> {
-        require(self.node(self.host).row.create)?;
+        require(self.row().create)?;
         if self.net.address_count as usize == ADDRESSES {
             return Err(NO_ROOM);
         }
         let created = Locality(self.net.address_count);
         self.net.address_count += 1;
-        self.share_row(created);
+        self.share_rows(created);
         let process = self.process_mut();
         process.variables[variable as usize] = Value::Address(created);
         process.at = next;
         Ok(())
     }
 
-    // The new row is the creator's as it stood; then each of the two
-    // gains all four rights over the new address.
-    fn share_row(&mut self, created: Locality) {
-        let mut row = self.node(self.host).row;
-        row.rights[created.0 as usize] = Rights::ALL;
-        self.node_mut(created).row = row;
-        self.node_mut(self.host).row = row;
+    // The rows of the new address and of its creator, the host.
+    fn share_rows(&mut self, created: Locality) {
+        match self.net.format {
+            ROW_BY_ORIGIN => self.share_by_origin(created),
+            _ => self.share_alike(created),
+        }
     }
+
+    // Format 1. In every row: the new node's is the creator's as it stood;
+    // then each of the two gains all four rights over the new address.
+    fn share_alike(&mut self, created: Locality) {
+        let mut rows = self.node(self.host).rows;
+        rows.iter_mut().for_each(|row| gain(row, created));
+        self.node_mut(created).rows = rows;
+        self.node_mut(self.host).rows = rows;
+    }
+
+    // Format 2. The new node has the creator's rows as they stood and, for
+    // origin itself, a copy of the creator's row for the creator. It gains
+    // the four rights over itself in its rows for itself and for the creator,
+    // and the creator in its row for the origin of the creating process. The
+    // row for the new origin is empty everywhere else, as it was unused.
+    fn share_by_origin(&mut self, created: Locality) {
+        let (host, origin) = (self.host, self.process().origin);
+        let mut rows = self.node(host).rows;
+        rows[created.0 as usize] = rows[host.0 as usize];
+        gain(&mut rows[created.0 as usize], created);
+        gain(&mut rows[host.0 as usize], created);
+        self.node_mut(created).rows = rows;
+        gain(&mut self.node_mut(host).rows[origin.0 as usize], created);
+    }
+}
+
+// A row gains all four rights over an address.
+fn gain(row: &mut Row, over: Locality) {
+    row.rights[over.0 as usize] = Rights::ALL;
 }
 
 // A right that is lacking is answered with 4.

@@ -1,11 +1,14 @@
 //! The edges of document 01: that the stored list is the model's, and that
-//! each edge has the answer the paper states.
+//! each edge has the answer the paper states. Those of format 2: that the
+//! program `edges` works through them as well.
 
 use cavindorum_tests::by_hand::{bits, net, new};
 use cavindorum_tests::edges::{
-    edges, entry, pack, starred, stops_image, stored_files, unpack, Edge,
+    edges, entry, expected, of_format_2, pack, starred, stops_image, stored_files, unpack,
+    withdrawn_of_format_2, Edge,
 };
 use cavindorum_tests::image::write_image;
+use cavindorum_tests::program::{printed_by, TestDirectory};
 use cavindorum_tests::register::{answers_in, register};
 use cavindorum_tests::starred::claims;
 use cavindorum_tests::step::pick;
@@ -172,11 +175,70 @@ const STATED: [(&str, Stated); 30] = [
     ),
 ];
 
+/// Those of format 2.
+const STATED_OF_FORMAT_2: [(&str, Stated); 12] = [
+    ("one stop of format 0", Refused(21, 0)),
+    (
+        "one stop of format 1",
+        Answers(&[], &["node 0 0 0", "total 0"]),
+    ),
+    (
+        "one stop of format 2",
+        Answers(&[], &["node 0 0 0", "total 0"]),
+    ),
+    ("one stop of format 3", Refused(21, 0)),
+    ("one stop of format 15", Refused(21, 0)),
+    ("16 addresses", Answers(&[7], &["node 15 0 0", "total 0"])),
+    (
+        "creation at 15 addresses",
+        Answers(&[8, 0, 7], &["node 14 0 0", "node 15 0 0", "total 0"]),
+    ),
+    (
+        "creation at 16 addresses with n",
+        Answers(&[3], &["node 15 0 0", "total 0"]),
+    ),
+    (
+        "creation at 16 addresses without n, started",
+        // After 256 rows of 65 bits and a process count.
+        Refused(30, 19 + 256 * 65 + 3),
+    ),
+    (
+        "creation at 16 addresses without n, sent",
+        Answers(&[5], &["node 15 0 0", "total 0"]),
+    ),
+    (
+        "creation at 16 addresses, sent, with n for the target's own code",
+        Answers(&[5, 7], &["node 15 0 0", "total 0"]),
+    ),
+    (
+        "creation at 16 addresses, sent, with n for code of the sender",
+        Answers(&[0, 3], &["node 15 0 0", "total 0"]),
+    ),
+];
+
 #[test]
 fn each_edge_has_the_stated_answer() {
-    let edges = edges();
-    assert_eq!(edges.len(), STATED.len());
-    for (edge, (name, stated)) in edges.iter().zip(&STATED) {
+    check_all(&edges(), &STATED);
+    check_all(&of_format_2(), &STATED_OF_FORMAT_2);
+}
+
+/// The program `edges` with these in place of the stored ones.
+#[test]
+fn the_program_works_through_those_of_format_2() {
+    let edges = of_format_2();
+    let (start, lines) = withdrawn_of_format_2();
+    let (packed, creation) = (pack(&edges), write_image(&start));
+    let files: [(&str, &[u8]); 2] = [("edges.bin", &packed), ("creation.bin", &creation)];
+    let here = TestDirectory::holding(files);
+    let found = printed_by("edges", &here.path);
+    let expected = [expected(&edges), lines.into_bytes()].concat();
+    let text = |bytes| String::from_utf8(bytes).expect("it is text");
+    assert_eq!(text(found), text(expected));
+}
+
+fn check_all(edges: &[Edge], all: &[(&str, Stated)]) {
+    assert_eq!(edges.len(), all.len());
+    for (edge, (name, stated)) in edges.iter().zip(all) {
         assert_eq!(edge.name, *name);
         check(edge, stated);
     }

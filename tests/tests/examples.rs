@@ -1,11 +1,13 @@
 //! The examples: that the stored files are the model's, that the programs
 //! print the stored registers, write the stored images and check the stored
-//! listing, and that the tenant's fence holds.
+//! listing, that they read the image of format 2, and that the tenant's fence
+//! holds.
 
-use cavindorum_tests::examples::{damaged, examples, stored_files, Example};
+use cavindorum_tests::examples::{examples, stored_files, Example};
 use cavindorum_tests::image::read_image;
 use cavindorum_tests::net::*;
 use cavindorum_tests::program::{printed_by, printed_given, TestDirectory};
+use cavindorum_tests::season::{printed, runs};
 use cavindorum_tests::step::{pick, pick_address};
 use cavindorum_tests::stored::{self, repository};
 use std::fs;
@@ -27,8 +29,9 @@ fn directories() -> Vec<PathBuf> {
 /// The directories of the examples that have a text.
 fn with_text() -> Vec<PathBuf> {
     let mut all = directories();
-    all.retain(|one| !one.ends_with(damaged::NAME));
-    assert_eq!(all.len(), examples().len());
+    all.retain(|one| one.join("net.txt").exists());
+    let texts = examples().iter().filter_map(Example::text).count();
+    assert_eq!(all.len(), texts);
     all
 }
 
@@ -109,6 +112,26 @@ fn the_stored_listing_is_an_old_one() {
     }
 }
 
+/// The other programs that read images read that of format 2 as well.
+#[test]
+fn the_programs_read_the_rows_by_origin() {
+    let stored = repository().join("examples/rows_by_origin");
+    let (image, picks) = (file(&stored, "net.bin"), file(&stored, "picks.bin"));
+    let register = file(&stored, "register.txt");
+    let files: [(&str, &[u8]); 3] = [
+        ("net.bin", &image),
+        ("picks.bin", &picks),
+        ("listing.txt", &register),
+    ];
+    let here = TestDirectory::holding(files);
+    assert!(printed_by("repack", &here.path) == image);
+    let checked = printed_given("check_listing", &["new"], &here.path);
+    assert_eq!(String::from_utf8_lossy(&checked), "0\n");
+    let shares = printed_given("shares", &["."], &here.path);
+    let expected = printed(&runs([(&image[..], &picks[..])]));
+    assert_eq!(String::from_utf8_lossy(&shares), expected);
+}
+
 const TENANT: Locality = Locality(2);
 
 fn tenant() -> Example {
@@ -122,12 +145,13 @@ fn tenant() -> Example {
 fn the_tenant_is_fenced() {
     let net = tenant().net;
     let (ours, theirs) = (&net.nodes[..2], &net.nodes[2]);
-    assert!(ours
-        .iter()
-        .all(|node| node.row.over(TENANT) == Rights::NONE));
-    assert!(!theirs.row.create);
+    let mut rows = ours.iter().flat_map(|node| &node.rows);
+    assert!(rows.all(|row| row.over(TENANT) == Rights::NONE));
     let at_most_read = |rights: Rights| !(rights.take || rights.put || rights.send);
-    assert!((0..2).all(|address| at_most_read(theirs.row.over(Locality(address)))));
+    for row in &theirs.rows {
+        assert!(!row.create);
+        assert!((0..2).all(|address| at_most_read(row.over(Locality(address)))));
+    }
 }
 
 // The answers to our picks, and our nodes at the end.

@@ -1,7 +1,7 @@
 //! The proved image reader beside the model: the edges of document 01
-//! that concern images, images with each fault, and random images. Each
-//! image is compared in its number, in the bit at which the field at fault
-//! begins, and in the whole net.
+//! that concern images, images with each fault, and random images of both
+//! formats. Each image is compared in its number, in the bit at which the
+//! field at fault begins, and in the whole net.
 
 use cavindorum_tests::bits::Sort;
 use cavindorum_tests::by_hand::*;
@@ -117,17 +117,36 @@ fn the_longest_image_has_14_749_bytes() {
     assert_eq!(answer(&image), (29, 117_987));
 }
 
+/// Of format 2; it has 15 * 16 rows of 65 bits more.
+#[test]
+fn the_longest_image_of_format_2_has_16_699_bytes() {
+    let net = longest_of_format_2();
+    let mut image = write_image(&net);
+    assert_eq!(image.len(), 16_699);
+    assert_accepted(&image, &net);
+    assert_eq!(answer(&image[..16_698]), (28, 133_578));
+    image.push(0);
+    assert_eq!(answer(&image), (29, 133_587));
+    image.resize(32_767, 0);
+    assert_eq!(answer(&image), (29, 133_587));
+}
+
 /// The reader looks at the first 32,768 bytes, which decide: images that end
 /// before that, there and beyond give what the model, which looks at all of
 /// them, says.
 #[test]
 fn images_around_what_the_reader_looks_at() {
     let mut random = Random::new(104);
-    let longest = write_image(&longest());
+    let [longest, other] = [longest(), longest_of_format_2()].map(|net| write_image(&net));
     // Each with the first bit after its code.
-    let heads: [(&[u8], usize); 3] = [(&longest, 117_987), (&PAPER_IMAGE, 95), (&ONE_STOP, 35)];
+    let heads: [(&[u8], usize); 4] = [
+        (&longest, 117_987),
+        (&other, 133_587),
+        (&PAPER_IMAGE, 95),
+        (&ONE_STOP, 35),
+    ];
     let (mut images, mut expected) = (Vec::new(), Vec::new());
-    for length in [16_384, 32_767, 32_768, 32_769, 32_770, 40_000, 65_535] {
+    for length in [16_700, 32_767, 32_768, 32_769, 32_770, 40_000, 65_535] {
         for (head, end) in heads {
             expected.extend([(29, end); 3]);
             let mut image = head.to_vec();
@@ -143,7 +162,7 @@ fn images_around_what_the_reader_looks_at() {
     assert_eq!(answers(&images), expected);
     // 16 addresses and 512 instructions, of any bits.
     let noise = |length| {
-        let head = [0x18, 0x40, random.byte() & 0x1F];
+        let head = [random.choose(&[0x18, 0x28]), 0x40, random.byte() & 0x1F];
         let rest = (3..length).map(|_| random.byte());
         head.into_iter().chain(rest).collect::<Vec<u8>>()
     };
@@ -174,8 +193,8 @@ fn readings_are_twos_complement() {
         assert_accepted(&with_tuple(&format!("00 0 {text} 000")), &net);
         let code = with_code(&format!("001 01 00 000 {text} 000000000 000"));
         let mut net = stops(1, 2);
-        net.nodes[0].row.create = true;
-        net.nodes[0].row.rights[0] = Rights::ALL;
+        grant_create(&mut net, 0);
+        grant(&mut net, 0, 0, Rights::ALL);
         net.code[0] = out(OWN, &[TemplateField::Reading(reading)], 0);
         assert_accepted(&code, &net);
     }
@@ -214,7 +233,7 @@ fn reaching() {
     assert_eq!(forks("000000001 000000000"), beyond);
     assert_eq!(forks("000000000 000000001"), beyond);
     let mut barred = longest();
-    barred.nodes[15].row.rights[15].take = false;
+    barred.each_row(15, |row| row.rights[15].take = false);
     // 16 rows of 65 bits, 15 addresses of 3 + 4 * 9, and a process count.
     let bit = 19 + 16 * 65 + 15 * 39 + 3;
     assert_eq!(answer(&write_image(&barred)), (30, bit));
@@ -238,6 +257,75 @@ fn a_starting_read_needs_i_or_r_and_a_starting_in_needs_i() {
     assert_eq!(answers(&images), expected);
 }
 
+// Format 2.
+
+/// The other 14 formats are none.
+#[test]
+fn the_format_is_1_or_2() {
+    let image = |format: u8| [&[format << 4 | ONE_STOP[0] & 0xF], &ONE_STOP[1..]].concat();
+    let found = answers(&(0..16).map(image).collect::<Vec<_>>());
+    for (format, found) in found.into_iter().enumerate() {
+        let known = format == 1 || format == 2;
+        assert_eq!(found, if known { ACCEPTED } else { (21, 0) });
+    }
+}
+
+/// One address has as many bits in both formats, and one row.
+#[test]
+fn the_register_s_image_in_format_2() {
+    let mut image = PAPER_IMAGE;
+    image[0] ^= 0x30;
+    assert_accepted(&image, &in_format_2(paper_net()));
+}
+
+/// Two addresses: what one format accepts ends early in the other, or goes on
+/// too long.
+#[test]
+fn the_other_format_in_the_head() {
+    let net = stops(2, 1);
+    let (mut one, mut two) = (write_image(&net), write_image(&in_format_2(net)));
+    one[0] ^= 0x30;
+    two[0] ^= 0x30;
+    assert_eq!(answers(&[one, two]), [(28, 55), (29, 56)]);
+}
+
+/// A net whose 256 rows are all different.
+#[test]
+fn sixteen_addresses_have_256_rows() {
+    let mut net = in_format_2(stops(16, 1));
+    for at in 0..ADDRESSES {
+        for origin in 0..ADDRESSES {
+            net.nodes[at].rows[origin].create = (at + origin) % 3 == 0;
+            grant_from(&mut net, at, origin, at, READ);
+            grant_from(&mut net, at, origin, origin, PUT);
+        }
+    }
+    let image = write_image(&net);
+    assert_accepted(&image, &net);
+    // A byte that is not there, in each row.
+    let cut: Vec<_> = (0..256)
+        .map(|row| image[..(19 + 65 * row) / 8].to_vec())
+        .collect();
+    assert!(answers(&cut).iter().all(|found| found.0 == 28));
+}
+
+/// A start is judged by its node's row for itself: without it the longest
+/// image is refused, and without all the others it is accepted.
+#[test]
+fn starts_are_judged_by_the_row_for_the_node_itself() {
+    let all = longest_of_format_2();
+    for at in [0, 7, 15] {
+        let (mut without, mut alone) = (all.clone(), all.clone());
+        without.nodes[at].rows[at] = Row::ZERO;
+        let own = alone.nodes[at].rows[at];
+        alone.nodes[at].rows = [Row::ZERO; ADDRESSES];
+        alone.nodes[at].rows[at] = own;
+        let bit = 19 + 256 * 65 + at * 39 + 3;
+        assert_eq!(answer(&write_image(&without)), (30, bit));
+        assert_accepted(&write_image(&alone), &alone);
+    }
+}
+
 // Neighbours of accepted images.
 
 #[test]
@@ -255,11 +343,13 @@ fn the_register_s_image_with_any_one_byte() {
 }
 
 #[test]
-fn the_longest_image_with_any_one_bit() {
-    let image = write_image(&longest());
+fn the_longest_images_with_any_one_bit() {
     let mut random = Random::new(1);
-    let images: Vec<_> = (0..300).map(|_| flipped(&mut random, &image)).collect();
-    answers(&images);
+    for net in [longest(), longest_of_format_2()] {
+        let image = write_image(&net);
+        let images: Vec<_> = (0..200).map(|_| flipped(&mut random, &image)).collect();
+        answers(&images);
+    }
 }
 
 /// Images cut anywhere. Of each sort of field some end early.
@@ -286,11 +376,13 @@ fn cut_images() {
 
 const BATCH: usize = 500;
 
-/// How often each number was met, and at which bits.
+/// How often each number was met, and at which bits; and how many of the
+/// images have format 1 and format 2 in the head.
 #[derive(Default)]
 struct Met {
     counts: [usize; 31],
     bits: [BTreeSet<usize>; 31],
+    formats: [usize; 2],
 }
 
 /// Images compared in batches.
@@ -302,6 +394,12 @@ fn compare_many(seed: u64, count: usize, make: fn(&mut Random) -> Vec<u8>) -> Me
         for (number, bit) in answers(&images) {
             met.counts[number as usize] += 1;
             met.bits[number as usize].insert(bit);
+        }
+        let heads = images.iter().filter_map(|image| image.first());
+        for format in heads.map(|first| first >> 4) {
+            if let Some(index) = FORMATS.iter().position(|one| *one == format) {
+                met.formats[index] += 1;
+            }
         }
     }
     met
@@ -322,8 +420,11 @@ fn one_bit_off(random: &mut Random) -> Vec<u8> {
 
 #[test]
 fn valid_images() {
-    let counts = compare_many(101, 10_000, valid_image).counts;
+    let Met {
+        counts, formats, ..
+    } = compare_many(101, 10_000, valid_image);
     assert!(counts[0] > 9_000 && counts[30] > 100, "{counts:?}");
+    assert!(formats.iter().all(|count| *count > 4_500), "{formats:?}");
 }
 
 #[test]
@@ -341,13 +442,18 @@ fn images_with_barred_starts() {
     assert!(count > 1_000 && bits > 100, "{count} at {bits} bits");
 }
 
-/// More than 20,000 of these are refused. Every number is met often, each at
-/// many bits but for 21, whose field is the first.
+/// More than 20,000 of each format, most of them refused. Every number is met
+/// often, each at many bits but for 21, whose field is the first.
 #[test]
 fn damaged_images() {
-    let Met { counts, bits } = compare_many(103, 28_000, damaged_image);
+    let Met {
+        counts,
+        bits,
+        formats,
+    } = compare_many(103, 44_000, damaged_image);
+    assert!(formats.iter().all(|count| *count > 20_000), "{formats:?}");
     assert!(counts[0] > 280, "{counts:?}");
-    assert!(counts[21..].iter().sum::<usize>() > 20_000, "{counts:?}");
+    assert!(counts[21..].iter().sum::<usize>() > 30_000, "{counts:?}");
     assert!(counts[21..].iter().all(|count| *count > 500), "{counts:?}");
     assert_eq!(bits[21], BTreeSet::from([0]));
     let many = |bits: &BTreeSet<usize>| bits.len() > 100;

@@ -1,17 +1,18 @@
 //! The proved step beside the model: the edges of document 01 that concern
-//! picks, and random picks. Each pick is compared in its answer and in the
-//! net after it.
+//! picks, and random picks, mostly in format 1. Each pick is compared in its
+//! answer and in the net after it.
 
 use cavindorum_tests::by_hand::{
-    self, eval, fill, fill_marked, fork, from, grant, new, one_address, out, read, readings, take,
-    written, NONE, OWN, PUT, READ, SEND, TAKE,
+    self, eval, fill, fill_marked, fork, from, grant, grant_create, new, one_address, out, read,
+    readings, take, written, NONE, OWN, PUT, READ, SEND, TAKE,
 };
 use cavindorum_tests::generate::{
-    net_after_picks, pick_byte, picks, random_net, sending_net, set_origins, sound_net,
+    net_after_picks_of, pick_byte, picks, random_net, sending_net, set_origins, sound_net,
+    sound_net_of, without_origins,
 };
 use cavindorum_tests::net::*;
 use cavindorum_tests::random::Random;
-use cavindorum_tests::replay::{replay, Made, Run};
+use cavindorum_tests::replay::{replay, replay_many, Made, Run};
 use cavindorum_tests::sound::sound;
 
 const FAR: Target = Target::Written(Locality(1));
@@ -74,7 +75,7 @@ fn out_to_15_tuples_is_0_and_to_16_is_3() {
     assert_eq!(after.nodes[0].tuple_count, 16);
     assert_eq!(after.nodes[0].tuples[15], one_address(0));
     assert_eq!(unchanged(&after), 3);
-    after.nodes[0].row.rights[0] = NONE;
+    grant(&mut after, 0, 0, NONE);
     assert_eq!(unchanged(&after), 4);
 }
 
@@ -88,7 +89,7 @@ fn read_at_a_variable_holding_self_with_i_but_not_r_is_0_or_2() {
     assert_eq!(unchanged(&net), 6);
     set(&mut net, 0, Value::Address(Locality(0)));
     for rights in [TAKE, READ] {
-        net.nodes[0].row.rights[0] = rights;
+        grant(&mut net, 0, 0, rights);
         let after = performed(&net);
         assert_eq!(after.nodes[0].tuples, net.nodes[0].tuples);
         assert_eq!(after.nodes[0].processes[0].variables[0], Value::Reading(1));
@@ -98,7 +99,7 @@ fn read_at_a_variable_holding_self_with_i_but_not_r_is_0_or_2() {
         fill(&mut without, 0, &[]);
         assert_eq!(unchanged(&without), 2);
     }
-    net.nodes[0].row.rights[0] = Rights { send: true, ..PUT };
+    grant(&mut net, 0, 0, Rights { send: true, ..PUT });
     assert_eq!(unchanged(&net), 4);
 }
 
@@ -115,10 +116,10 @@ fn in_at_a_variable_holding_self_with_r_but_not_i_is_4() {
 #[test]
 fn sent_code_may_read_where_the_target_may_take() {
     let mut net = net(2, NONE, &[eval(FAR, 1, 2), read(OWN, &[FORMAL], 2)]);
-    net.nodes[0].row.rights[1] = SEND;
-    net.nodes[1].row.rights[0] = Rights::ALL;
+    grant(&mut net, 0, 1, SEND);
+    grant(&mut net, 1, 0, Rights::ALL);
     assert_eq!(unchanged(&net), 5);
-    net.nodes[1].row.rights[1] = TAKE;
+    grant(&mut net, 1, 1, TAKE);
     assert_eq!(made(&net, &[0, 0x10]).answers, [0, 2]);
     fill(&mut net, 1, &[readings(&[1])]);
     assert_eq!(made(&net, &[0, 0x10, 0x10]).answers, [0, 0, 1]);
@@ -127,8 +128,8 @@ fn sent_code_may_read_where_the_target_may_take() {
 #[test]
 fn sent_code_may_not_take_where_the_target_may_read() {
     let mut net = net(2, NONE, &[eval(FAR, 1, 2), take(OWN, &[FORMAL], 2)]);
-    net.nodes[0].row.rights[1] = SEND;
-    net.nodes[1].row.rights[1] = READ;
+    grant(&mut net, 0, 1, SEND);
+    grant(&mut net, 1, 1, READ);
     assert_eq!(unchanged(&net), 5);
 }
 
@@ -200,15 +201,15 @@ fn fork_fills_a_slot_of_its_node() {
 fn sent_code_is_judged_by_the_target_s_row() {
     let code = [eval(FAR, 1, 2), out(OWN, &[TemplateField::Own], 2)];
     let mut net = net(2, Rights::ALL, &code);
-    net.nodes[0].row.rights[1] = Rights::ALL;
+    grant(&mut net, 0, 1, Rights::ALL);
     assert_eq!(unchanged(&net), 5);
-    net.nodes[1].row.rights[1] = PUT;
+    grant(&mut net, 1, 1, PUT);
     let sent = made(&net, &[0, 0x10]);
     assert_eq!(sent.answers, [0, 0]);
     assert_eq!(sent.net.nodes[1].tuples[0], from(1, one_address(1)));
     net.nodes[1].processes = [Process::starting(Place(2), Locality(1)); SLOTS];
     assert_eq!(unchanged(&net), 3);
-    net.nodes[0].row.rights[1].send = false;
+    net.each_row(0, |row| row.rights[1].send = false);
     assert_eq!(unchanged(&net), 4);
 }
 
@@ -216,9 +217,9 @@ fn sent_code_is_judged_by_the_target_s_row() {
 fn a_barred_action_with_a_full_target_is_4() {
     let mut net = net(2, Rights::ALL, &[out(FAR, &[TemplateField::Own], 1)]);
     fill(&mut net, 1, &[readings(&[0]); 16]);
-    net.nodes[1].row.rights[0] = Rights::ALL;
+    grant(&mut net, 1, 0, Rights::ALL);
     assert_eq!(unchanged(&net), 4);
-    net.nodes[0].row.rights[1] = PUT;
+    grant(&mut net, 0, 1, PUT);
     assert_eq!(unchanged(&net), 3);
 }
 
@@ -226,16 +227,16 @@ fn a_barred_action_with_a_full_target_is_4() {
 fn creation_at_15_is_0_and_at_16_is_3_or_4() {
     let mut net = net(15, READ, &[new(0, 0)]);
     assert_eq!(unchanged(&net), 4);
-    net.nodes[0].row.create = true;
+    grant_create(&mut net, 0);
     let mut after = performed(&net);
     let mut expected = net.clone();
     expected.address_count = 16;
-    expected.nodes[0].row.rights[15] = Rights::ALL;
-    expected.nodes[15].row = expected.nodes[0].row;
+    grant(&mut expected, 0, 15, Rights::ALL);
+    expected.nodes[15].rows = expected.nodes[0].rows;
     set(&mut expected, 0, Value::Address(Locality(15)));
     assert_eq!(after, expected);
     assert_eq!(unchanged(&after), 3);
-    after.nodes[0].row.create = false;
+    after.each_row(0, |row| row.create = false);
     assert_eq!(unchanged(&after), 4);
 }
 
@@ -274,7 +275,7 @@ fn held(net: &Net, at: usize) -> &[Tuple] {
 #[test]
 fn an_out_bears_its_host_s_address() {
     let mut net = net(2, NONE, &[out(FAR, &[TemplateField::Own], 1)]);
-    net.nodes[0].row.rights[1] = PUT;
+    grant(&mut net, 0, 1, PUT);
     fill(&mut net, 1, &[readings(&[7])]);
     let tuples = [from(1, readings(&[7])), from(0, one_address(0))];
     assert_eq!(held(&performed(&net), 1), tuples);
@@ -286,8 +287,8 @@ fn an_out_of_sent_code_bears_the_address_where_it_runs() {
     for (target, at) in [(OWN, 1), (written(0), 0), (written(2), 2)] {
         let code = [eval(FAR, 1, 2), out(target, &[TemplateField::Own], 2)];
         let mut net = net(3, NONE, &code);
-        net.nodes[0].row.rights[1] = SEND;
-        net.nodes[1].row.rights[at] = PUT;
+        grant(&mut net, 0, 1, SEND);
+        grant(&mut net, 1, at, PUT);
         let sent = made(&net, &[0, 0x10]);
         assert_eq!(sent.answers, [0, 0]);
         assert_eq!(held(&sent.net, at), [from(1, one_address(1))]);
@@ -372,9 +373,9 @@ fn an_unsound_mark_is_10() {
 /// process stands at address 1.
 fn three(code: &[Instruction]) -> Net {
     let mut net = net(3, NONE, code);
-    net.nodes[..3]
-        .iter_mut()
-        .for_each(|node| node.row.rights[..3].fill(Rights::ALL));
+    for at in 0..3 {
+        (0..3).for_each(|over| grant(&mut net, at, over, Rights::ALL));
+    }
     net.nodes[0].processes[0] = Process::FREE;
     net.nodes[1].processes[0] = Process::starting(Place(0), Locality(1));
     net
@@ -423,7 +424,7 @@ fn every_other_step_keeps_the_origin() {
     ];
     for origin in 0..3 {
         let mut net = three(&code);
-        net.nodes[1].row.create = true;
+        grant_create(&mut net, 1);
         net.nodes[1].processes[0].origin = Locality(origin);
         let kept = made(&net, &[0x10; 5]);
         assert_eq!(kept.answers, [0; 5]);
@@ -490,21 +491,6 @@ fn every_pick() {
 
 // Random picks.
 
-const BATCH: usize = 100;
-
-/// Runs compared in batches, and how often each answer was met.
-fn compare_many(seed: u64, count: usize, make: fn(&mut Random) -> Run) -> [usize; 11] {
-    let mut random = Random::new(seed);
-    let mut met = [0; 11];
-    for _ in 0..count / BATCH {
-        let runs: Vec<_> = (0..BATCH).map(|_| make(&mut random)).collect();
-        for answer in replay(&runs).iter().flat_map(|made| &made.answers) {
-            met[*answer as usize] += 1;
-        }
-    }
-    met
-}
-
 /// That every answer to a sound net was met often.
 fn assert_all_met(met: [usize; 11], picks: usize) {
     assert_eq!(met.iter().sum::<usize>(), picks);
@@ -517,13 +503,13 @@ fn assert_all_met(met: [usize; 11], picks: usize) {
 }
 
 fn from_sound_net(random: &mut Random) -> Run {
-    let net = sound_net(random);
+    let net = sound_net_of(random, SINGLE_ROW);
     let picks = picks(random, &net, 250);
     Run { net, picks }
 }
 
 fn from_reached_net(random: &mut Random) -> Run {
-    let net = net_after_picks(random);
+    let net = net_after_picks_of(random, SINGLE_ROW);
     let picks = picks(random, &net, 250);
     Run { net, picks }
 }
@@ -536,17 +522,17 @@ fn from_random_net(random: &mut Random) -> Run {
 
 #[test]
 fn picks_from_sound_nets() {
-    assert_all_met(compare_many(201, 2_000, from_sound_net), 500_000);
+    assert_all_met(replay_many(201, 2_000, from_sound_net), 500_000);
 }
 
 #[test]
 fn picks_from_reached_nets() {
-    assert_all_met(compare_many(202, 2_000, from_reached_net), 500_000);
+    assert_all_met(replay_many(202, 2_000, from_reached_net), 500_000);
 }
 
 #[test]
 fn picks_from_damaged_nets() {
-    let met = compare_many(203, 8_000, from_random_net);
+    let met = replay_many(203, 8_000, from_random_net);
     assert!(met[10] > 4_000 && met[10] < 28_000, "{met:?}");
     println!("answers 0 to 10: {met:?}");
 }
@@ -560,12 +546,13 @@ fn from_sending_net(random: &mut Random) -> Run {
 /// Code is sent, sent on and forked.
 #[test]
 fn picks_of_sent_code() {
-    let met = compare_many(205, 2_000, from_sending_net);
+    let met = replay_many(205, 2_000, from_sending_net);
     assert!(met[0] > 20_000 && met[10] == 0, "{met:?}");
     println!("answers 0 to 10: {met:?}");
 }
 
-/// Two nets that differ in nothing but origins have the same answers.
+/// Two nets of format 1 that differ in nothing but origins have the same
+/// answers, and in the end differ in nothing else.
 #[test]
 fn no_answer_rests_on_an_origin() {
     let mut random = Random::new(206);
@@ -576,6 +563,7 @@ fn no_answer_rests_on_an_origin() {
     }
     for (one, other) in replay(&ones).iter().zip(replay(&others)) {
         assert_eq!(one.answers, other.answers);
+        assert_eq!(without_origins(&one.net), without_origins(&other.net));
     }
 }
 

@@ -1,9 +1,9 @@
 //! The program `register` beside the model: its whole output in many
-//! directories, byte for byte.
+//! directories, byte for byte, with images of both formats.
 
-use cavindorum_tests::by_hand::{longest, PAPER_IMAGE};
+use cavindorum_tests::by_hand::{longest, longest_of_format_2, PAPER_IMAGE};
 use cavindorum_tests::faulty::faulty_images;
-use cavindorum_tests::generate::{damaged_image, picks, valid_image};
+use cavindorum_tests::generate::{by_origin_net, damaged_image, picks, valid_image};
 use cavindorum_tests::image::{read_image, write_image};
 use cavindorum_tests::program::{on_two_threads, print_register, TestDirectory};
 use cavindorum_tests::random::Random;
@@ -133,27 +133,43 @@ fn long_lists_of_picks() {
 #[test]
 fn long_images() {
     let mut random = Random::new(302);
-    let longest = write_image(&longest());
-    let run = picks(
-        &mut random,
-        &read_image(&longest).expect("it is accepted"),
-        500,
-    );
-    let mut all = vec![files(&longest, &run), files(&longest[..14_748], &run)];
-    for image in [longest, PAPER_IMAGE.to_vec()] {
-        for length in [14_750, 16_383, 16_384, 16_385, 20_000, 70_000, 1_000_000] {
+    let longest = [longest(), longest_of_format_2()];
+    let run = picks(&mut random, &longest[0], 500);
+    let longest = longest.map(|net| write_image(&net));
+    // Each with the first bit after its code.
+    let ends = [117_987, 133_587];
+    for (image, end) in longest.iter().zip(ends) {
+        let cut = &image[..image.len() - 1];
+        let registers = compare_all(&[files(image, &run), files(cut, &run)]);
+        assert!(registers[0].starts_with("net 16 512\npick 1 "));
+        // The last field is a place.
+        assert_eq!(registers[1], format!("refused 28 at {}\n", end - 9));
+    }
+    let paper = PAPER_IMAGE.to_vec();
+    for (image, end) in longest.iter().zip(ends).chain([(&paper, 95)]) {
+        let longer = [
+            14_750, 16_384, 16_385, 16_700, 20_000, 32_768, 70_000, 1_000_000,
+        ];
+        let lengths = longer.into_iter().filter(|length| *length > image.len());
+        let all = lengths.map(|length| {
             let mut image = image.clone();
             image.resize(length, 0);
-            all.push(files(&image, &run));
-        }
+            files(&image, &run)
+        });
+        let registers = compare_all(&all.collect::<Vec<_>>());
+        let refused = format!("refused 29 at {end}\n");
+        assert!(registers.iter().all(|text| *text == refused));
     }
-    let registers = compare_all(&all);
-    assert!(registers[0].starts_with("net 16 512\npick 1 "));
-    assert_eq!(registers[1], "refused 28 at 117978\n");
-    // The bit after the code, of either image.
-    let (longest, paper) = registers[2..].split_at(7);
-    assert!(longest.iter().all(|text| text == "refused 29 at 117987\n"));
-    assert!(paper.iter().all(|text| text == "refused 29 at 95\n"));
+}
+
+/// The register does not show the format, nor what code of other origins may
+/// do, as long as none is sent.
+#[test]
+fn the_paper_s_run_in_format_2() {
+    let mut image = PAPER_IMAGE;
+    image[0] ^= 0x30;
+    let registers = compare_all(&[files(&image, &[0, 0, 0]), files(&PAPER_IMAGE, &[0, 0, 0])]);
+    assert_eq!(registers[0], registers[1]);
 }
 
 #[test]
@@ -164,8 +180,15 @@ fn long_noise() {
         image.resize_with(20_000, || random.byte());
         files(&image, &[0, 0])
     };
-    let heads: [&[u8]; 4] = [&[], &[0x10], &[0x10, 0x80], &PAPER_IMAGE];
-    let all: Vec<_> = (0..40).map(|index| noise(heads[index % 4])).collect();
+    let heads: [&[u8]; 6] = [
+        &[],
+        &[0x10],
+        &[0x10, 0x80],
+        &PAPER_IMAGE,
+        &[0x20, 0x80],
+        &[0x28, 0x40],
+    ];
+    let all: Vec<_> = (0..60).map(|index| noise(heads[index % 6])).collect();
     compare_all(&all);
 }
 
@@ -209,11 +232,29 @@ fn accepted_images() {
             files(&image, &picks)
         })
         .collect();
+    let of_format_2 = |files: &&Files| files.image.as_ref().is_some_and(|image| image[0] >> 4 == 2);
+    let count = all.iter().filter(of_format_2).count();
+    assert!((500..800).contains(&count), "{count}");
     let registers = compare_all(&all);
     let met = answers_met(&registers);
     assert!(met[..10].iter().all(|count| *count > 50), "{met:?}");
     assert_eq!(met[10], 0);
     println!("answers 0 to 10: {met:?}");
+}
+
+/// Code is sent and addresses are opened, in format 2.
+#[test]
+fn accepted_images_in_which_origins_matter() {
+    let mut random = Random::new(306);
+    let all: Vec<_> = (0..300)
+        .map(|_| {
+            let net = by_origin_net(&mut random);
+            let picks = picks(&mut random, &net, 100);
+            files(&write_image(&net), &picks)
+        })
+        .collect();
+    let met = answers_met(&compare_all(&all));
+    assert!([0, 4, 5].iter().all(|answer| met[*answer] > 500), "{met:?}");
 }
 
 #[test]

@@ -1,7 +1,7 @@
-//! The proved writer beside the model's: `repack` reads an image and writes
-//! its net as an image again.
+//! The proved writer beside the model's: `repack` reads an image of either
+//! format and writes its net as an image again.
 
-use cavindorum_tests::by_hand::longest;
+use cavindorum_tests::by_hand::{longest, longest_of_format_2};
 use cavindorum_tests::examples::examples;
 use cavindorum_tests::generate::{damaged_image, valid_image};
 use cavindorum_tests::image::{read_image, write_image};
@@ -17,12 +17,12 @@ fn repacked(image: &[u8]) -> Vec<u8> {
 #[test]
 fn random_nets() {
     let mut random = Random::new(0x5EED_0006);
-    let mut accepted = 0;
-    while accepted < 1_000 {
+    let mut accepted = [0; 2];
+    while accepted[0] < 500 || accepted[1] < 500 {
         let image = valid_image(&mut random);
-        if read_image(&image).is_ok() {
+        if let Ok(net) = read_image(&image) {
             assert!(repacked(&image) == image, "{image:02X?}");
-            accepted += 1;
+            accepted[net.format as usize - 1] += 1;
         }
     }
 }
@@ -36,12 +36,14 @@ fn the_examples() {
     }
 }
 
-/// The longest image there is.
+/// The longest image there is of each format.
 #[test]
-fn the_longest_image() {
-    let image = write_image(&longest());
-    assert_eq!(image.len(), 14_749);
-    assert!(repacked(&image) == image);
+fn the_longest_images() {
+    for (net, length) in [(longest(), 14_749), (longest_of_format_2(), 16_699)] {
+        let image = write_image(&net);
+        assert_eq!(image.len(), length);
+        assert!(repacked(&image) == image);
+    }
 }
 
 /// A refused image gives the empty net, which no image has.

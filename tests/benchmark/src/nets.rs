@@ -1,7 +1,7 @@
 //! The nets and picks that are timed. Their processes go on for ever.
 
 use cavindorum_tests::by_hand::*;
-use cavindorum_tests::image::write_image;
+use cavindorum_tests::image::{read_image, write_image};
 use cavindorum_tests::net::*;
 use cavindorum_tests::random::Random;
 use cavindorum_tests::register::MOST_PICKS;
@@ -14,9 +14,29 @@ pub struct Work {
     pub picks: Vec<u8>,
 }
 
-/// What is timed.
-pub fn all() -> [Work; 4] {
-    [communication(), refused(), evals(), long_evals()]
+/// What is timed: each in format 1, and three of them in format 2 as well.
+pub fn all() -> [Work; 7] {
+    [
+        communication(),
+        in_2("communication, format 2", communication()),
+        refused(),
+        in_2("refused, format 2", refused()),
+        evals(),
+        in_2("evals, format 2", evals()),
+        long_evals(),
+    ]
+}
+
+// The same picks from the same net in format 2, where every origin has the
+// same row: no address is opened, so that the answers are the same.
+fn in_2(name: &'static str, work: Work) -> Work {
+    let net = read_image(&work.image).expect("what is timed is accepted");
+    let image = write_image(&in_format_2(net));
+    Work {
+        name,
+        image,
+        ..work
+    }
 }
 
 const ADDRESS_COUNT: usize = 4;

@@ -4,11 +4,11 @@
 use cavindorum_exports::{
     refusal_place, register_in, register_text_in, run, run_text, LONGEST_REGISTER, STACK,
 };
-use cavindorum_tests::by_hand::{longest, PAPER_IMAGE};
+use cavindorum_tests::by_hand::{longest, longest_of_format_2, PAPER_IMAGE};
 use cavindorum_tests::edges::edges;
 use cavindorum_tests::examples::{damaged, examples};
 use cavindorum_tests::faulty::faulty_images;
-use cavindorum_tests::generate::{damaged_image, picks, valid_image};
+use cavindorum_tests::generate::{by_origin_net, damaged_image, picks, valid_image};
 use cavindorum_tests::image::{answer, read_image, write_image};
 use cavindorum_tests::net::{Net, Row};
 use cavindorum_tests::notation::edges::{chain, edges as text_edges};
@@ -137,7 +137,9 @@ fn the_examples() {
     for example in examples() {
         let picks: Vec<u8> = example.picks.iter().map(|(pick, _)| *pick).collect();
         IMAGE.compare(&write_image(&example.net), &picks);
-        TEXT.compare(example.notation.as_bytes(), &picks);
+        if let Some(text) = example.text() {
+            TEXT.compare(text.as_bytes(), &picks);
+        }
     }
     IMAGE.compare(&damaged::image(), &damaged::picks());
     assert_eq!(compare_place(&damaged::image()), (24, 52));
@@ -146,15 +148,19 @@ fn the_examples() {
 /// More bytes than the reader looks at, and more picks than a register has.
 #[test]
 fn long_images_and_long_lists() {
-    let longest = write_image(&longest());
-    for length in [14_749, 14_750, 16_383, 16_384, 16_385, 40_000, 1_000_000] {
-        for head in [&longest[..], &PAPER_IMAGE[..]] {
+    let [longest, other] = [longest(), longest_of_format_2()].map(|net| write_image(&net));
+    for length in [
+        14_749, 14_750, 16_384, 16_698, 16_699, 16_700, 40_000, 1_000_000,
+    ] {
+        for head in [&longest[..], &other, &PAPER_IMAGE] {
             let mut image = head.to_vec();
             image.resize(length, 0);
             IMAGE.compare(&image, &[0, 4, 0x10]);
             compare_place(&image);
         }
     }
+    assert_eq!(compare_place(&longest), (0, 0));
+    assert_eq!(compare_place(&other), (0, 0));
     for length in [65_535, 65_536, 65_537, 200_000] {
         IMAGE.compare(&PAPER_IMAGE, &vec![0; length]);
     }
@@ -173,6 +179,17 @@ fn random_images() {
         let list = some_picks(&mut random, read_image(&image));
         IMAGE.compare(&image, &list);
         IMAGE.compare(&damaged_image(&mut random), &list);
+    }
+}
+
+/// Of format 2, with sent code and news.
+#[test]
+fn random_images_in_which_origins_matter() {
+    let mut random = Random::new(605);
+    for _ in 0..500 {
+        let net = by_origin_net(&mut random);
+        let list = picks(&mut random, &net, 100);
+        IMAGE.compare(&write_image(&net), &list);
     }
 }
 
@@ -224,14 +241,14 @@ fn within_the_stated_stack(calls: impl FnOnce() + Send + 'static) {
 }
 
 /// The place of no fault, of one after the code and of one in the rows, in
-/// the longest image and in a net with every action.
+/// the longest image and in a net with every action, of each format.
 #[test]
 fn places_within_the_stated_stack() {
     for load in loads() {
         let image = load.image();
         let longer = [&image[..], &[0]].concat();
         let mut barred = load.net;
-        barred.nodes[14].row = Row::ZERO;
+        barred.each_row(14, |row| *row = Row::ZERO);
         for image in [image, longer, write_image(&barred)] {
             let expected = answer(&image);
             within_the_stated_stack(move || assert_eq!(refusal_place(&image), expected.1));
@@ -239,11 +256,11 @@ fn places_within_the_stated_stack() {
     }
 }
 
-/// All other calls, on the longest image and on a net with every action, on
-/// the deepest text and on the widest.
+/// All other calls, on the longest image and on a net with every action of
+/// each format, on the deepest text and on the widest.
 #[test]
 fn calls_within_the_stated_stack() {
-    let [_, busy] = loads();
+    let [_, busy, ..] = loads();
     let images = loads().map(|load| (IMAGE, load.image()));
     let texts = texts().map(|text| (TEXT, text));
     for (form, net) in images.into_iter().chain(texts) {

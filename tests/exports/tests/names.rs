@@ -36,13 +36,14 @@ fn compare_lists(site: &[u8], office: &[u8]) -> u8 {
     for example in examples() {
         let picks: Vec<u8> = example.picks.iter().map(|(pick, _)| *pick).collect();
         let image = write_image(&example.net);
-        let text = example.notation.as_bytes();
         compare(&register_named(&image, &picks, &names), |out| {
             named_register_in(&image, &picks, lists, out)
         });
-        compare(&register_text_named(text, &picks, &names), |out| {
-            named_register_text_in(text, &picks, lists, out)
-        });
+        if let Some(text) = example.text().map(str::as_bytes) {
+            compare(&register_text_named(text, &picks, &names), |out| {
+                named_register_text_in(text, &picks, lists, out)
+            });
+        }
     }
     number
 }

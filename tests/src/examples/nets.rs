@@ -5,7 +5,7 @@ use super::Example;
 use crate::by_hand::*;
 use crate::net::*;
 
-fn start(net: &mut Net, at: usize, place: u16) {
+pub(super) fn start(net: &mut Net, at: usize, place: u16) {
     let slot = net.nodes[at].free_slot().expect("at most four processes");
     net.nodes[at].processes[slot] = Process::starting(Place(place), Locality(at as u8));
 }
@@ -163,7 +163,7 @@ fn new_address_net() -> Net {
         out(OWN, &[TemplateField::Variable(1)], 5),
     ];
     let mut net = net(1, &code);
-    net.nodes[0].row.create = true;
+    grant_create(&mut net, 0);
     net
 }
 

@@ -1,7 +1,7 @@
 //! Damaged images and damaged nets.
 
 use super::code::{CodeWriter, Style};
-use super::{image_net, net_after_picks, sound_net, valid_net};
+use super::{image_net, net_after_picks, rows_for, sound_net, valid_net};
 use crate::bits::{patch, FieldAt, Sort};
 use crate::image::write_with_fields;
 use crate::net::*;
@@ -31,16 +31,22 @@ pub(super) fn damage_records(random: &mut Random, net: &mut Net) {
     match random.below(5) {
         0 => net.code[at] = out_with_formal(random, net, at as u16),
         1 | 2 => net.code[at] = formal_twice(random, net, at as u16),
-        3 => {
-            let address = random.below(net.address_count as usize);
-            net.nodes[address].row = Row::ZERO;
-        }
+        3 => damaged_rows(random, net).fill(Row::ZERO),
         _ => {
-            let address = random.below(net.address_count as usize);
-            let index = random.below(ADDRESSES);
-            net.nodes[address].row.rights[index] = Rights::NONE;
+            let over = random.below(ADDRESSES);
+            let rows = damaged_rows(random, net);
+            rows.iter_mut()
+                .for_each(|row| row.rights[over] = Rights::NONE);
         }
     }
+}
+
+// The rows of a node for an origin, mostly for itself.
+fn damaged_rows<'a>(random: &mut Random, net: &'a mut Net) -> &'a mut [Row] {
+    let count = net.address_count as usize;
+    let (at, other) = (random.below(count), random.below(count));
+    let origin = if random.percent(80) { at } else { other };
+    rows_for(net.format, &mut net.nodes[at], origin)
 }
 
 fn formal_of(random: &mut Random, variable: u8) -> TemplateField {
@@ -75,13 +81,14 @@ fn formal_twice(random: &mut Random, net: &Net, at: u16) -> Instruction {
 
 // Damage to the bytes of an image.
 fn damage_bytes(random: &mut Random, net: &Net, fields: &[FieldAt], bytes: &mut Vec<u8>) {
-    match random.below(16) {
+    match random.below(17) {
         0..=2 => flip_bit(random, bytes),
         3 => bytes.truncate(random.below(bytes.len() + 1)),
         4 => bytes.truncate(bytes.len().saturating_sub(1)),
         5 => bytes.push(random.choose(&[0, 0, 1, 0x80, 0xFF])),
         6 => set_last_bit(bytes),
         7 => *bytes = noise(random),
+        8 => change_format(bytes),
         _ => damage_field(random, net, fields, bytes),
     }
 }
@@ -99,11 +106,18 @@ fn set_last_bit(bytes: &mut [u8]) {
     }
 }
 
+// Format 1 becomes 2, and format 2 becomes 1.
+fn change_format(bytes: &mut [u8]) {
+    if let Some(first) = bytes.first_mut() {
+        *first ^= 0x30;
+    }
+}
+
 // Random bytes, at times with a head that lets the reader go on.
 fn noise(random: &mut Random) -> Vec<u8> {
     let length = random.below(60);
     let mut bytes: Vec<u8> = (0..length).map(|_| random.byte()).collect();
-    let head = [0x10, 0x80, random.byte() & 0x7F];
+    let head = [random.choose(&[0x10, 0x20]), 0x80, random.byte() & 0x7F];
     if random.percent(70) && bytes.len() > 3 {
         bytes[..3].copy_from_slice(&head);
     }
@@ -131,7 +145,7 @@ fn damage_field(random: &mut Random, net: &Net, fields: &[FieldAt], bytes: &mut 
 pub(super) fn bad_number(random: &mut Random, net: &Net, field: FieldAt) -> u32 {
     let any = random.number() as u32;
     match field.sort {
-        Sort::Format => random.choose(&[0, 2, 3, 5, 9, 15]),
+        Sort::Format => random.choose(&[0, 3, 4, 6, 9, 15]),
         Sort::AddressCount => random.choose(&[0, 17, 18, 31]),
         Sort::CodeLength => random.choose(&[0, 513, 514, 768, 1023]),
         Sort::ProcessCount => random.between(5, 7) as u32,
@@ -172,13 +186,23 @@ pub fn random_net(random: &mut Random) -> Net {
 
 /// Changes one record of a net at random; it may stay sound.
 pub fn change_record(random: &mut Random, net: &mut Net) {
-    match random.below(20) {
+    match random.below(22) {
         0 => net.address_count = wild_count(random, net.address_count as usize, 16) as u8,
         1 => net.code_length = wild_count(random, net.code_length as usize, 512) as u16,
         2..=4 => change_row(random, net),
         5..=8 => change_process(random, net),
         9..=12 => change_tuples(random, net),
+        13 => net.format = wild_format(random),
+        14 => change_row(random, net),
         _ => change_code(random, net),
+    }
+}
+
+// Either format, or none.
+fn wild_format(random: &mut Random) -> u8 {
+    match random.below(10) {
+        0..=8 => random.choose(&[0, 1, 2, 3, 17, 18, 255]),
+        _ => random.byte(),
     }
 }
 
@@ -209,12 +233,22 @@ fn any_instruction(random: &mut Random, net: &Net) -> usize {
     any_index(random, net.code_length as usize, INSTRUCTIONS, 9)
 }
 
+// One right in one row of a node, or in all that an image's row gives.
 fn change_row(random: &mut Random, net: &mut Net) {
-    let over = any_node(random, net);
-    let node = any_node(random, net);
-    let row = &mut net.nodes[node].row;
+    let (at, origin) = (any_node(random, net), any_node(random, net));
+    let (over, right) = (any_node(random, net), random.below(5));
+    if random.percent(50) {
+        change_right(&mut net.nodes[at].rows[origin], over, right);
+        return;
+    }
+    for row in rows_for(net.format, &mut net.nodes[at], origin) {
+        change_right(row, over, right);
+    }
+}
+
+fn change_right(row: &mut Row, over: usize, right: usize) {
     let rights = &mut row.rights[over];
-    match random.below(5) {
+    match right {
         0 => row.create = !row.create,
         1 => rights.take = !rights.take,
         2 => rights.read = !rights.read,

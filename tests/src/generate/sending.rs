@@ -1,20 +1,19 @@
 //! Nets in whose runs code is sent, sent on and forked often.
 
 use super::{address, fill_processes, place};
-use crate::by_hand::{eval, fork, new, out, OWN};
+use crate::by_hand::{eval, fork, grant, grant_create, new, out, OWN};
 use crate::net::*;
 use crate::random::Random;
 
-/// A net as an accepted image gives it, with all rights and code of mostly
-/// evals, forks and stops.
+/// A net as an accepted image of either format gives it, with all rights and
+/// code of mostly evals, forks and stops.
 pub fn sending_net(random: &mut Random) -> Net {
-    let mut net = Net::empty();
-    net.address_count = random.choose(&[2, 3, 3, 4, 5, 15, 16]);
-    net.code_length = random.between(4, 16) as u16;
-    let count = net.address_count as usize;
-    for node in &mut net.nodes[..count] {
-        node.row.create = true;
-        node.row.rights[..count].fill(Rights::ALL);
+    let count = random.choose(&[2, 3, 3, 4, 5, 15, 16]);
+    let length = random.between(4, 16) as u16;
+    let mut net = Net::of(random.choose(&FORMATS), count as u8, length);
+    for at in 0..count {
+        grant_create(&mut net, at);
+        (0..count).for_each(|over| grant(&mut net, at, over, Rights::ALL));
     }
     fill_processes(random, &mut net);
     for at in 0..net.code_length as usize {

@@ -37,13 +37,18 @@ fn image_nets_are_written_and_read_back() {
 // begins, counted from the layout.
 fn first_beyond_row(net: &Net) -> Option<usize> {
     let addresses = net.address_count as usize;
-    let mut bit = 19 + addresses * (1 + 4 * addresses);
+    let rows = match net.format {
+        SINGLE_ROW => addresses,
+        _ => addresses * addresses,
+    };
+    let mut bit = 19 + rows * (1 + 4 * addresses);
     for address in 0..net.address_count {
-        let node = &net.nodes[address as usize];
+        let (node, own) = (&net.nodes[address as usize], Locality(address));
+        let row = node.row_for(own);
         bit += 3;
         for process in &node.processes[..node.busy_slots()] {
             let (code, length) = (&net.code[..], net.code_length);
-            if !keeps_within(code, length, process.at, Locality(address), &node.row) {
+            if !keeps_within(code, length, process.at, own, row) {
                 return Some(bit);
             }
             bit += 9;
@@ -191,6 +196,75 @@ fn random_nets_are_sound_and_not() {
     assert!((1200..2800).contains(&nets), "{nets}");
 }
 
+/// Of both formats alike, and some of none.
+#[test]
+fn random_nets_are_of_both_formats_and_of_none() {
+    let mut random = Random::new(34);
+    let mut met = [0; 3];
+    for _ in 0..4000 {
+        match random_net(&mut random).format {
+            SINGLE_ROW => met[0] += 1,
+            ROW_BY_ORIGIN => met[1] += 1,
+            _ => met[2] += 1,
+        }
+    }
+    assert!(met[0] > 1500 && met[1] > 1500 && met[2] > 50, "{met:?}");
+}
+
+// The net that a net would be without what is wrong in its rows by its
+// format: of format 1 all rows like the first, of format 2 none for unused
+// origins, of no format no rows at all.
+fn with_right_rows(net: &Net) -> Net {
+    let (mut net, count) = (net.clone(), net.row_count());
+    for node in net.nodes.iter_mut() {
+        match net.format {
+            SINGLE_ROW => node.rows = [node.rows[0]; ADDRESSES],
+            ROW_BY_ORIGIN => node.rows[count..].fill(Row::ZERO),
+            _ => node.rows.fill(Row::ZERO),
+        }
+    }
+    if !FORMATS.contains(&net.format) {
+        net.format = SINGLE_ROW;
+    }
+    net
+}
+
+/// Some nets are not sound by this alone: unequal rows in format 1, rights for
+/// unused origins in format 2, no format.
+#[test]
+fn random_nets_are_not_sound_by_their_rows() {
+    let mut random = Random::new(35);
+    let mut met = [0; 3];
+    for _ in 0..4000 {
+        let net = random_net(&mut random);
+        if !sound(&net) && sound(&with_right_rows(&net)) {
+            match net.format {
+                SINGLE_ROW => met[0] += 1,
+                ROW_BY_ORIGIN => met[1] += 1,
+                _ => met[2] += 1,
+            }
+        }
+    }
+    assert!(met.iter().all(|count| *count > 40), "{met:?}");
+}
+
+/// Those of format 1 and those of format 2 are damaged alike.
+#[test]
+fn damaged_images_of_both_formats_meet_every_number() {
+    let mut random = Random::new(36);
+    let mut met = [[0; 31]; 3];
+    for _ in 0..10_000 {
+        let image = damaged_image(&mut random);
+        let format = image.first().map_or(0, |first| usize::from(first >> 4));
+        let (number, _) = answer(&image);
+        met[format.min(3) % 3][number as usize] += 1;
+    }
+    for met in &met[1..] {
+        assert!(met[0] > 100, "{met:?}");
+        assert!(met[22..].iter().all(|count| *count > 50), "{met:?}");
+    }
+}
+
 // A net whose tuples are all from address 0.
 fn without_marks(net: &Net) -> Net {
     let mut net = net.clone();
@@ -221,14 +295,6 @@ fn random_nets_are_not_sound_by_a_mark() {
         }
     }
     assert!(met.iter().all(|count| *count > 20), "{met:?}");
-}
-
-// A net whose processes all have address 0 as origin.
-fn without_origins(net: &Net) -> Net {
-    let mut net = net.clone();
-    let processes = net.nodes.iter_mut().flat_map(|node| &mut node.processes);
-    processes.for_each(|process| process.origin = Locality(0));
-    net
 }
 
 // Whether a free slot has an origin that is not 0.

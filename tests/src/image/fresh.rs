@@ -6,9 +6,10 @@ use super::starts_keep_within;
 use crate::net::*;
 use crate::sound::sound;
 
-/// Whether an accepted image gives this net: it is sound, its processes stand
-/// in the lowest slots with no variable set and keep within their rows, and
-/// each has its own node as origin, as each tuple has it as mark.
+/// Whether an accepted image, of either format, gives this net: it is sound,
+/// its processes stand in the lowest slots with no variable set and keep
+/// within their nodes' rows for themselves, and each has its own node as
+/// origin, as each tuple has it as mark.
 pub fn fresh(net: &Net) -> bool {
     sound(net) && starts_keep_within(net) && nodes_fresh(net)
 }
@@ -53,11 +54,30 @@ mod tests {
 
     #[test]
     fn a_fresh_net_has_an_image() {
-        let net = small();
-        let image = image_of(&net).expect("it is fresh");
-        assert_eq!(read_image(&image), Ok(net));
+        for net in [small(), in_format_2(small()), longest_of_format_2()] {
+            let image = image_of(&net).expect("it is fresh");
+            assert_eq!(read_image(&image), Ok(net));
+        }
         assert_eq!(image_of(&paper_net()), Ok(PAPER_IMAGE.to_vec()));
         assert!(fresh(&longest()));
+    }
+
+    /// Once nothing runs, an image of either format gives the rows that a new
+    /// leaves.
+    #[test]
+    fn a_net_after_a_new_and_a_stop_has_an_image() {
+        for format in FORMATS {
+            let mut net = net(2, &[new(0, 1)]);
+            grant_create(&mut net, 0);
+            if format == ROW_BY_ORIGIN {
+                net = in_format_2(net);
+            }
+            assert_eq!(pick(&mut net, 0), 0);
+            assert_eq!(image_of(&net), REFUSED);
+            assert_eq!(pick(&mut net, 0), 1);
+            let image = image_of(&net).expect("it is fresh");
+            assert_eq!(read_image(&image), Ok(net));
+        }
     }
 
     /// Though both nets are sound, and their images are accepted.
@@ -106,13 +126,31 @@ mod tests {
         }
     }
 
+    /// A node's row for itself has to hold what its processes need.
+    #[test]
+    fn the_rows_of_format_2_count_one_by_one() {
+        for (origin, fresh) in [(0, false), (1, true)] {
+            let mut net = in_format_2(small());
+            net.nodes[0].rows[origin] = Row::ZERO;
+            assert_eq!(image_of(&net).is_ok(), fresh);
+        }
+        let mut net = in_format_2(small());
+        net.nodes[0].rows[2].create = true;
+        assert_eq!(image_of(&net), REFUSED);
+    }
+
     #[test]
     fn other_nets_are_36() {
-        let changes: [fn(&mut Net); 6] = [
+        let changes: [fn(&mut Net); 11] = [
+            |net| net.format = 0,
+            |net| net.format = 2,
+            |net| net.format = 3,
+            |net| net.nodes[0].rows[15] = Row::ZERO,
+            |net| net.nodes[1].rows[0].create = true,
             |net| *net = Net::empty(),
             |net| net.nodes[0].processes[0].variables[0] = Value::Reading(0),
             |net| net.nodes[0].processes[0] = Process::FREE,
-            |net| net.nodes[0].row = Row::ZERO,
+            |net| net.each_row(0, |row| *row = Row::ZERO),
             |net| net.nodes[0].tuples[1].from = Locality(1),
             |net| net.nodes[0].processes[1].at = Place(2),
         ];

@@ -1,6 +1,6 @@
 //! Reading an image field by field (document 01, "The image" and "Numbers for
-//! an image"; document 02, slip 2). Each field knows the bit at which it
-//! begins, and a fault carries that of the field at fault.
+//! an image"; document 02, slips 2 and 10). Each field knows the bit at which
+//! it begins, and a fault carries that of the field at fault.
 
 use super::*;
 use crate::bits::BitReader;
@@ -113,18 +113,32 @@ impl ImageReader<'_> {
     // Part 1: format, address count, code length.
     fn counts(&mut self) -> Result<(), Fault> {
         let format = self.field(4)?;
-        format.judged(format.number == 1, WRONG_FORMAT)?;
+        let known = FORMATS.map(u32::from).contains(&format.number);
+        self.net.format = format.judged(known, WRONG_FORMAT)? as u8;
         self.net.address_count = self.count(5, 1, ADDRESSES as u32)? as u8;
         self.net.code_length = self.count(10, 1, INSTRUCTIONS as u32)? as u16;
         Ok(())
     }
 
-    // Part 2: the rows.
+    // Part 2: the rows of each node.
     fn rows(&mut self) -> Result<(), Fault> {
         for address in 0..self.net.address_count as usize {
-            self.net.nodes[address].row = self.row()?;
+            self.net.nodes[address].rows = self.rows_of_node()?;
         }
         Ok(())
+    }
+
+    // In format 1 a single row, for every origin; in format 2 one for each
+    // origin in use, ascending.
+    fn rows_of_node(&mut self) -> Result<[Row; ADDRESSES], Fault> {
+        if self.net.format == SINGLE_ROW {
+            return Ok([self.row()?; ADDRESSES]);
+        }
+        let mut rows = [Row::ZERO; ADDRESSES];
+        for row in &mut rows[..self.net.address_count as usize] {
+            *row = self.row()?;
+        }
+        Ok(rows)
     }
 
     fn row(&mut self) -> Result<Row, Fault> {

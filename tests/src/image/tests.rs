@@ -6,6 +6,8 @@
 //! 27 the first starting place, or the tuple count where there is none. What
 //! `with_tuple` and `with_code` write begins at bit 32.
 
+mod format_2;
+
 use super::*;
 use crate::by_hand::*;
 
@@ -57,9 +59,10 @@ fn thirty_comes_after_all_others() {
 }
 
 #[test]
-fn a_format_other_than_1_is_21() {
+fn a_format_other_than_1_and_2_is_21() {
     for format in 0..16u8 {
-        let expected = if format == 1 { (28, 4) } else { (21, 0) };
+        let known = format == 1 || format == 2;
+        let expected = if known { (28, 4) } else { (21, 0) };
         assert_eq!(answer(&[format << 4]), expected);
     }
 }
@@ -223,7 +226,8 @@ fn twenty_seven_waits_for_the_second_variable() {
 
 #[test]
 fn the_first_fault_in_bit_order_is_reported() {
-    assert_eq!(answer(&bits("0010 00000 0000000000")), (21, 0));
+    assert_eq!(answer(&bits("0011 00000 0000000000")), (21, 0));
+    assert_eq!(answer(&bits("0010 00000 0000000000")), (22, 4));
     assert_eq!(
         answer(&bits("0001 00001 0000000001 0 0000 101 111111111")),
         (22, 24)
@@ -338,7 +342,7 @@ fn rights_stand_in_the_order_i_r_o_e() {
     let bytes = bits("0001 00010 0000000001 1 1000 0100 0 0010 0001 000 000 00000 00000 000");
     let net = read_image(&bytes).unwrap();
     let none = Rights::NONE;
-    let (first, second) = (net.nodes[0].row, net.nodes[1].row);
+    let (first, second) = (net.nodes[0].rows[0], net.nodes[1].rows[1]);
     assert!(first.create && !second.create);
     assert_eq!(first.rights[0], Rights { take: true, ..none });
     assert_eq!(first.rights[1], Rights { read: true, ..none });
@@ -415,7 +419,7 @@ fn a_starting_read_needs_i_or_r_and_a_starting_in_needs_i() {
 fn a_row_with_i_alone_comes_back_unchanged() {
     let bytes = with_start(0b1000, "011 01 00 010 000000000");
     let net = read_image(&bytes).unwrap();
-    assert_eq!(net.nodes[0].row.rights[0], TAKE);
+    assert!(net.nodes[0].rows.iter().all(|row| row.rights[0] == TAKE));
     assert_eq!(write_image(&net), bytes);
 }
 

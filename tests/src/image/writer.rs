@@ -1,4 +1,5 @@
-//! Writing an image field by field (document 01, "The image").
+//! Writing an image field by field (document 01, "The image"; document 02,
+//! slip 10).
 
 use crate::bits::{BitWriter, FieldAt, Sort};
 use crate::net::*;
@@ -10,9 +11,7 @@ pub fn write(net: &Net) -> (Vec<u8>, Vec<FieldAt>) {
     };
     let nodes = &net.nodes[..net.address_count as usize];
     writer.counts(net);
-    nodes
-        .iter()
-        .for_each(|node| writer.row(&node.row, nodes.len()));
+    writer.rows(net.format, nodes);
     nodes.iter().for_each(|node| writer.processes(node));
     nodes.iter().for_each(|node| writer.tuples(node));
     let code = &net.code[..net.code_length as usize];
@@ -49,13 +48,26 @@ impl ImageWriter {
 
     // Part 1.
     fn counts(&mut self, net: &Net) {
-        self.bits.put(Sort::Format, 4, 1);
+        self.bits.put(Sort::Format, 4, net.format as u32);
         self.bits
             .put(Sort::AddressCount, 5, net.address_count as u32);
         self.bits.put(Sort::CodeLength, 10, net.code_length as u32);
     }
 
-    // Part 2.
+    // Part 2. In format 2 the rows of a node for each origin in use,
+    // otherwise the one for itself.
+    fn rows(&mut self, format: u8, nodes: &[Node]) {
+        for (address, node) in nodes.iter().enumerate() {
+            let origins = match format {
+                ROW_BY_ORIGIN => 0..nodes.len(),
+                _ => address..address + 1,
+            };
+            for row in &node.rows[origins] {
+                self.row(row, nodes.len());
+            }
+        }
+    }
+
     fn row(&mut self, row: &Row, addresses: usize) {
         self.bits.put(Sort::Create, 1, row.create as u32);
         for rights in &row.rights[..addresses] {

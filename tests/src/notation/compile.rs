@@ -2,20 +2,19 @@
 //! the sizes of what stands before them. The reader is compared with it.
 
 use super::source::*;
-use crate::net::{self, Instruction, Net, Place};
+use crate::net::{self, Instruction, Net, Place, ADDRESSES, SINGLE_ROW};
 
-/// The net of a tree without faults 22, 23, 26, 27, 31, 32 and 33. Rows are
-/// not judged.
+/// The net, of format 1, of a tree without faults 22, 23, 26, 27, 31, 32 and
+/// 33. Rows are not judged.
 pub fn compile(source: &Source) -> Net {
+    let (addresses, length) = (source.rows.len() as u8, source.size() as u16);
     let mut compiler = Compiler {
         source,
         bases: bases(source),
-        net: Net::empty(),
+        net: Net::of(SINGLE_ROW, addresses, length),
     };
-    compiler.net.address_count = source.rows.len() as u8;
-    compiler.net.code_length = source.size() as u16;
     for (node, row) in compiler.net.nodes.iter_mut().zip(&source.rows) {
-        node.row = *row;
+        node.rows = [*row; ADDRESSES];
     }
     for (index, line) in source.lines.iter().enumerate() {
         compiler.line(index, line);

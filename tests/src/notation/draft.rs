@@ -43,9 +43,13 @@ pub struct Draft {
 }
 
 impl Draft {
-    /// The nodes of these rows, and nothing else.
+    /// The nodes of these rows, each for code of every origin, and nothing
+    /// else.
     pub fn new(rows: Vec<Row>) -> Draft {
-        let node = |row| Node { row, ..Node::ZERO };
+        let node = |row| Node {
+            rows: [row; ADDRESSES],
+            ..Node::ZERO
+        };
         Draft {
             address_count: rows.len() as u8,
             names: Names::new(),
@@ -103,16 +107,14 @@ impl Draft {
 
     // The end of the text.
 
-    /// The net, once the text has ended: names are judged first, then the
-    /// number of instructions. Rows are not judged.
+    /// The net, of format 1, once the text has ended: names are judged first,
+    /// then the number of instructions. Rows are not judged.
     pub fn net(&self) -> Result<Net, u8> {
         let firsts = self.names.firsts()?;
         if self.code.is_empty() || self.code.len() > INSTRUCTIONS {
             return Err(COUNT_OUT_OF_RANGE);
         }
-        let mut net = Net::empty();
-        net.address_count = self.address_count;
-        net.code_length = self.code.len() as u16;
+        let mut net = Net::of(SINGLE_ROW, self.address_count, self.code.len() as u16);
         net.nodes[..self.nodes.len()].clone_from_slice(&self.nodes);
         for (address, starts) in self.starts.iter().enumerate() {
             let processes = &mut net.nodes[address].processes;

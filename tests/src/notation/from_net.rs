@@ -4,8 +4,8 @@
 use super::source::*;
 use crate::net::{self, Instruction, Locality, Net, Place};
 
-/// The tree of a net that an image can write: rows, code, and for each
-/// address its processes and its tuples.
+/// The tree of a net that an image of format 1 can write: rows, code, and for
+/// each address its processes and its tuples.
 pub fn from_net(net: &Net) -> Source {
     let nodes = &net.nodes[..net.address_count as usize];
     let code = &net.code[..net.code_length as usize];
@@ -20,7 +20,7 @@ pub fn from_net(net: &Net) -> Source {
         let held = &node.tuples[..node.tuple_count as usize];
         lines.extend(held.iter().map(|tuple| Line::Held(at, *tuple)));
     }
-    let rows = nodes.iter().map(|node| node.row).collect();
+    let rows = nodes.iter().map(|node| node.rows[0]).collect();
     Source { rows, lines }
 }
 

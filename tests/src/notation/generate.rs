@@ -10,8 +10,8 @@ use super::from_net::from_net;
 use super::print::text;
 use super::source::*;
 use super::{DEPTH, NAMES};
-use crate::generate::{grant_needed, valid_net};
-use crate::net::{Locality, Row};
+use crate::generate::{grant_needed, valid_net_of};
+use crate::net::{Locality, Row, SINGLE_ROW};
 use crate::random::Random;
 use code::Planner;
 
@@ -19,7 +19,7 @@ use code::Planner;
 /// their rows; mostly they do not.
 pub fn source(random: &mut Random) -> Source {
     let mut source = match random.below(10) {
-        0..=3 => from_net(&valid_net(random)),
+        0..=3 => from_net(&valid_net_of(random, SINGLE_ROW)),
         4..=8 => planned(random),
         _ => deep(random),
     };
@@ -40,7 +40,7 @@ pub fn grant_rows(source: &mut Source) {
     let mut net = compile(source);
     grant_needed(&mut net);
     let count = source.rows.len();
-    source.rows = net.nodes[..count].iter().map(|node| node.row).collect();
+    source.rows = net.nodes[..count].iter().map(|node| node.rows[0]).collect();
 }
 
 // Lines in any order.

@@ -6,8 +6,9 @@ use super::generate::damage::{damage_byte, damaged_text, one_byte_off};
 use super::generate::{source, valid_text};
 use super::print::text;
 use super::read_text;
-use crate::generate::valid_net;
+use crate::generate::valid_net_of;
 use crate::image::{read_image, starts_keep_within, write_image};
+use crate::net::SINGLE_ROW;
 use crate::random::Random;
 use crate::sound::sound;
 
@@ -38,21 +39,22 @@ fn a_tree_s_text_gives_its_net() {
 fn a_net_s_text_gives_the_net_of_its_image() {
     let mut random = Random::new(72);
     for _ in 0..5_000 {
-        let net = valid_net(&mut random);
+        let net = valid_net_of(&mut random, SINGLE_ROW);
         let text = text(&from_net(&net));
         let expected = read_image(&write_image(&net)).map_err(|fault| fault.number);
         assert!(read_text(&text) == expected, "{}", shown(&text));
     }
 }
 
-/// An accepted text's net is sound, and its image gives it back.
+/// An accepted text's net is sound and of format 1, and its image gives it
+/// back.
 #[test]
 fn accepted_nets_are_those_of_images() {
     let mut random = Random::new(73);
     let mut accepted = 0;
     for _ in 0..20_000 {
         if let Ok(net) = read_text(&one_byte_off(&mut random)) {
-            assert!(sound(&net));
+            assert!(sound(&net) && net.format == SINGLE_ROW);
             assert_eq!(read_image(&write_image(&net)).as_ref(), Ok(&net));
             accepted += 1;
         }

@@ -45,7 +45,7 @@ fn the_paper_s_net() {
 fn the_paper_s_row() {
     let net = read_text(b"0 has n 0:io 1:r\n1 has\nA0 = nil\n").expect("it is accepted");
     let mut expected = stops(2, 1);
-    expected.nodes[0].row.create = true;
+    grant_create(&mut expected, 0);
     grant(&mut expected, 0, 0, Rights { put: true, ..TAKE });
     grant(&mut expected, 0, 1, READ);
     assert_eq!(net, expected);
@@ -56,7 +56,7 @@ fn the_paper_s_row() {
 fn a_row_with_i_alone_comes_back_unchanged() {
     let text = "0 has 0:i\nA0 = read(5)@self.A0\n0 :: A0\n";
     let net = read_text(text.as_bytes()).expect("it is accepted");
-    assert_eq!(net.nodes[0].row.rights[0], TAKE);
+    assert!(net.nodes[0].rows.iter().all(|row| row.rights[0] == TAKE));
     assert_eq!(print::text(&from_net::from_net(&net)), text.as_bytes());
 }
 
@@ -146,7 +146,7 @@ fn lines_in_any_order() {
     assert_eq!(number(text.as_bytes()), 30);
     let text = text.replace("1 has\n", "1 has n\n");
     let mut expected = stops(2, 5);
-    expected.nodes[1].row.create = true;
+    grant_create(&mut expected, 1);
     expected.code[1] = new(7, 2);
     let started = |at: u8, places: &[u16]| {
         let mut processes = [Process::FREE; SLOTS];

@@ -1,5 +1,7 @@
 //! Reaching, keeping within a row, and soundness.
 
+mod rows;
+
 use super::*;
 use crate::by_hand::{self, eval, fork, new, read, take, PUT, READ, SEND, TAKE};
 use crate::generate::{image_net, net_after_picks, random_net, sound_net};
@@ -123,9 +125,7 @@ fn a_new_needs_n_and_a_fork_nothing() {
 
 /// Two addresses, three instructions, one process and one tuple each.
 fn small() -> Net {
-    let mut net = Net::empty();
-    net.address_count = 2;
-    net.code_length = 3;
+    let mut net = Net::of(SINGLE_ROW, 2, 3);
     let read = Action::Read {
         target: Target::Variable(7),
         next: Place(2),
@@ -136,8 +136,9 @@ fn small() -> Net {
     ];
     net.code[0] = Instruction::with(read, &fields);
     net.code[1] = out(Target::Written(Locality(1)), 2);
-    for (address, node) in net.nodes[..2].iter_mut().enumerate() {
-        node.row.rights[1] = Rights::ALL;
+    for address in 0..2 {
+        net.each_row(address, |row| row.rights[1] = Rights::ALL);
+        let node = &mut net.nodes[address];
         node.processes[2] = Process::starting(Place(2), Locality(address as u8));
         node.processes[2].variables[7] = Value::Address(Locality(1));
         node.tuples[0] = Tuple::of(&[Field::Address(Locality(1)), Field::Reading(3)]);
@@ -291,11 +292,16 @@ fn code_meets_rules_26_and_27() {
 
 #[test]
 fn no_right_by_or_over_an_unused_address() {
-    assert!(!after(|net| net.nodes[0].row.rights[2].read = true));
-    assert!(!after(|net| net.nodes[1].row.rights[15].send = true));
-    assert!(!after(|net| net.nodes[2].row.rights[0].take = true));
-    assert!(!after(|net| net.nodes[2].row.create = true));
-    assert!(after(|net| net.nodes[1].row.create = true));
+    let all = |at: usize, over: usize| {
+        move |net: &mut Net| net.each_row(at, |row| row.rights[over] = Rights::ALL)
+    };
+    assert!(after(all(0, 0)));
+    assert!(!after(all(0, 2)));
+    assert!(!after(all(1, 15)));
+    assert!(!after(all(2, 0)));
+    assert!(after(|net| net.each_row(1, |row| row.create = true)));
+    assert!(!after(|net| net.each_row(2, |row| row.create = true)));
+    assert!(!after(|net| net.each_row(15, |row| row.create = true)));
 }
 
 #[test]

@@ -2,6 +2,7 @@
 
 mod marks;
 mod origins;
+mod rows;
 
 use super::*;
 use crate::by_hand::*;
@@ -325,12 +326,13 @@ fn sent_code_may_not_take_where_the_target_may_read() {
 #[test]
 fn a_new_row_has_i_without_r_where_the_creator_s_has() {
     let mut net = net(1, &[new(0, 1)]);
-    net.nodes[0].row.create = true;
+    grant_create(&mut net, 0);
     grant(&mut net, 0, 0, TAKE);
     let (answer, after) = picked(&net);
     assert_eq!(answer, 0);
-    assert_eq!(after.nodes[1].row.rights[0], TAKE);
-    assert_eq!(after.nodes[0].row.rights[0], TAKE);
+    for row in after.nodes[..2].iter().flat_map(|node| &node.rows) {
+        assert_eq!(row.rights[0], TAKE);
+    }
 }
 
 #[test]
@@ -476,7 +478,7 @@ fn a_fork_from_another_slot_uses_slot_0() {
 #[test]
 fn new_shares_the_creator_s_row() {
     let mut net = net(3, &[new(7, 1)]);
-    net.nodes[0].row.create = true;
+    grant_create(&mut net, 0);
     grant(&mut net, 0, 0, READ);
     grant(&mut net, 0, 2, PUT);
     grant(&mut net, 1, 0, Rights::ALL);
@@ -484,7 +486,7 @@ fn new_shares_the_creator_s_row() {
     assert_eq!(answer, 0);
     let mut expected = net.clone();
     expected.address_count = 4;
-    expected.nodes[3].row = net.nodes[0].row;
+    expected.nodes[3].rows = net.nodes[0].rows;
     grant(&mut expected, 3, 3, Rights::ALL);
     grant(&mut expected, 0, 3, Rights::ALL);
     set(&mut expected, 7, Value::Address(Locality(3)));
@@ -496,7 +498,7 @@ fn new_shares_the_creator_s_row() {
 fn creation_at_15_is_0_and_at_16_is_3_or_4() {
     let mut net = net(15, &[new(0, 0)]);
     assert_eq!(unchanged(&net), 4);
-    net.nodes[0].row.create = true;
+    grant_create(&mut net, 0);
     assert_eq!(pick(&mut net, 0), 0);
     assert_eq!(net.address_count, 16);
     assert_eq!(
@@ -504,7 +506,7 @@ fn creation_at_15_is_0_and_at_16_is_3_or_4() {
         Value::Address(Locality(15))
     );
     assert_eq!(unchanged(&net), 3);
-    net.nodes[0].row.create = false;
+    net.each_row(0, |row| row.create = false);
     assert_eq!(unchanged(&net), 4);
 }
 
@@ -528,7 +530,7 @@ fn pick_and_step_agree_on_sound_nets() {
             let answer = pick(&mut net, byte);
             assert_eq!(answer, step(&mut other, byte));
             assert_eq!(net, other);
-            assert!(sound(&net));
+            assert!(sound(&net) && net.format == before.format);
             assert!(answer <= 1 || net == before);
         }
     }

@@ -54,7 +54,7 @@ fn returns_within(name: &str, kilobytes: usize) -> bool {
 fn try_call(name: &str, kilobytes: usize) {
     let found = CALLS.into_iter().find(|(one, _)| *one == name);
     let (_, call) = found.expect("it is a call");
-    let [_, busy] = loads();
+    let [_, busy, ..] = loads();
     let nets: Vec<Vec<u8>> = if name.ends_with("text") {
         texts().into()
     } else {

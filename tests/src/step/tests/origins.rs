@@ -1,8 +1,8 @@
 //! The origins of processes: which a step gives, which it keeps, which are
-//! not sound, and that no answer rests on the others.
+//! not sound, and that in format 1 no answer rests on the others.
 
 use super::*;
-use crate::generate::{picks, set_origins, sound_net};
+use crate::generate::{picks, set_origins, sound_net_of, without_origins};
 use crate::random::Random;
 
 const FIVE: [TemplateField; 1] = [TemplateField::Reading(5)];
@@ -10,9 +10,9 @@ const FIVE: [TemplateField; 1] = [TemplateField::Reading(5)];
 /// A net of three addresses whose rows hold all rights over all three.
 fn three(code: &[Instruction]) -> Net {
     let mut net = net(3, code);
-    for node in &mut net.nodes[..3] {
-        node.row.create = true;
-        node.row.rights[..3].fill(Rights::ALL);
+    for at in 0..3 {
+        grant_create(&mut net, at);
+        (0..3).for_each(|over| grant(&mut net, at, over, Rights::ALL));
     }
     net
 }
@@ -138,7 +138,7 @@ fn every_other_step_keeps_the_origin() {
 fn code_sent_from_a_new_address_has_it_as_origin() {
     let code = [new(0, 1), eval(HELD, 2, 3), eval(written(0), 3, 3)];
     let mut net = net(15, &code);
-    net.nodes[0].row.create = true;
+    grant_create(&mut net, 0);
     grant(&mut net, 0, 0, SEND);
     assert_eq!([0, 0, 0xF0].map(|byte| pick(&mut net, byte)), [0; 3]);
     assert_eq!([origin(&net, 15, 0), origin(&net, 0, 1)], [0, 15]);
@@ -170,22 +170,14 @@ fn an_unsound_origin_is_10() {
     }
 }
 
-/// A net whose processes all have address 0 as origin.
-fn without_origins(net: &Net) -> Net {
-    let mut net = net.clone();
-    let processes = net.nodes.iter_mut().flat_map(|node| &mut node.processes);
-    processes.for_each(|process| process.origin = Locality(0));
-    net
-}
-
-/// Two sound nets that differ in nothing but origins answer the same to every
-/// pick, and still differ in nothing but origins.
+/// Two sound nets of format 1 that differ in nothing but origins answer the
+/// same to every pick, and still differ in nothing but origins.
 #[test]
 fn no_answer_rests_on_an_origin() {
     let mut random = Random::new(22);
     let mut differ = 0;
     for _ in 0..300 {
-        let mut net = sound_net(&mut random);
+        let mut net = sound_net_of(&mut random, SINGLE_ROW);
         let mut other = net.clone();
         set_origins(&mut random, &mut other);
         for byte in picks(&mut random, &net, 60) {
