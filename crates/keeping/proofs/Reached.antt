@@ -12,7 +12,7 @@ use lib.ListN.{length, getD, replicate, List·getD-eq-default}
 use Rattle.keeping.specs.Types.{Place, Action, Instruction}
 use Rattle.net.specs.Records.{instructionAt}
 use Rattle.keeping.specs.Reaching.{Follows, Reaches, itself, onward, followers, Search, meet, meetAll}
-use Rattle.keeping.specs.Reaching.{out-next, in-next, read-next, eval-next, new-next, fork-first, fork-second}
+use Rattle.keeping.specs.Reaching.{out-next, in-next, read-next, eval-next, new-next, fork-first, fork-second, out-all-next}
 use Rattle.keeping.specs.Reaching.{visitFirst, visit, visits, startedAt, reachedOf}
 use Rattle.keeping.specs.Keeping.{permits, permitsMarked, keepsOf}
 use Rattle.keeping.specs.ReachingClaims.{MarkedIsReached, KeepsIsEvery}
@@ -31,6 +31,7 @@ follows-in q _ eval-next = List·Memᴰ·head refl
 follows-in q _ new-next = List·Memᴰ·head refl
 follows-in q _ fork-first = List·Memᴰ·head refl
 follows-in q _ fork-second = List·Memᴰ·tail (List·Memᴰ·head refl)
+follows-in q _ out-all-next = List·Memᴰ·head refl
 
 in-follows : (q : Place) (a : Action) → List·Memᴰ q (followers a) → Follows q a
 unfolding followers
@@ -42,6 +43,7 @@ in-follows q (Action.Eval t sent p) m = rw (List·Memᴰ·eq-of-singleton m) eva
 in-follows q (Action.New v p) m = rw (List·Memᴰ·eq-of-singleton m) new-next
 in-follows q (Action.Fork p r) (List·Memᴰ·head e) = rw e fork-first
 in-follows q (Action.Fork p r) (List·Memᴰ·tail m) = rw (List·Memᴰ·eq-of-singleton m) fork-second
+in-follows q (Action.OutAll g p) m = rw (List·Memᴰ·eq-of-singleton m) out-all-next
 
 -- ---- marks
 marked-meetAll : (q : Place) (s : Search) (ps : List Place) → Marked (s .marks) q → Marked (meetAll s ps .marks) q

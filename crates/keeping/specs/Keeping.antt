@@ -5,6 +5,8 @@ use lib.ListN.{getD}
 use Rattle.net.specs.Choice.{choose, implies, all}
 use Rattle.keeping.specs.Types.{Locality, Place, Row, Target, Action, Instruction}
 use Rattle.net.specs.Records.{rightsAt, instructionAt, placeOf}
+use Rattle.net.specs.declared.locality.Group.{Group}
+use Rattle.net.specs.Groups.{allMembers}
 use Rattle.keeping.specs.Reaching.{reachedOf}
 
 -- ---- the rights of a row: taking covers reading (document 02, slip 6), and no other right includes another
@@ -29,6 +31,10 @@ atTarget (Target.Written l) a may = may l
 atTarget Target.Own a may = may a
 atTarget (Target.Held v) a may = true
 
+-- the right o at each member of a set (document 02, slip 11)
+unfoldable pub mayPutAll : Row → Group → Bool
+mayPutAll r g = allMembers g (mayPut r)
+
 unfoldable pub permits : Row → Locality → Action → Bool
 permits r a Action.Stop = true
 permits r a (Action.Out t p) = atTarget t a (mayPut r)
@@ -37,6 +43,7 @@ permits r a (Action.Read t p) = atTarget t a (mayRead r)
 permits r a (Action.Eval t sent p) = atTarget t a (maySend r)
 permits r a (Action.New v p) = mayCreate r
 permits r a (Action.Fork p q) = true
+permits r a (Action.OutAll g p) = mayPutAll r g
 
 -- every marked instruction has its right
 unfoldable pub permitsMarked : List Bool → List Instruction → Locality → Row → Bool

@@ -19,6 +19,7 @@ pub data Follows (q : Place) : Action → Type 0 where
   new-next : {v : ℕ} → Follows q (Action.New v q)
   fork-first : {p : Place} → Follows q (Action.Fork q p)
   fork-second : {p : Place} → Follows q (Action.Fork p q)
+  out-all-next : {g : _} → Follows q (Action.OutAll g q)
 
 -- the place itself and, over and over, what follows
 pub data Reaches (code : List Instruction) (from : Place) : Place → Type 0 where
@@ -35,6 +36,7 @@ followers (Action.Read t p) = p ∷ []
 followers (Action.Eval t sent p) = p ∷ []
 followers (Action.New v p) = p ∷ []
 followers (Action.Fork p q) = p ∷ q ∷ []
+followers (Action.OutAll g p) = p ∷ []
 
 pub record Search : Type 0 where
   pub marks : List Bool

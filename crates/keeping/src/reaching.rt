@@ -41,6 +41,7 @@ pub fn follow(action: Action, p: Place) -> Onward
         Action::Eval(_, _, q) => on_to(p, q, p),
         Action::New(_, q) => on_to(p, q, p),
         Action::Fork(q, s) => on_to(p, q, s),
+        Action::OutAll(_, q) => on_to(p, q, p),
     }
 }
 

@@ -4,12 +4,16 @@ use crate::reaching::waiting_more;
 use net::instruction::Action;
 use net::instruction::Instruction;
 use net::instruction::Target;
+use net::locality::Group;
 use net::locality::Locality;
 use net::locality::Place;
 use net::policy::Rights;
 use net::policy::Row;
 ghost use mathlib.Core.Path.{_≡_};
-ghost use Rattle.keeping.specs.Keeping.{mayTake, mayRead, mayPut, maySend, mayCreate, atTarget, permits, keepsOf};
+ghost use Rattle.keeping.specs.Keeping.{mayTake, mayRead, mayPut, mayPutAll, maySend, mayCreate, atTarget};
+ghost use Rattle.keeping.specs.Keeping.{permits, keepsOf};
+ghost use Rattle.net.specs.Choice.{implies};
+ghost use Rattle.net.specs.Groups.{member};
 ghost use Rattle.net.specs.Records.{rightsAt};
 
 // The rights that a row grants over an address; none past the last address.
@@ -46,6 +50,27 @@ pub fn may_put(row: Row, l: Locality) -> bool
 {
     let held = rights_over(row, l);
     held.put
+}
+
+// The right o at an address, where that is a member of the set.
+fn may_put_if(row: Row, g: Group, l: Locality) -> bool
+    ensures { λ r. ⌜ r ≡ implies (member g l) (mayPut row l) ⌝ }
+{
+    if g.has(l) { may_put(row, l) } else { true }
+}
+
+// The right o at each member of a set.
+pub fn may_put_all(row: Row, g: Group) -> bool
+    ensures { λ r. ⌜ r ≡ mayPutAll row g ⌝ }
+{
+    let mut ok = true;
+    let mut l = 0usize;
+    while l < 16 {
+        let good = may_put_if(row, g, Locality(l as u8));
+        ok = ok & good;
+        l += 1;
+    }
+    ok
 }
 
 // The right e.
@@ -119,6 +144,7 @@ fn permitted(row: Row, a: Locality, action: Action) -> bool
         Action::Eval(t, _, _) => may_send_at(row, t, a),
         Action::New(_, _) => may_create(row),
         Action::Fork(_, _) => true,
+        Action::OutAll(g, _) => may_put_all(row, g),
     }
 }
 

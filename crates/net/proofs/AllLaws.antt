@@ -70,6 +70,10 @@ module _ {A B C : Type 0} (f : B → C → A → Bool) where
   pub by-case-3 : (b : B) (c : C) (x y : A) (r : Bool) → x ≡ y → r ≡ f b c y → r ≡ f b c x
   by-case-3 b c x y r p q = rw p q
 
+module _ {A B C D : Type 0} (f : B → C → D → A → Bool) where
+  pub by-case-4 : (b : B) (c : C) (d : D) (x y : A) (r : Bool) → x ≡ y → r ≡ f b c d y → r ≡ f b c d x
+  by-case-4 b c d x y r p q = rw p q
+
 module _ {A B C : Type 0} (f : B → A → C → Bool) where
   pub by-case-mid : (b : B) (x y : A) (c : C) (r : Bool) → x ≡ y → r ≡ f b y c → r ≡ f b x c
   by-case-mid b x y c r p q = rw p q

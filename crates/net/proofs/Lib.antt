@@ -2,6 +2,7 @@ pub mod AllLaws
 pub mod Every
 pub mod FirstLaws
 pub mod FoldLaws
+pub mod GroupLaws
 pub mod Laws
 pub mod Lengths
 pub mod Lowest

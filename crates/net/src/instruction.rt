@@ -1,4 +1,5 @@
 // Instructions (document 01, "The image", part 5).
+use crate::locality::Group;
 use crate::locality::Locality;
 use crate::locality::Place;
 ghost use mathlib.Core.Path.{_≡_};
@@ -27,7 +28,7 @@ pub struct TemplateField {
 }
 
 // What an instruction does, with its target and the places that follow it. `Eval` has the sent place
-// before the next one.
+// before the next one; `OutAll` is an out to each member of a set.
 pub enum Action {
     Stop,
     Out(Target, Place),
@@ -36,9 +37,10 @@ pub enum Action {
     Eval(Target, Place, Place),
     New(u8, Place),
     Fork(Place, Place),
+    OutAll(Group, Place),
 }
 
-// An action with the `count` template fields of an out, an in or a read; the fields past them are zero.
+// An action with the `count` template fields of an out, to one or to all of a set, an in or a read; the fields past them are zero.
 pub struct Instruction {
     pub action: Action,
     pub count: usize,

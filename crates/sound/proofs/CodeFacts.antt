@@ -2,10 +2,10 @@
 -- template (`instruction-apart`), and giving both again (`instruction-sound`, `instruction-shaped`).
 -- Assumes nothing.
 use Prim.Native.Nat.{ℕ, _<_, _≤_}
-use mathlib.Core.Path.{_≡_, refl}
-use mathlib.Core.Bool.{Bool, true}
+use mathlib.Core.Path.{_≡_, refl, ap}
+use mathlib.Core.Bool.{Bool, true, false, not}
 use native.Mathlib.Omega.{arith}
-use lib.Dec.{ltb}
+use lib.Dec.{eqb, ltb}
 use borrow.Author.Tests.{ltb-true, lt-ltb}
 use Rattle.net.specs.Choice.{both, implies, inRange, all}
 use Rattle.net.specs.Records.{zeroTemplateField, zeroInstruction, patternAt, withAction}
@@ -13,12 +13,12 @@ use Rattle.net.specs.Shape.{ShapedInstruction}
 use Rattle.sound.specs.Types.{Pattern, Action, Instruction}
 use Rattle.sound.specs.Soundness.{targetSound, patternSound, isZeroPattern, templateSound, noTemplate}
 use Rattle.sound.specs.Soundness.{isActual, actualsOnly, bindsAnew, formalsApart}
-use Rattle.sound.specs.Soundness.{actionSound, templateFor, instructionSound}
+use Rattle.sound.specs.Soundness.{groupSound, actionSound, templateFor, instructionSound}
 use Rattle.net.proofs.Laws.{both-i, both-l, both-r, implies-i, implies-e, all-i, all-e}
 use Rattle.net.proofs.Laws.{in-range, in-range-low, in-range-high}
 use Rattle.net.proofs.Every.{Every, Filled, filled-all, all-filled}
 use Rattle.net.proofs.Past.{pastTemplate}
-use Rattle.sound.proofs.ZeroClaims.{zeroIsZero, no-template-passes}
+use Rattle.sound.proofs.ZeroClaims.{zeroIsZero, not-true, no-template-passes}
 use Rattle.sound.proofs.NodeFacts.{of-zero}
 
 -- ---- templates
@@ -92,21 +92,22 @@ module _ (n : ℕ) (c : Instruction) where
         (all-i 4 _ (λ i h. implies-i (ltb i (c .count)) _ (λ e. ok .each i (ltb-true i (c .count) e))))
 
 -- ---- an action, and the template that goes with it
-unfoldable pub Acts : ℕ → ℕ → Action → Instruction → Type 0
-Acts n k Action.Stop c = Bare c
-Acts n k (Action.Out t p) c = (targetSound n t ≡ true) × (p .0 < k) × OutTemplate n c
-Acts n k (Action.In t p) c = (targetSound n t ≡ true) × (p .0 < k) × InTemplate n c
-Acts n k (Action.Read t p) c = (targetSound n t ≡ true) × (p .0 < k) × InTemplate n c
-Acts n k (Action.Eval t sent p) c = (targetSound n t ≡ true) × (sent .0 < k) × (p .0 < k) × Bare c
-Acts n k (Action.New v p) c = (v < 8) × (p .0 < k) × Bare c
-Acts n k (Action.Fork p q) c = (p .0 < k) × (q .0 < k) × Bare c
+unfoldable pub Acts : ℕ → ℕ → ℕ → Action → Instruction → Type 0
+Acts f n k Action.Stop c = Bare c
+Acts f n k (Action.Out t p) c = (targetSound n t ≡ true) × (p .0 < k) × OutTemplate n c
+Acts f n k (Action.In t p) c = (targetSound n t ≡ true) × (p .0 < k) × InTemplate n c
+Acts f n k (Action.Read t p) c = (targetSound n t ≡ true) × (p .0 < k) × InTemplate n c
+Acts f n k (Action.Eval t sent p) c = (targetSound n t ≡ true) × (sent .0 < k) × (p .0 < k) × Bare c
+Acts f n k (Action.New v p) c = (v < 8) × (p .0 < k) × Bare c
+Acts f n k (Action.Fork p q) c = (p .0 < k) × (q .0 < k) × Bare c
+Acts f n k (Action.OutAll g p) c = (eqb f 1 ≡ false) × (groupSound n g ≡ true) × (p .0 < k) × OutTemplate n c
 
-abbrev pub InstructionOk : ℕ → ℕ → Instruction → Type 0
-InstructionOk n k c = Acts n k (c .action) c
+abbrev pub InstructionOk : ℕ → ℕ → ℕ → Instruction → Type 0
+InstructionOk f n k c = Acts f n k (c .action) c
 
-module _ (n k : ℕ) (c : Instruction) where
+module _ (f n k : ℕ) (c : Instruction) where
   acts-apart :
-      (a : Action) → ShapedInstruction c → actionSound n k a ≡ true → templateFor n a c ≡ true → Acts n k a c
+      (a : Action) → ShapedInstruction c → actionSound f n k a ≡ true → templateFor n a c ≡ true → Acts f n k a c
   unfolding actionSound templateFor actualsOnly formalsApart Acts
   acts-apart Action.Stop shape h t = zeroIsZero .template c shape .0 t
   acts-apart (Action.Out to p) shape h t =
@@ -126,11 +127,18 @@ module _ (n k : ℕ) (c : Instruction) where
       (ltb-true _ _ (both-l _ _ h), ltb-true _ _ (both-r (ltb v 8) _ h), zeroIsZero .template c shape .0 t)
   acts-apart (Action.Fork p q) shape h t =
       (ltb-true _ _ (both-l _ _ h), ltb-true _ _ (both-r (ltb (p .0) k) _ h), zeroIsZero .template c shape .0 t)
+  acts-apart (Action.OutAll g p) shape h t =
+      let later = both-r (not (eqb f 1)) _ h in (
+        not-true (eqb f 1) (both-l _ _ h),
+        both-l _ _ later,
+        ltb-true _ _ (both-r (groupSound n g) _ later),
+        tested-apart n c (λ i. isActual) shape t,
+      )
 
   bare-sound : Bare c → noTemplate c ≡ true
   bare-sound e = of-zero (λ b. noTemplate b ≡ true) (no-template-passes (c .action)) c e
 
-  acts-sound : (a : Action) → Acts n k a c → both (actionSound n k a) (templateFor n a c) ≡ true
+  acts-sound : (a : Action) → Acts f n k a c → both (actionSound f n k a) (templateFor n a c) ≡ true
   unfolding actionSound templateFor actualsOnly formalsApart Acts
   acts-sound Action.Stop b = both-i _ _ refl (bare-sound b)
   acts-sound (Action.Out to p) (t, h, ok) = both-i _ _ (both-i _ _ t (lt-ltb _ _ h)) (tested-sound n c (λ i. isActual) ok)
@@ -140,12 +148,14 @@ module _ (n k : ℕ) (c : Instruction) where
       both-i _ _ (both-i _ _ t (both-i _ _ (lt-ltb _ _ g) (lt-ltb _ _ h))) (bare-sound b)
   acts-sound (Action.New v p) (g, h, b) = both-i _ _ (both-i _ _ (lt-ltb _ _ g) (lt-ltb _ _ h)) (bare-sound b)
   acts-sound (Action.Fork p q) (g, h, b) = both-i _ _ (both-i _ _ (lt-ltb _ _ g) (lt-ltb _ _ h)) (bare-sound b)
+  acts-sound (Action.OutAll g p) (e, m, h, ok) =
+      both-i _ _ (both-i _ _ (ap not e) (both-i _ _ m (lt-ltb _ _ h))) (tested-sound n c (λ i. isActual) ok)
 
   -- what the template of every action has
   module _
       (Q : Instruction → Type 0) (spoken : TemplateOk n c → Q c) (bare : (a : Action) → Q (withAction zeroInstruction a))
     where
-      acts-each : (a : Action) → Acts n k a c → Q c
+      acts-each : (a : Action) → Acts f n k a c → Q c
       unfolding Acts
       acts-each Action.Stop b = of-zero Q (bare _) c b
       acts-each (Action.Out to p) (t, h, ok) = spoken (ok .template-ok)
@@ -154,20 +164,21 @@ module _ (n k : ℕ) (c : Instruction) where
       acts-each (Action.Eval to sent p) (t, g, h, b) = of-zero Q (bare _) c b
       acts-each (Action.New v p) (g, h, b) = of-zero Q (bare _) c b
       acts-each (Action.Fork p q) (g, h, b) = of-zero Q (bare _) c b
+      acts-each (Action.OutAll g p) (e, m, h, ok) = spoken (ok .template-ok)
 
-      pub instruction-each : InstructionOk n k c → Q c
+      pub instruction-each : InstructionOk f n k c → Q c
       instruction-each ok = acts-each (c .action) ok
 
-  pub instruction-apart : ShapedInstruction c → instructionSound n k c ≡ true → InstructionOk n k c
+  pub instruction-apart : ShapedInstruction c → instructionSound f n k c ≡ true → InstructionOk f n k c
   unfolding instructionSound
   instruction-apart shape h =
-      acts-apart (c .action) shape (both-l _ _ h) (both-r (actionSound n k (c .action)) _ h)
+      acts-apart (c .action) shape (both-l _ _ h) (both-r (actionSound f n k (c .action)) _ h)
 
-  pub instruction-sound : InstructionOk n k c → instructionSound n k c ≡ true
+  pub instruction-sound : InstructionOk f n k c → instructionSound f n k c ≡ true
   unfolding instructionSound
   instruction-sound ok = acts-sound (c .action) ok
 
-  pub instruction-shaped : InstructionOk n k c → ShapedInstruction c
+  pub instruction-shaped : InstructionOk f n k c → ShapedInstruction c
   unfolding withAction zeroInstruction
   instruction-shaped =
       instruction-each ShapedInstruction (λ ok. record { template-is = ok .patterns-ok .size-is })

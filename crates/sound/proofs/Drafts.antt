@@ -5,11 +5,13 @@ use Prim.Native.Nat.{ℕ, suc, _<_, _≤_}
 use mathlib.Core.Path.{_≡_, refl}
 use mathlib.Core.Bool.{Bool, true, false}
 use native.Mathlib.Omega.{arith}
+use lib.Dec.{eqb}
 use lib.ListN.{length}
 use borrow.Author.Tests.{lt-ltb}
 use Rattle.net.specs.Records.{zeroTemplateField, zeroInstruction, patternAt, withPattern, withAction}
 use Rattle.sound.specs.Types.{Place, Target, Pattern, TemplateField, Action, Instruction}
-use Rattle.sound.specs.Soundness.{targetSound, patternSound, isActual, unboundBefore, bindsAnew}
+use Rattle.sound.specs.Soundness.{targetSound, groupSound, patternSound, isActual, unboundBefore, bindsAnew}
+use Rattle.net.specs.declared.locality.Group.{Group}
 use Rattle.net.proofs.Every.{chosen-lt, every-replicate, filled-add}
 use Rattle.net.proofs.Past.{pastTemplate}
 use Rattle.sound.proofs.FormalLaws.{anew-as, each-put, anew-put}
@@ -95,8 +97,8 @@ whole formals n i c a h g ok = record {
 }
 
 -- ---- instructions
-module _ (n k : ℕ) where
-  pub stop-ok : InstructionOk n k zeroInstruction
+module _ (f n k : ℕ) where
+  pub stop-ok : InstructionOk f n k zeroInstruction
   unfolding Acts zeroInstruction withAction
   stop-ok = refl
 
@@ -104,7 +106,7 @@ module _ (n k : ℕ) where
   unfoldable pub Communicates : (Target → Place → Action) → Bool → Type 0
   Communicates make formals =
       (t : Target) (p : Place) (c : Instruction) → targetSound n t ≡ true → p .0 < k
-      → Whole formals n (withAction c (make t p)) → InstructionOk n k (withAction c (make t p))
+      → Whole formals n (withAction c (make t p)) → InstructionOk f n k (withAction c (make t p))
 
   pub out-ok : Communicates Action.Out false
   unfolding Communicates withAction Acts
@@ -117,3 +119,10 @@ module _ (n k : ℕ) where
   pub read-ok : Communicates Action.Read true
   unfolding Communicates withAction Acts
   read-ok t p c e h ok = (e, h, record { template-ok = ok .template-ok; each = ok .anew })
+
+  -- a set, a place and a template make a sound out to a set, in format 2
+  pub out-all-ok :
+      (g : Group) (p : Place) (c : Instruction) → eqb f 1 ≡ false → groupSound n g ≡ true → p .0 < k
+      → Whole false n (withAction c (Action.OutAll g p)) → InstructionOk f n k (withAction c (Action.OutAll g p))
+  unfolding withAction Acts
+  out-all-ok g p c e m h ok = (e, m, h, record { template-ok = ok .template-ok; each = ok .actual refl })

@@ -8,7 +8,9 @@ use native.Mathlib.Omega.{arith}
 use lib.Dec.{ltb}
 use borrow.Author.Tests.{ltb-true, lt-ltb}
 use Rattle.sound.specs.Types.{Value, Item, Tuple, Row, Process, Node, Target, Pattern, Action, Instruction}
-use Rattle.sound.specs.Soundness.{itemSound, valueSound, targetSound, patternSound}
+use Rattle.sound.specs.Soundness.{itemSound, valueSound, targetSound, groupSound, patternSound}
+use Rattle.net.specs.declared.locality.Group.{Group}
+use Rattle.net.proofs.GroupLaws.{members-map}
 use Rattle.net.proofs.Every.{every-weaken, filled-map}
 use Rattle.sound.proofs.NodeFacts.{TupleOk, RowOk, RowsOk, Running, ProcessOk, NodeOk}
 use Rattle.sound.proofs.CodeFacts.{TemplateOk, Tested, Acts, InstructionOk}
@@ -73,6 +75,10 @@ module _ (m n : ℕ) (l : m ≤ n) where
   target-more Target.Own h = refl
   target-more (Target.Held v) h = h
 
+  group-more : (g : Group) → groupSound m g ≡ true → groupSound n g ≡ true
+  unfolding groupSound
+  group-more g h = members-map g _ _ (λ l. below-more (l .0)) h
+
   pattern-more : (x : Pattern) → patternSound m x ≡ true → patternSound n x ≡ true
   unfolding patternSound
   pattern-more (Pattern.Reading x) h = refl
@@ -92,15 +98,16 @@ module _ (m n : ℕ) (l : m ≤ n) where
   tested-more : (test : ℕ → Pattern → Bool) (c : Instruction) → Tested test m c → Tested test n c
   tested-more test c ok = record { template-ok = template-more c (ok .template-ok); each = ok .each }
 
-  acts-more : (k : ℕ) (c : Instruction) (a : Action) → Acts m k a c → Acts n k a c
+  acts-more : (f k : ℕ) (c : Instruction) (a : Action) → Acts f m k a c → Acts f n k a c
   unfolding Acts
-  acts-more k c Action.Stop b = b
-  acts-more k c (Action.Out t p) (e, h, ok) = (target-more t e, h, tested-more _ c ok)
-  acts-more k c (Action.In t p) (e, h, ok) = (target-more t e, h, tested-more _ c ok)
-  acts-more k c (Action.Read t p) (e, h, ok) = (target-more t e, h, tested-more _ c ok)
-  acts-more k c (Action.Eval t sent p) (e, g, h, b) = (target-more t e, g, h, b)
-  acts-more k c (Action.New v p) ok = ok
-  acts-more k c (Action.Fork p q) ok = ok
+  acts-more f k c Action.Stop b = b
+  acts-more f k c (Action.Out t p) (e, h, ok) = (target-more t e, h, tested-more _ c ok)
+  acts-more f k c (Action.In t p) (e, h, ok) = (target-more t e, h, tested-more _ c ok)
+  acts-more f k c (Action.Read t p) (e, h, ok) = (target-more t e, h, tested-more _ c ok)
+  acts-more f k c (Action.Eval t sent p) (e, g, h, b) = (target-more t e, g, h, b)
+  acts-more f k c (Action.New v p) ok = ok
+  acts-more f k c (Action.Fork p q) ok = ok
+  acts-more f k c (Action.OutAll g p) (e, h, l, ok) = (e, group-more g h, l, tested-more _ c ok)
 
-  pub instruction-more : (k : ℕ) (c : Instruction) → InstructionOk m k c → InstructionOk n k c
-  instruction-more k c = acts-more k c (c .action)
+  pub instruction-more : (f k : ℕ) (c : Instruction) → InstructionOk f m k c → InstructionOk f n k c
+  instruction-more f k c = acts-more f k c (c .action)

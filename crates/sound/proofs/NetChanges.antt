@@ -16,9 +16,9 @@ use Rattle.sound.proofs.NodeChanges.{zero-node}
 use Rattle.sound.proofs.CodeFacts.{Acts, InstructionOk}
 use Rattle.sound.proofs.NetFacts.{NetWith, net-shaped}
 
-pub zero-instruction : (n k : ℕ) → InstructionOk n k zeroInstruction
+pub zero-instruction : (f n k : ℕ) → InstructionOk f n k zeroInstruction
 unfolding Acts zeroInstruction withAction
-zero-instruction n k = refl
+zero-instruction f n k = refl
 
 -- the records of the empty net, whatever the format and the counts that stand before them
 pub empty-net :
@@ -35,7 +35,7 @@ empty-net g m j f n k f₁ f₂ n₁ n₂ k₁ k₂ = record {
   nodes-ok = every-replicate _ pastNode 16 zeroNode (λ a _. record { used = λ _. zero-node f n k; unused = λ _. refl });
   code-ok =
       every-replicate _ pastInstruction 512 zeroInstruction
-      (λ p _. record { used = λ _. zero-instruction n k; unused = λ _. refl });
+      (λ p _. record { used = λ _. zero-instruction f n k; unused = λ _. refl });
 }
 
 pub empty-shaped : Shaped emptyNet
@@ -49,7 +49,7 @@ module _ {f n k : ℕ} (s : Net) (ok : NetWith f n k s) where
   unfolding nodeAt
   node-at a h = ok .nodes-ok .holds (a .0) (omega (arith, ok .addresses-most)) .used h
 
-  pub instruction-at : (p : Place) → p .0 < k → InstructionOk n k (instructionAt (s .code) p)
+  pub instruction-at : (p : Place) → p .0 < k → InstructionOk f n k (instructionAt (s .code) p)
   unfolding instructionAt
   instruction-at p h = ok .code-ok .holds (p .0) (omega (arith, ok .length-most)) .used h
 
@@ -67,7 +67,7 @@ module _ {f n k : ℕ} (s : Net) (ok : NetWith f n k s) where
   }
 
   pub with-instruction :
-      (p : Place) (c : Instruction) → p .0 < k → InstructionOk n k c → NetWith f n k (withInstruction s p c)
+      (p : Place) (c : Instruction) → p .0 < k → InstructionOk f n k c → NetWith f n k (withInstruction s p c)
   unfolding withInstruction
   with-instruction p c h g = record {
     format-least = ok .format-least;

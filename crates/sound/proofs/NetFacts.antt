@@ -27,7 +27,7 @@ pub record NetWith (f n k : ℕ) (s : Net) : Type 0 where
   pub length-least : 1 ≤ k
   pub length-most : k ≤ 512
   pub nodes-ok : Every (Filled (NodeOk f n k) (λ x. x ≡ zeroNode) n) pastNode 16 (s .nodes)
-  pub code-ok : Every (Filled (InstructionOk n k) (λ c. c ≡ zeroInstruction) k) pastInstruction 512 (s .code)
+  pub code-ok : Every (Filled (InstructionOk f n k) (λ c. c ≡ zeroInstruction) k) pastInstruction 512 (s .code)
 
 abbrev pub NetOk : Net → Type 0
 NetOk s = NetWith (s .format) (s .addresses) (s .length) s
@@ -53,8 +53,8 @@ sound-apart s shape h =
           (λ a l. node-apart f n k _ (shape .each-node (addressOf a) l))
           (λ a l. zeroIsZero .node _ (shape .each-node (addressOf a) l) .0);
       code-ok =
-          all-filled (instructionSound n k) isZeroInstruction (shape .code-is) (both-r (nodesSound s) _ records)
-          (λ p l. instruction-apart n k _ (shape .each-instruction (placeOf p) l))
+          all-filled (instructionSound f n k) isZeroInstruction (shape .code-is) (both-r (nodesSound s) _ records)
+          (λ p l. instruction-apart f n k _ (shape .each-instruction (placeOf p) l))
           (λ p l. zeroIsZero .instruction _ (shape .each-instruction (placeOf p) l) .0);
     }
 
@@ -74,7 +74,7 @@ net-sound s ok =
     (in-range 1 k 512 (ok .length-least) (ok .length-most)))
     (both-i _ _
     (filled-all (nodeSound f n k) isZeroNode (ok .nodes-ok) (node-sound f n k) (of-zero (λ x. isZeroNode x ≡ true) node-passes))
-    (filled-all (instructionSound n k) isZeroInstruction (ok .code-ok) (instruction-sound n k)
+    (filled-all (instructionSound f n k) isZeroInstruction (ok .code-ok) (instruction-sound f n k)
     (of-zero (λ c. isZeroInstruction c ≡ true) instruction-passes))))
 
 pub net-shaped : (f n k : ℕ) (s : Net) → NetWith f n k s → Shaped s
@@ -84,5 +84,5 @@ net-shaped f n k s ok = record {
   code-is = ok .code-ok .size-is;
   each-node = λ a. filled-each (ok .nodes-ok) (node-shaped f n k) (of-zero ShapedNode zero-node-shaped) (a .0);
   each-instruction = λ p.
-      filled-each (ok .code-ok) (instruction-shaped n k) (of-zero ShapedInstruction zero-instruction-shaped) (p .0);
+      filled-each (ok .code-ok) (instruction-shaped f n k) (of-zero ShapedInstruction zero-instruction-shaped) (p .0);
 }

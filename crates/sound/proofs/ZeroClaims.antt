@@ -196,6 +196,7 @@ stop-is (Action.Read t p) h = never h
 stop-is (Action.Eval t sent p) h = never h
 stop-is (Action.New v p) h = never h
 stop-is (Action.Fork p q) h = never h
+stop-is (Action.OutAll g p) h = never h
 
 pub instruction-passes : isZeroInstruction zeroInstruction ≡ true
 unfolding isZeroInstruction isStop zeroInstruction withAction

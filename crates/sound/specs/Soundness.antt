@@ -11,6 +11,8 @@ use Rattle.sound.specs.Types.{Value, Item, Tuple, Rights, Row, Process, 
 use Rattle.sound.specs.Types.{Target, Pattern, Action, Instruction, Net}
 use Rattle.net.specs.Records.{fieldAt, variableAt, rightsAt, rowAt, processAt, tupleAt, patternAt, nodeAt, instructionAt, addressOf, placeOf}
 use Rattle.net.specs.Readings.{sameReading}
+use Rattle.net.specs.declared.locality.Group.{Group}
+use Rattle.net.specs.Groups.{allMembers}
 
 -- ---- tuples
 unfoldable pub itemSound : ℕ → Item → Bool
@@ -179,14 +181,20 @@ bindsAnew c i (Pattern.FormalAddress v) = unboundBefore c i v
 unfoldable pub formalsApart : Instruction → Bool
 formalsApart c = all 4 (λ i. implies (ltb i (c .count)) (bindsAnew c i (patternAt c i)))
 
-unfoldable pub actionSound : ℕ → ℕ → Action → Bool
-actionSound n k Action.Stop = true
-actionSound n k (Action.Out t p) = both (targetSound n t) (ltb (p .0) k)
-actionSound n k (Action.In t p) = both (targetSound n t) (ltb (p .0) k)
-actionSound n k (Action.Read t p) = both (targetSound n t) (ltb (p .0) k)
-actionSound n k (Action.Eval t sent p) = both (targetSound n t) (both (ltb (sent .0) k) (ltb (p .0) k))
-actionSound n k (Action.New v p) = both (ltb v 8) (ltb (p .0) k)
-actionSound n k (Action.Fork p q) = both (ltb (p .0) k) (ltb (q .0) k)
+-- each member of a set is an address in use
+unfoldable pub groupSound : ℕ → Group → Bool
+groupSound n g = allMembers g (λ l. ltb (l .0) n)
+
+-- an out to a set stands in format 2 alone (document 02, slip 11)
+unfoldable pub actionSound : ℕ → ℕ → ℕ → Action → Bool
+actionSound f n k Action.Stop = true
+actionSound f n k (Action.Out t p) = both (targetSound n t) (ltb (p .0) k)
+actionSound f n k (Action.In t p) = both (targetSound n t) (ltb (p .0) k)
+actionSound f n k (Action.Read t p) = both (targetSound n t) (ltb (p .0) k)
+actionSound f n k (Action.Eval t sent p) = both (targetSound n t) (both (ltb (sent .0) k) (ltb (p .0) k))
+actionSound f n k (Action.New v p) = both (ltb v 8) (ltb (p .0) k)
+actionSound f n k (Action.Fork p q) = both (ltb (p .0) k) (ltb (q .0) k)
+actionSound f n k (Action.OutAll g p) = both (not (eqb f 1)) (both (groupSound n g) (ltb (p .0) k))
 
 -- the template that goes with an action
 unfoldable pub templateFor : ℕ → Action → Instruction → Bool
@@ -197,9 +205,10 @@ templateFor n (Action.Read t p) c = both (templateSound n c) (formalsApart c)
 templateFor n (Action.Eval t sent p) c = noTemplate c
 templateFor n (Action.New v p) c = noTemplate c
 templateFor n (Action.Fork p q) c = noTemplate c
+templateFor n (Action.OutAll g p) c = both (templateSound n c) (actualsOnly c)
 
-unfoldable pub instructionSound : ℕ → ℕ → Instruction → Bool
-instructionSound n k c = both (actionSound n k (c .action)) (templateFor n (c .action) c)
+unfoldable pub instructionSound : ℕ → ℕ → ℕ → Instruction → Bool
+instructionSound f n k c = both (actionSound f n k (c .action)) (templateFor n (c .action) c)
 
 unfoldable pub isStop : Action → Bool
 isStop Action.Stop = true
@@ -209,6 +218,7 @@ isStop (Action.Read t p) = false
 isStop (Action.Eval t sent p) = false
 isStop (Action.New v p) = false
 isStop (Action.Fork p q) = false
+isStop (Action.OutAll g p) = false
 
 unfoldable pub isZeroInstruction : Instruction → Bool
 isZeroInstruction c = both (isStop (c .action)) (noTemplate c)
@@ -225,7 +235,7 @@ unfoldable pub codeSound : Net → Bool
 codeSound s =
     all 512
     (λ p. choose (ltb p (s .length))
-    (instructionSound (s .addresses) (s .length) (instructionAt (s .code) (placeOf p)))
+    (instructionSound (s .format) (s .addresses) (s .length) (instructionAt (s .code) (placeOf p)))
     (isZeroInstruction (instructionAt (s .code) (placeOf p))))
 
 unfoldable pub soundOf : Net → Bool

@@ -1,11 +1,13 @@
 // The test of soundness (document 01, "One pick", answer 10). In what follows f is the format, n the address count
 // and k the code length.
+use crate::groups::group_sound;
 use crate::rows::no_rows;
 use crate::rows::rows_sound;
 use net::instruction::Action;
 use net::instruction::Instruction;
 use net::instruction::Pattern;
 use net::instruction::Target;
+use net::locality::Group;
 use net::locality::Locality;
 use net::locality::Place;
 use net::network::Net;
@@ -15,6 +17,7 @@ use net::reading::same_reading;
 use net::tuple::Item;
 use net::tuple::Tuple;
 use net::tuple::Value;
+ghost use mathlib.Core.Bool.{not};
 ghost use mathlib.Core.Path.{_≡_};
 ghost use lib.Dec.{leb, ltb, eqb};
 ghost use Rattle.net.specs.Choice.{choose, both, implies, all};
@@ -26,7 +29,7 @@ ghost use Rattle.sound.specs.Soundness.{valueSound, isUnset, allUnset, i
 ghost use Rattle.sound.specs.Soundness.{processSound};
 ghost use Rattle.sound.specs.Soundness.{nodeSound, isZeroNode, targetSound, patternSound, isZeroPattern};
 ghost use Rattle.sound.specs.Soundness.{templateSound, noTemplate, isActual, actualsOnly, bindsNot, unboundBefore};
-ghost use Rattle.sound.specs.Soundness.{bindsAnew, formalsApart, actionSound, templateFor, instructionSound};
+ghost use Rattle.sound.specs.Soundness.{bindsAnew, formalsApart, groupSound, actionSound, templateFor, instructionSound};
 ghost use Rattle.sound.specs.Soundness.{isStop, isZeroInstruction, nodesSound, codeSound, soundOf};
 
 // Whether the net is sound.
@@ -504,8 +507,18 @@ fn new_sound(k: usize, v: u8, p: Place) -> bool
     (v < 8) & next
 }
 
-fn action_sound(n: usize, k: usize, action: Action) -> bool
-    ensures { λ r. ⌜ r ≡ actionSound n k action ⌝ }
+// An out to a set, which format 1 does not have: its members and the next place.
+fn spread_sound(f: usize, n: usize, k: usize, g: Group, p: Place) -> bool
+    ensures { λ r. ⌜ r ≡ both (not (eqb f 1)) (both (groupSound n g) (ltb (p .0) k)) ⌝ }
+{
+    let first = f == 1;
+    let members = group_sound(n, g);
+    let next = place_sound(k, p);
+    !first & (members & next)
+}
+
+fn action_sound(f: usize, n: usize, k: usize, action: Action) -> bool
+    ensures { λ r. ⌜ r ≡ actionSound f n k action ⌝ }
 {
     match action {
         Action::Stop => true,
@@ -515,6 +528,7 @@ fn action_sound(n: usize, k: usize, action: Action) -> bool
         Action::Eval(t, sent, p) => eval_sound(n, k, t, sent, p),
         Action::New(v, p) => new_sound(k, v, p),
         Action::Fork(p, q) => places_sound(k, p, q),
+        Action::OutAll(g, p) => spread_sound(f, n, k, g, p),
     }
 }
 
@@ -547,14 +561,15 @@ fn template_for(n: usize, action: Action, c: Instruction) -> bool
         Action::Eval(_, _, _) => no_template(c),
         Action::New(_, _) => no_template(c),
         Action::Fork(_, _) => no_template(c),
+        Action::OutAll(_, _) => out_template(n, c),
     }
 }
 
-fn instruction_sound(n: usize, k: usize, c: Instruction) -> bool
-    ensures { λ r. ⌜ r ≡ instructionSound n k c ⌝ }
+fn instruction_sound(f: usize, n: usize, k: usize, c: Instruction) -> bool
+    ensures { λ r. ⌜ r ≡ instructionSound f n k c ⌝ }
 {
     let action = c.action;
-    let reached = action_sound(n, k, action);
+    let reached = action_sound(f, n, k, action);
     let template = template_for(n, action, c);
     reached & template
 }
@@ -570,6 +585,7 @@ fn is_stop(action: Action) -> bool
         Action::Eval(_, _, _) => false,
         Action::New(_, _) => false,
         Action::Fork(_, _) => false,
+        Action::OutAll(_, _) => false,
     }
 }
 
@@ -617,12 +633,12 @@ fn nodes_sound(net: Net) -> bool
 }
 
 // The instruction at place p.
-fn instruction_at_sound(n: usize, k: usize, p: Place, c: Instruction) -> bool
-    ensures { λ r. ⌜ r ≡ choose (ltb (p .0) k) (instructionSound n k c) (isZeroInstruction c) ⌝ }
+fn instruction_at_sound(f: usize, n: usize, k: usize, p: Place, c: Instruction) -> bool
+    ensures { λ r. ⌜ r ≡ choose (ltb (p .0) k) (instructionSound f n k c) (isZeroInstruction c) ⌝ }
 {
     let at = p.0 as usize;
     if at < k {
-        instruction_sound(n, k, c)
+        instruction_sound(f, n, k, c)
     } else {
         is_zero_instruction(c)
     }
@@ -635,7 +651,7 @@ fn code_sound(net: Net) -> bool
     let mut p = 0;
     while p < 512 {
         let c = net.code[p];
-        let good = instruction_at_sound(net.addresses, net.length, Place(p as u16), c);
+        let good = instruction_at_sound(net.format, net.addresses, net.length, Place(p as u16), c);
         ok = ok & good;
         p += 1;
     }

@@ -15,7 +15,7 @@ Inv-loop net ok₀ p₀ ok p =
     (p ≤ 512) ×
     (ok ≡ all p
     (λ m. choose (ltb m (net .length))
-    (instructionSound (net .addresses) (net .length) (instructionAt (net .code) (placeOf m)))
+    (instructionSound (net .format) (net .addresses) (net .length) (instructionAt (net .code) (placeOf m)))
     (isZeroInstruction (instructionAt (net .code) (placeOf m)))))
 
 abbrev μ-loop : tie.MeasureT-loop
