@@ -2,23 +2,23 @@
 -- of `sound`). A template is built field by field; a field judged by rules 26 and 27 when it is read keeps them, since no
 -- later field changes what stands before it.
 -- Assumes nothing.
-use Prim.Native.Nat.{ℕ, suc, _+_, _<_}
+use Prim.Native.Nat.{ℕ, suc, _+_, _<_, _≤_}
 use mathlib.Core.Path.{_≡_, refl, ap}
 use mathlib.Core.Bool.{Bool, true, false, not}
 use native.Mathlib.Omega.{arith}
-use lib.Dec.{ltb}
+use lib.Dec.{eqb, ltb}
 use borrow.Author.Tests.{ltb-true, lt-ltb}
-use Rattle.net.specs.Choice.{implies}
+use Rattle.net.specs.Choice.{choose, implies}
 use Rattle.accepted.specs.Types.{Place, Target, Action, Instruction}
 use Rattle.net.specs.Records.{zeroInstruction, withAction}
-use Rattle.sound.specs.Soundness.{targetSound, patternSound, isActual, bindsAnew}
+use Rattle.sound.specs.Soundness.{targetSound, groupSound, patternSound, isActual, bindsAnew}
 use Rattle.instructions.specs.Instruction.{writtenTarget, heldTarget, target, readingPattern, addressPattern, heldPattern}
 use Rattle.instructions.specs.Instruction.{fresh, formalReading, formalAddress, kind, pattern, templateField, template}
-use Rattle.instructions.specs.Instruction.{communication, evaluation, creation, forking, instruction}
+use Rattle.instructions.specs.Instruction.{communication, evaluation, creation, forking, group, spreading, actionsIn, instruction}
 use Rattle.net.proofs.Laws.{implies-e}
 use Rattle.sound.proofs.CodeFacts.{Acts, InstructionOk}
 use Rattle.sound.proofs.Drafts.{SuitsNext, suited, Fresh, suits-reading, suits-address, Drafted, no-pattern, next-pattern, Whole, whole}
-use Rattle.sound.proofs.Drafts.{stop-ok, Communicates, out-ok, in-ok, read-ok}
+use Rattle.sound.proofs.Drafts.{stop-ok, Communicates, out-ok, in-ok, read-ok, out-all-ok}
 use Rattle.accepted.proofs.Gives.{Gives, gives-pure, gives-weaken, gives-then, gives-each, gives-last}
 use Rattle.accepted.proofs.Gives.{gives-first, gives-passing, gives-field, gives-bits}
 use Rattle.accepted.proofs.AcceptedNode.{gives-address, gives-place, gives-variable, gives-reading}
@@ -87,39 +87,60 @@ gives-template formals n =
     (λ c ok a. whole formals n (less + 1) c a (omega arith) (omega arith) ok))
 
 -- ---- instructions
-module _ (n k : ℕ) where
+gives-group : (n : ℕ) → Gives (group n) (λ g. groupSound n g ≡ true)
+unfolding group
+gives-group n = gives-then (gives-passing 16 _ 23 (omega arith) (gives-bits 16)) (λ v h. gives-pure _ _ (h .1))
+
+-- a seventh action is one of format 2
+second-format : (f v : ℕ) → v < actionsIn f → 7 ≤ v → eqb f 1 ≡ false
+unfolding actionsIn choose
+second-format f v = by (eqb f 1)
+  where
+    by : (b : Bool) → v < choose b 7 8 → 7 ≤ v → b ≡ false
+    by true h l = absurd (omega arith)
+    by false h l = refl
+
+module _ (f n k : ℕ) where
   gives-communication :
-      (make : Target → Place → Action) (formals : Bool) → Communicates n k make formals
-      → Gives (communication make formals n k) (InstructionOk n k)
+      (make : Target → Place → Action) (formals : Bool) → Communicates f n k make formals
+      → Gives (communication make formals n k) (InstructionOk f n k)
   unfolding communication Communicates
-  gives-communication make formals f =
+  gives-communication make formals ok =
       gives-then (gives-target n)
       (λ t e. gives-then (gives-template formals n)
-      (λ c ok. gives-then (gives-place k) (λ p h. gives-pure _ _ (f t p c e h (ok (make t p))))))
+      (λ c w. gives-then (gives-place k) (λ p h. gives-pure _ _ (ok t p c e h (w (make t p))))))
 
-  gives-evaluation : Gives (evaluation n k) (InstructionOk n k)
+  gives-evaluation : Gives (evaluation n k) (InstructionOk f n k)
   unfolding evaluation withAction Acts
   gives-evaluation =
       gives-then (gives-target n)
       (λ t e. gives-then (gives-place k)
       (λ p h. gives-then (gives-place k) (λ q g. gives-pure _ _ (e, h, g, refl))))
 
-  gives-creation : Gives (creation k) (InstructionOk n k)
+  gives-creation : Gives (creation k) (InstructionOk f n k)
   unfolding creation withAction Acts
   gives-creation = gives-then gives-variable (λ v e. gives-then (gives-place k) (λ p h. gives-pure _ _ (e, h, refl)))
 
-  gives-forking : Gives (forking k) (InstructionOk n k)
+  gives-forking : Gives (forking k) (InstructionOk f n k)
   unfolding forking withAction Acts
   gives-forking = gives-then (gives-place k) (λ p h. gives-then (gives-place k) (λ q g. gives-pure _ _ (h, g, refl)))
 
-  pub gives-instruction : Gives (instruction n k) (InstructionOk n k)
+  gives-spreading : eqb f 1 ≡ false → Gives (spreading n k) (InstructionOk f n k)
+  unfolding spreading
+  gives-spreading e =
+      gives-then (gives-group n)
+      (λ g m. gives-then (gives-template false n)
+      (λ c w. gives-then (gives-place k) (λ p h. gives-pure _ _ (out-all-ok f n k g p c e m h (w (Action.OutAll g p))))))
+
+  pub gives-instruction : Gives (instruction f n k) (InstructionOk f n k)
   unfolding instruction
   gives-instruction =
-      gives-then (gives-field 3 0 7 25 (omega arith))
-      (λ v _. gives-first _ _ _ _ v (gives-pure _ _ (stop-ok n k))
-      (λ j₁ _. gives-first _ _ _ _ j₁ (gives-communication Action.Out false (out-ok n k))
-      (λ j₂ _. gives-first _ _ _ _ j₂ (gives-communication Action.In true (in-ok n k))
-      (λ j₃ _. gives-first _ _ _ _ j₃ (gives-communication Action.Read true (read-ok n k))
-      (λ j₄ _. gives-first _ _ _ _ j₄ gives-evaluation
-      (λ j₅ _. gives-first _ _ _ _ j₅ gives-creation
-      (λ j₆ _. gives-last _ _ j₆ gives-forking)))))))
+      gives-then (gives-field 3 0 (actionsIn f) 25 (omega arith))
+      (λ v h. gives-first _ _ _ _ v (gives-pure _ _ (stop-ok f n k))
+      (λ j₁ e₁. gives-first _ _ _ _ j₁ (gives-communication Action.Out false (out-ok f n k))
+      (λ j₂ e₂. gives-first _ _ _ _ j₂ (gives-communication Action.In true (in-ok f n k))
+      (λ j₃ e₃. gives-first _ _ _ _ j₃ (gives-communication Action.Read true (read-ok f n k))
+      (λ j₄ e₄. gives-first _ _ _ _ j₄ gives-evaluation
+      (λ j₅ e₅. gives-first _ _ _ _ j₅ gives-creation
+      (λ j₆ e₆. gives-first _ _ _ _ j₆ gives-forking
+      (λ j₇ e₇. gives-last _ _ j₇ (gives-spreading (second-format f v (h .below) (omega arith)))))))))))

@@ -147,7 +147,7 @@ module _ (f n k : ℕ) where
 
   -- ---- 5. the code
   set-instruction :
-      (s : Net) (p : Place) (c : Instruction) → p .0 < k → Making f n k s → InstructionOk n k c
+      (s : Net) (p : Place) (c : Instruction) → p .0 < k → Making f n k s → InstructionOk f n k c
       → Making f n k (withInstruction s p c)
   unfolding withInstruction
   set-instruction s p c h ok e = record {
@@ -161,8 +161,9 @@ module _ (f n k : ℕ) where
   unfolding instructionOf
   gives-instructionOf p s h ok =
       gives-then
-      (gives-at (λ m. instruction m (s .length)) (ok .addresses-are)
-      (gives-at (instruction n) (ok .length-is) (gives-instruction n k)))
+      (gives-at (λ m. instruction m (s .addresses) (s .length)) (ok .format-is)
+      (gives-at (λ m. instruction f m (s .length)) (ok .addresses-are)
+      (gives-at (instruction f n) (ok .length-is) (gives-instruction f n k))))
       (λ c e. gives-pure _ _ (set-instruction s p c h ok e))
 
   gives-code : (s : Net) → Making f n k s → Gives (code s) (Making f n k)

@@ -11,6 +11,7 @@ use Rattle.accepted.specs.Types.{Net, Verdict}
 use Rattle.readers.specs.Reader.{Parsed, got, fault}
 use Rattle.image.specs.Image.{layout, beyondRow, accepted, refused, judgedNet, openedOf}
 use Rattle.accepted.specs.LengthClaims.{longestIn, FirstBytesDecide, LongestAccepted}
+use Rattle.instructions.proofs.InstructionWithin.{instructionBits}
 use Rattle.image.proofs.FirstBytes.{rowBits, afterHeader, layout-fills}
 use Rattle.image.proofs.LayoutLaws.{opened-take}
 use Rattle.accepted.proofs.AcceptedSound.{never}
@@ -20,8 +21,8 @@ unfolding FirstBytesDecide
 firstBytesDecide s k h = opened-take s k (omega arith)
 
 -- the bytes that hold the bits of a format
-bytes-in : (f m : ℕ) → 8 * m ≤ 19 + afterHeader (rowBits f) → m ≤ longestIn f
-unfolding rowBits longestIn choose
+bytes-in : (f m : ℕ) → 8 * m ≤ 19 + afterHeader (rowBits f) (instructionBits f) → m ≤ longestIn f
+unfolding rowBits instructionBits longestIn choose
 bytes-in f m h = by (eqb f 1) refl
   where
     by : (b : Bool) → eqb f 1 ≡ b → m ≤ longestIn f

@@ -1,5 +1,5 @@
--- How long an image can be (document 01, "The longest accepted image has 14,749 bytes"; in format 2 "the longest image is then
--- 16,699 bytes", document 02, slip 10).
+-- How long an image can be (document 01, "The longest accepted image has 14,749 bytes"; in format 2 "the longest image
+-- becomes 17,339 bytes", document 02, slip 11).
 use Prim.Native.Nat.{ℕ, _<_, _≤_}
 use mathlib.Core.Path.{_≡_}
 use mathlib.Core.List.{List}
@@ -11,11 +11,11 @@ use Rattle.image.specs.Image.{openedOf}
 
 -- how many bytes the longest accepted image of a format has
 unfoldable pub longestIn : ℕ → ℕ
-longestIn f = choose (eqb f 1) 14749 16699
+longestIn f = choose (eqb f 1) 14749 17339
 
 -- of either format
 abbrev pub longestImage : ℕ
-longestImage = 16699
+longestImage = 17339
 
 -- the first bytes, one more than that, decide what an image gives
 unfoldable pub FirstBytesDecide : Type 0

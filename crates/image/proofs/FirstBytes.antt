@@ -1,4 +1,4 @@
--- The layout of an image (`specs/Image.antt`) takes at most 117,987 bits in format 1 and 133,587 in format 2, a bound for
+-- The layout of an image (`specs/Image.antt`) takes at most 117,987 bits in format 1 and 138,707 in format 2, a bound for
 -- each of its parts, and looks at no further byte than the one behind them. Assumes nothing.
 use Prim.Native.Nat.{ℕ, _+_, _*_, _≤_}
 use mathlib.Core.Path.{_≡_, refl, sym, ap, _∙_}
@@ -22,7 +22,8 @@ use Rattle.bitreader.proofs.Budget.{each-within, choose-within, field-within, b
 use Rattle.readers.proofs.ReaderLaws.{no-fault, same-value}
 use Rattle.bitreader.proofs.FieldsWithin.{address-within, place-within, reading-within}
 use Rattle.bitreader.proofs.EndingLaws.{ending-closes}
-use Rattle.instructions.proofs.InstructionWithin.{instruction-within}
+use Rattle.instructions.specs.Instruction.{instruction}
+use Rattle.instructions.proofs.InstructionWithin.{instructionBits, instructionBits-most, instruction-within}
 
 -- the format of a net, and its counts as the header admits them
 record Counted (f : ℕ) (s : Net) : Type 0 where
@@ -177,30 +178,39 @@ unfolding allTuples eachAddress
 allTuples-within f s c = each-within s (c .addresses) c (λ i. tuplesOf-within f (addressOf i))
 
 -- ---- 5. instructions
-instructionOf-within : (f : ℕ) (p : Place) (s : Net) → Counted f s → Within (instructionOf p s) 160 (Counted f)
+instructionIn-within : (f g n k : ℕ) → g ≡ f → Within (instruction g n k) (instructionBits f) Anything
+instructionIn-within f g n k e = rw e (instruction-within f n k)
+
+instructionOf-within : (f : ℕ) (p : Place) (s : Net) → Counted f s → Within (instructionOf p s) (instructionBits f) (Counted f)
 unfolding instructionOf withInstruction
 instructionOf-within f p s c =
-    bind (instruction-within _ _) (λ x h.
-    pure-within _ (record { format-is = c .format-is; addresses = c .addresses; instructions = c .instructions }))
+    widen (omega arith)
+    (bind (instructionIn-within f _ _ _ (c .format-is)) (λ x h.
+    pure-within _ (record { format-is = c .format-is; addresses = c .addresses; instructions = c .instructions })))
 
-code-within : (f : ℕ) (s : Net) → Counted f s → Within (code s) (512 * 160) (Counted f)
+code-within : (f : ℕ) (s : Net) → Counted f s → Within (code s) (512 * instructionBits f) (Counted f)
 unfolding code eachPlace
 code-within f s c = each-within s (c .instructions) c (λ i. instructionOf-within f (placeOf i))
 
+-- in either format
+code-most : (f : ℕ) (s : Net) → Counted f s → Within (code s) (512 * 170) (Counted f)
+code-most f s c = widen (mul-le-mul-left 512 (instructionBits-most f)) (code-within f s c)
+
 -- ---- the whole
--- how many bits may follow the header where the rows of a node take b, and 8 more that would hold a further byte
-abbrev pub afterHeader : ℕ → ℕ
-afterHeader b = 16 * b + (16 * 39 + (16 * 2149 + (512 * 160 + 8)))
+-- how many bits may follow the header where the rows of a node take b and an instruction c, and 8 more that would hold a
+-- further byte
+abbrev pub afterHeader : ℕ → ℕ → ℕ
+afterHeader b c = 16 * b + (16 * 39 + (16 * 2149 + (512 * c + 8)))
 
 -- in either format
-pub layout-closes : Closes layout (19 + afterHeader (16 * 65))
+pub layout-closes : Closes layout (19 + afterHeader (16 * 65) 170)
 unfolding layout
 layout-closes =
     bind-closes header-within (λ s₁ c₁.
     bind-closes (rows-most _ s₁ c₁) (λ s₂ c₂.
     bind-closes (allProcesses-within _ s₂ c₂) (λ s₃ c₃.
     bind-closes (allTuples-within _ s₃ c₃) (λ s₄ c₄.
-    bind-closes (code-within _ s₄ c₄) (λ s₅ c₅.
+    bind-closes (code-most _ s₄ c₄) (λ s₅ c₅.
     closes-pure ending-closes s₅)))))
 
 -- ---- by the format: m comes out well only with a net of format f, and only where the image ends within b bits
@@ -243,10 +253,10 @@ fills-by {m} {k} {c} b w v s x q = by (m s 0) refl
     by (fault g) d e = no-fault e
 
 pub layout-fills : (s : List ℕ) (x : Net) (q : ℕ) → layout s 0 ≡ got x q
-    → 8 * length s ≤ 19 + afterHeader (rowBits (x .format))
+    → 8 * length s ≤ 19 + afterHeader (rowBits (x .format)) (instructionBits (x .format))
 unfolding layout
 layout-fills =
-    fills-by (λ f. afterHeader (rowBits f)) header-within (λ s₁ c₁.
+    fills-by (λ f. afterHeader (rowBits f) (instructionBits f)) header-within (λ s₁ c₁.
     fills-then (rows-within _ s₁ c₁) (λ s₂ c₂.
     fills-then (allProcesses-within _ s₂ c₂) (λ s₃ c₃.
     fills-then (allTuples-within _ s₃ c₃) (λ s₄ c₄.

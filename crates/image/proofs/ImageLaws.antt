@@ -78,7 +78,7 @@ module _ (s : List ℕ) (p q : Step) where
   unfolding tuplesOf nodeAt
   tuples-turn n i net x w e = on s p q q _ _ x _ (rw e w) (stop s q _)
 
-  pub instruction-turn : (n k i : ℕ) (net : Net) (c : Instruction) → Went s p (instruction n k) q c → net .addresses ≡ n
-      → net .length ≡ k → Went s p (instructionOf (placeOf i) net) q (withInstruction net (placeOf i) c)
+  pub instruction-turn : (f n k i : ℕ) (net : Net) (c : Instruction) → Went s p (instruction f n k) q c → net .format ≡ f
+      → net .addresses ≡ n → net .length ≡ k → Went s p (instructionOf (placeOf i) net) q (withInstruction net (placeOf i) c)
   unfolding instructionOf
-  instruction-turn n k i net c w e f = on s p q q _ _ c _ (rw (e, f) w) (stop s q _)
+  instruction-turn f n k i net c w d e g = on s p q q _ _ c _ (rw (d, e, g) w) (stop s q _)

@@ -85,7 +85,7 @@ unfolding judgedNet
 judged-take s k (got net p) l = ap (λ (f : Fault). choose (admits net) (accepted net) (refused f)) (beyond-take s k net l)
 judged-take s k (fault f) l = refl
 
-pub opened-take : (s : List ℕ) (k : ℕ) → 19 + afterHeader (16 * 65) ≤ 8 * k → openedOf (take k s) ≡ openedOf s
+pub opened-take : (s : List ℕ) (k : ℕ) → 19 + afterHeader (16 * 65) 170 ≤ 8 * k → openedOf (take k s) ≡ openedOf s
 unfolding openedOf
 opened-take s k l =
     judged-take s k (layout (take k s) 0) (omega arith) ∙ ap (judgedNet s) (layout-closes .same s 0 k (omega arith))

@@ -143,7 +143,7 @@ allTuples s = eachAddress (s .addresses) tuplesOf s
 -- ---- 5. for each code place its instruction
 unfoldable pub instructionOf : Place → Net → Reader Net
 instructionOf p s = do
-  c ← instruction (s .addresses) (s .length)
+  c ← instruction (s .format) (s .addresses) (s .length)
   pure (withInstruction s p c)
 
 unfoldable pub code : Net → Reader Net

@@ -13,13 +13,14 @@ pub(crate) fn read_code(s: &[u8], from: Step, start: Net) -> NetRead
     requires { ⌜ start .length ≤ 512 ⌝ }
     ensures { λ r. ⌜ Built (seen (now (s .entry))) from (code start) start r ⌝ }
 {
+    let format = start.format;
     let n = start.addresses;
     let k = start.length;
     let mut net = start;
     let mut step = from;
     let mut i = 0;
     while i < k {
-        let got = read_instruction(s, step, n, k);
+        let got = read_instruction(s, step, format, n, k);
         let instruction = got.instruction;
         net.code[i] = instruction;
         step = got.next;

@@ -22,7 +22,7 @@ ghost use Rattle.readers.specs.Progress.{Went};
 
 // How many bytes the longest accepted image has, one of format 2: one byte more of an image decides what it gives (proved:
 // `FirstBytesDecide` of the crate `accepted`).
-pub const LONGEST_IMAGE: usize = 16699;
+pub const LONGEST_IMAGE: usize = 17339;
 
 // What reading an image answers: a refusal has its fault, with the bit at which the field at fault begins.
 pub enum Verdict {

@@ -1,13 +1,20 @@
 -- How many bits an instruction takes at most, a bound for each of its parts (`specs/Instruction.antt`). Assumes nothing.
-use Prim.Native.Nat.{ℕ, _+_, _*_}
-use mathlib.Core.Bool.{Bool}
+use Prim.Native.Nat.{ℕ, zero, suc, _+_, _*_, _<_, _≤_}
+use mathlib.Core.Path.{_≡_, refl}
+use mathlib.Core.Bool.{Bool, true, false}
+use mathlib.Core.List.{List}
 use native.Mathlib.Omega.{arith}
+use lib.ListN.{length}
+use lib.Dec.{eqb}
+use Rattle.net.specs.Choice.{choose}
+use Rattle.readers.specs.Reader.{Reader, _>>=_, alternative}
+use Rattle.bitreader.specs.BitReader.{field}
 use Rattle.instructions.specs.Types.{Place, Target, Action, Instruction}
 use Rattle.instructions.specs.Instruction.{writtenTarget, heldTarget, target, readingPattern, addressPattern, heldPattern}
 use Rattle.instructions.specs.Instruction.{fresh, formalReading, formalAddress, kind, pattern, templateField, template}
-use Rattle.instructions.specs.Instruction.{communication, evaluation, creation, forking, instruction}
+use Rattle.instructions.specs.Instruction.{communication, evaluation, creation, forking, group, spreading, actionsIn, instruction}
 use Rattle.bitreader.proofs.Budget.{Within, Anything, any, nothing, _or_, widen, pure-within, bind, gives, simply, tested-within}
-use Rattle.bitreader.proofs.Budget.{each-within, alternative-within, field-within, bits-within}
+use Rattle.bitreader.proofs.Budget.{AllWithin, each-within, alternative-within, field-within, bits-within}
 use Rattle.bitreader.proofs.FieldsWithin.{address-within, place-within, reading-within, variable-within}
 
 writtenTarget-within : (n : ℕ) → Within (writtenTarget n) 4 Anything
@@ -102,17 +109,60 @@ forking-within : (k : ℕ) → Within (forking k) (9 + 9) Anything
 unfolding forking
 forking-within k = bind (place-within k) (λ p g. gives _ (place-within k))
 
-pub instruction-within : (n k : ℕ) → Within (instruction n k) (3 + 157) Anything
-unfolding instruction
-instruction-within n k =
-    bind (field-within _ _ _ _) (λ action h.
-    alternative-within
+group-within : (n : ℕ) → Within (group n) 16 Anything
+unfolding group
+group-within n = gives _ (tested-within 16 _ 23 (bits-within 16))
+
+spreading-within : (n k : ℕ) → Within (spreading n k) (16 + 142 + 9) Anything
+unfolding spreading
+spreading-within n k =
+    bind (group-within n) (λ g f.
+    bind (template-within false n) (λ c h.
+    gives _ (place-within k)))
+
+-- ---- one of the actions of a format: those of format 1, and one more
+
+module _ {A : Type 0} {P : A → Type 0} where
+  wider : {b c : ℕ} {rs : List (Reader A)} → b ≤ c → AllWithin b P rs → AllWithin c P rs
+  wider l nothing = nothing
+  wider l (v or vs) = widen l v or wider l vs
+
+  before-last : {b : ℕ} {rs : List (Reader A)} (last : Reader A) → AllWithin b P rs → (k : ℕ) → k < length rs
+      → Within (alternative rs last k) b P
+  unfolding alternative
+  before-last last nothing k h = absurd (omega arith)
+  before-last last (v or vs) zero h = v
+  before-last last (v or vs) (suc k) h = before-last last vs k (omega arith)
+
+  one-of : (first : Bool) {b c : ℕ} {rs : List (Reader A)} {last : Reader A} → b ≤ c → AllWithin b P rs → length rs ≡ 7
+      → Within last c P → Within (field 3 0 (choose first 7 8) 25 >>= alternative rs last) (choose first (3 + b) (3 + c)) P
+  unfolding choose
+  one-of true {last = last} l vs e w = bind (field-within _ _ _ _) (λ action h. before-last last vs action (omega arith))
+  one-of false l vs e w = bind (field-within _ _ _ _) (λ action h. alternative-within (wider l vs) w action)
+
+-- how many bits an instruction takes at most: in format 2 an out to a set is the longest
+unfoldable pub instructionBits : ℕ → ℕ
+instructionBits f = choose (eqb f 1) (3 + 157) (3 + 167)
+
+pub instructionBits-most : (f : ℕ) → instructionBits f ≤ 3 + 167
+unfolding instructionBits choose
+instructionBits-most f = by (eqb f 1)
+  where
+    by : (b : Bool) → choose b (3 + 157) (3 + 167) ≤ 3 + 167
+    by true = omega arith
+    by false = omega arith
+
+pub instruction-within : (f n k : ℕ) → Within (instruction f n k) (instructionBits f) Anything
+unfolding instruction instructionBits actionsIn
+instruction-within f n k =
+    one-of (eqb f 1) (omega arith)
     (widen (omega arith) (pure-within _ any)
     or communication-within _ _ n k
     or communication-within _ _ n k
     or communication-within _ _ n k
     or widen (omega arith) (evaluation-within n k)
     or widen (omega arith) (creation-within k)
+    or widen (omega arith) (forking-within k)
     or nothing)
-    (widen (omega arith) (forking-within k))
-    action)
+    refl
+    (spreading-within n k)

@@ -1,11 +1,13 @@
--- Instructions of an image (document 01, "The image", part 5): n is the address count and k the code length.
+-- Instructions of an image (document 01, "The image", part 5; document 02, slip 11): f is the format, n the address count and k
+-- the code length.
 use Prim.Native.Nat.{ℕ, _+_}
 use mathlib.Core.Bool.{Bool, true, false, not}
 use mathlib.Core.List.{[], _∷_}
-use lib.Dec.{ltb}
-use Rattle.net.specs.Choice.{implies}
+use lib.Dec.{eqb, ltb}
+use Rattle.net.specs.Choice.{choose, implies}
 use Rattle.net.specs.Records.{zeroInstruction, withPattern, withAction}
-use Rattle.sound.specs.Soundness.{unboundBefore}
+use Rattle.net.specs.declared.locality.Group.{Group}
+use Rattle.sound.specs.Soundness.{unboundBefore, groupSound}
 use Rattle.instructions.specs.Types.{Place, Target, Pattern, Action, Instruction}
 use Rattle.readers.specs.Reader.{Reader, pure, _>>=_, each, alternative, tested}
 use Rattle.bitreader.specs.BitReader.{field, bits}
@@ -104,9 +106,27 @@ forking k = do
   q ← place k
   pure (withAction zeroInstruction (Action.Fork p q))
 
-unfoldable pub instruction : ℕ → ℕ → Reader Instruction
-instruction n k = do
-  action ← field 3 0 7 25
+-- a set of addresses: 16 bits, the first for address 0; 23 at the first of them where a member is not below the address count
+unfoldable pub group : ℕ → Reader Group
+group n = do
+  v ← tested 16 (bits 16) (λ v. groupSound n (record { 0 = v })) 23
+  pure (record { 0 = v })
+
+-- an out to a set: the set, template, next place
+unfoldable pub spreading : ℕ → ℕ → Reader Instruction
+spreading n k = do
+  g ← group n
+  c ← template false n
+  p ← place k
+  pure (withAction c (Action.OutAll g p))
+
+-- how many actions a format has: 7 is one in format 2 alone
+unfoldable pub actionsIn : ℕ → ℕ
+actionsIn f = choose (eqb f 1) 7 8
+
+unfoldable pub instruction : ℕ → ℕ → ℕ → Reader Instruction
+instruction f n k = do
+  action ← field 3 0 (actionsIn f) 25
   alternative
       (pure zeroInstruction
       ∷ communication Action.Out false n k
@@ -114,6 +134,7 @@ instruction n k = do
       ∷ communication Action.Read true n k
       ∷ evaluation n k
       ∷ creation k
+      ∷ forking k
       ∷ [])
-      (forking k)
+      (spreading n k)
       action

@@ -1,5 +1,6 @@
-// Instructions of an image (document 01, "The image", part 5).
+// Instructions of an image (document 01, "The image", part 5; document 02, slip 11).
 use crate::template::read_template;
+use bitreader::bits::Taken;
 use bitreader::bits::take;
 use bitreader::fields::read_address;
 use bitreader::fields::read_place;
@@ -7,12 +8,16 @@ use bitreader::fields::read_variable;
 use net::instruction::Action;
 use net::instruction::Instruction;
 use net::instruction::Target;
+use net::locality::Group;
 use net::locality::Place;
 use readers::step::Step;
+use readers::step::require_in;
+use sound::groups::group_sound;
 ghost use Rattle.instructions.specs.Instruction.{writtenTarget, heldTarget, target, communication, evaluation};
 ghost use Rattle.instructions.specs.Instruction.{creation};
-ghost use Rattle.instructions.specs.Instruction.{forking, instruction};
+ghost use Rattle.instructions.specs.Instruction.{forking, group, spreading, actionsIn, instruction};
 ghost use Rattle.readers.specs.Reader.{pure};
+ghost use Rattle.bitreader.specs.BitReader.{field};
 ghost use Rattle.bitreader.specs.Progress.{seen};
 ghost use Rattle.instructions.specs.Progress.{Spoken};
 ghost use Rattle.readers.specs.Progress.{Went};
@@ -22,6 +27,11 @@ ghost use mathlib.Core.Bool.{true, false};
 
 struct TargetRead {
     target: Target,
+    next: Step,
+}
+
+struct GroupRead {
+    group: Group,
     next: Step,
 }
 
@@ -191,6 +201,37 @@ fn read_fork(s: &[u8], from: Step, k: usize) -> CodeRead
     plain(action, next)
 }
 
+// A set of addresses, each of them below the address count.
+fn read_group(s: &[u8], from: Step, n: usize) -> GroupRead
+    ensures { λ r. ⌜ Went (seen (now (s .entry))) from (group n) (r .next) (r .group) ⌝ }
+{
+    let got = take(s, from, 16, 0, 65536, 28);
+    let v = got.value as u16;
+    let group = Group(v);
+    let ok = group_sound(n, group);
+    let read = got.next;
+    let next = require_in(read, got.at, 16, ok, 23);
+    GroupRead { group, next }
+}
+
+// A set, template and next place.
+fn read_spread(s: &[u8], from: Step, n: usize, k: usize) -> CodeRead
+    ensures { λ r. ⌜ Went (seen (now (s .entry))) from (spreading n k) (r .next) (r .instruction) ⌝ }
+{
+    let first = read_group(s, from, n);
+    let group = first.group;
+    let second = first.next;
+    let filled = read_template(s, second, false, n);
+    let template = filled.template;
+    let third = filled.next;
+    let last = read_place(s, third, k);
+    let place = last.place;
+    let next = last.next;
+    let action = Action::OutAll(group, place);
+    let instruction = template.with_action(action);
+    CodeRead { instruction, next }
+}
+
 fn stop(s: &[u8], from: Step) -> CodeRead
     ensures { λ r. ⌜ Went (seen (now (s .entry))) from (pure zeroInstruction) (r .next) (r .instruction) ⌝ }
 {
@@ -201,11 +242,26 @@ fn stop(s: &[u8], from: Step) -> CodeRead
     }
 }
 
-// An instruction: its action, then the action's own fields.
-pub fn read_instruction(s: &[u8], from: Step, n: usize, k: usize) -> CodeRead
-    ensures { λ r. ⌜ Went (seen (now (s .entry))) from (instruction n k) (r .next) (r .instruction) ⌝ }
+// How many actions a format has.
+fn actions_in(f: usize) -> usize
+    ensures { λ r. ⌜ r ≡ actionsIn f ⌝ }
 {
-    let got = take(s, from, 3, 0, 7, 25);
+    if f == 1 { 7 } else { 8 }
+}
+
+// The number of an action that the format has.
+fn read_action(s: &[u8], from: Step, f: usize) -> Taken
+    ensures { λ r. ⌜ Went (seen (now (s .entry))) from (field 3 0 (actionsIn f) 25) (r .next) (r .value) ⌝ }
+{
+    let end = actions_in(f);
+    take(s, from, 3, 0, end, 25)
+}
+
+// An instruction: its action, then the action's own fields.
+pub fn read_instruction(s: &[u8], from: Step, f: usize, n: usize, k: usize) -> CodeRead
+    ensures { λ r. ⌜ Went (seen (now (s .entry))) from (instruction f n k) (r .next) (r .instruction) ⌝ }
+{
+    let got = read_action(s, from, f);
     let action = got.value;
     let next = got.next;
     match action {
@@ -215,6 +271,7 @@ pub fn read_instruction(s: &[u8], from: Step, n: usize, k: usize) -> CodeRead
         3 => read_read(s, next, n, k),
         4 => read_eval(s, next, n, k),
         5 => read_new(s, next, k),
-        _ => read_fork(s, next, k),
+        6 => read_fork(s, next, k),
+        _ => read_spread(s, next, n, k),
     }
 }

@@ -12,10 +12,12 @@ use Rattle.image.proofs.code.read_code.Statement.{statement}
 use Rattle.image.proofs.code.read_code.Tie as tie
 
 abbrev Inv-loop : tie.InvT-loop
-Inv-loop s n k net₀ step₀ i₀ net step i = (net .addresses ≡ n) × ((net .length ≡ k) × Loop (seen s) step₀ k (λ p. instructionOf (placeOf p)) net₀ step i net)
+Inv-loop s format n k net₀ step₀ i₀ net step i =
+    (net .format ≡ format) ×
+    ((net .addresses ≡ n) × ((net .length ≡ k) × Loop (seen s) step₀ k (λ p. instructionOf (placeOf p)) net₀ step i net))
 
 abbrev μ-loop : tie.MeasureT-loop
-μ-loop s n k net₀ step₀ i₀ net step i = k - i
+μ-loop s format n k net₀ step₀ i₀ net step i = k - i
 
 pub read-code-spec : {M : Type 1} → statement M
 unfolding withInstruction code eachPlace
@@ -30,5 +32,5 @@ read-code-spec =
     (λ c. search needs)
     (λ c. search needs)
     (λ c. search needs)
-    (λ c. search (needs, turn, instruction-turn))
+    (λ c. (search needs, (search needs, (search needs, search (needs, turn, instruction-turn)))))
     (λ c. search (needs, every)))

@@ -1,5 +1,6 @@
 -- `instructions::instruction::read_instruction` meets its contract. Assumes nothing.
-use Rattle.readers.proofs.ReaderLaws.{on, chosen, chosen-last, past6}
+use Rattle.readers.proofs.ReaderLaws.{on, chosen, chosen-last}
+use Rattle.instructions.proofs.InstructionLaws.{past7}
 use Rattle.instructions.specs.Instruction.{instruction}
 use borrow.Author.Needs.{needs}
 use Rattle.instructions.proofs.instruction.read_instruction.Statement.{statement}
@@ -18,10 +19,12 @@ read-instruction-spec =
     (λ c κs. search needs)
     (λ c κs. search needs)
     (λ c κs. search needs)
+    (λ c κs. search needs)
     (λ c. search (needs, on, chosen))
     (λ c. search (needs, on, chosen))
     (λ c. search (needs, on, chosen))
     (λ c. search (needs, on, chosen))
     (λ c. search (needs, on, chosen))
     (λ c. search (needs, on, chosen))
-    (λ c. search (needs, on, chosen-last, past6)))
+    (λ c. search (needs, on, chosen))
+    (λ c. search (needs, on, chosen-last, past7)))

@@ -1,0 +1,15 @@
+-- `instructions::instruction::read_group` meets its contract. Assumes nothing.
+use Rattle.instructions.proofs.InstructionLaws.{group-parts}
+use borrow.Author.Needs.{needs}
+use Rattle.instructions.proofs.instruction.read_group.Statement.{statement}
+use Rattle.instructions.proofs.instruction.read_group.Tie as tie
+
+pub read-group-spec : {M : Type 1} → statement M
+read-group-spec =
+    tie.close
+    (tie.spec
+    (λ c κs. search needs)
+    (λ c. search needs)
+    (λ c κs. search needs)
+    (λ c κs. search needs)
+    (λ c. search (needs, group-parts, c .require-in .ensures)))
