@@ -1,5 +1,5 @@
--- What passes the tests of fit (`specs/Fresh.antt`): arrays of records that pass, an instruction with another action, and the
--- zero records. Assumes nothing.
+-- What passes the tests of fit (`specs/Fresh.antt`): arrays of records that pass, an instruction with another action that
+-- passes, and the zero records. Assumes nothing.
 use Prim.Native.Nat.{ℕ}
 use mathlib.Core.Path.{_≡_, refl}
 use mathlib.Core.Bool.{Bool, true}
@@ -10,12 +10,12 @@ use borrow.Author.Tests.{eq-eqb}
 use Rattle.net.specs.Choice.{both, all}
 use Rattle.net.specs.Records.{zeroField, zeroTuple, freeProcess, alike, zeroRow, zeroNode, zeroTemplateField, zeroInstruction}
 use Rattle.net.specs.Records.{fieldAt, rowAt, processAt, tupleAt, patternAt, nodeAt, instructionAt, withAction}
-use Rattle.net.specs.declared.instruction.Action.{Action}
-use Rattle.net.proofs.Laws.{both-i, all-i}
+use Rattle.net.proofs.Laws.{both-i, both-r, all-i}
 use Rattle.net.proofs.Every.{Every}
 use Rattle.net.proofs.Past.{pastNode, pastInstruction}
-use Rattle.fresh.specs.Types.{Instruction, Net}
-use Rattle.fresh.specs.Fresh.{readingFits, itemFits, patternFits, tupleFits, processFits, rowFits, nodeFits, instructionFits, netFits}
+use Rattle.fresh.specs.Types.{Action, Instruction, Net}
+use Rattle.fresh.specs.Fresh.{readingFits, itemFits, patternFits, tupleFits, processFits, rowFits, nodeFits, actionFits}
+use Rattle.fresh.specs.Fresh.{instructionFits, netFits}
 
 pub array-fits :
     {A : Type 0} {d : A} {size : ℕ} {xs : List A} (test : A → Bool) → Every (λ i x. test x ≡ true) d size xs
@@ -28,10 +28,10 @@ pub net-fits :
 unfolding netFits nodeAt instructionAt
 net-fits s nodes code = both-i _ _ (array-fits nodeFits nodes) (array-fits instructionFits code)
 
--- the action does not matter
-pub action-fits : (c : Instruction) (a : Action) → instructionFits c ≡ true → instructionFits (withAction c a) ≡ true
+pub action-fits :
+    (c : Instruction) (a : Action) → actionFits a ≡ true → instructionFits c ≡ true → instructionFits (withAction c a) ≡ true
 unfolding instructionFits patternAt withAction
-action-fits c a h = h
+action-fits c a e h = both-i _ _ e (both-r (actionFits (c .action)) _ h)
 
 -- ---- the zero records
 pub zero-node-fits : nodeFits zeroNode ≡ true
@@ -39,5 +39,5 @@ unfolding nodeFits zeroNode alike zeroRow rowAt processAt tupleAt freeProcess ze
 zero-node-fits = refl
 
 pub zero-instruction-fits : instructionFits zeroInstruction ≡ true
-unfolding instructionFits zeroInstruction patternAt zeroTemplateField patternFits readingFits all both
+unfolding instructionFits actionFits zeroInstruction patternAt zeroTemplateField patternFits readingFits all both
 zero-instruction-fits = refl

@@ -1,5 +1,5 @@
--- Every net that a running program holds fits (`netFits` of `specs/Fresh.antt`): its arrays have their lengths and its
--- readings 32 bits. So says the relation that the logic has between a value of a type and its machine values, type by
+-- Every net that a running program holds fits (`netFits` of `specs/Fresh.antt`): its arrays have their lengths, its
+-- readings 32 bits and its sets 16. So says the relation that the logic has between a value of a type and its machine values, type by
 -- type. Assumes nothing.
 use Prim.Native.Nat.{_<_}
 use mathlib.Core.Path.{_≡_, refl}
@@ -14,6 +14,7 @@ use denote.Struct.Declared.{row, field}
 use denote.Enum.Declared as enum
 use Rattle.net.proofs.Laws.{both-i, all-i}
 use Rattle.net.proofs.Lengths.{long, element}
+use Rattle.net.proofs.instruction.Action as action
 use Rattle.net.proofs.instruction.Instruction as instruction
 use Rattle.net.proofs.instruction.TemplateField as templateField
 use Rattle.net.proofs.instruction.Pattern as pattern
@@ -27,8 +28,9 @@ use Rattle.net.proofs.tuple.Item as item
 use Rattle.net.proofs.tuple.Tuple as tuple
 use Rattle.net.proofs.tuple.Variable as variable
 use Rattle.net.specs.Records.{fieldAt, patternAt, rowAt, processAt, tupleAt, nodeAt, instructionAt}
-use Rattle.fresh.specs.Types.{Item, Field, Tuple, Row, Process, Node, Pattern, TemplateField, Instruction, Net}
-use Rattle.fresh.specs.Fresh.{readingFits, itemFits, patternFits, tupleFits, processFits, rowFits, nodeFits, instructionFits, netFits}
+use Rattle.fresh.specs.Types.{Item, Field, Tuple, Row, Process, Node, Pattern, TemplateField, Action, Instruction, Net}
+use Rattle.fresh.specs.Fresh.{readingFits, itemFits, patternFits, tupleFits, processFits, rowFits, nodeFits, actionFits}
+use Rattle.fresh.specs.Fresh.{instructionFits, netFits}
 
 reading-fits : (z : ℤ) → mag z < 2147483648 → readingFits z ≡ true
 unfolding readingFits
@@ -76,15 +78,28 @@ row-fits : (r : Row) (vs : List Val) → Is (field policy.the-type .row) (policy
 unfolding rowFits
 row-fits r vs h = eq-eqb _ _ (long rights.the-type (r .rights) 16 _ (h .1 .1 .1 .0))
 
+action-fits :
+    (x : Action) (vs : List Val) → Is (enum.field action.the-type .row) (action.the-type .to x) vs → actionFits x ≡ true
+unfolding actionFits
+action-fits Action.Stop vs h = refl
+action-fits (Action.Out t p) vs h = refl
+action-fits (Action.In t p) vs h = refl
+action-fits (Action.Read t p) vs h = refl
+action-fits (Action.Eval t sent p) vs h = refl
+action-fits (Action.New v p) vs h = refl
+action-fits (Action.Fork p q) vs h = refl
+action-fits (Action.OutAll g p) vs h = lt-ltb (g .0) 65536 (h .1 .1 .1 .1 .0 .1 .1 .0 .1)
+
 instruction-fits :
     (c : Instruction) (vs : List Val) → Is (field instruction.the-type .row) (instruction.the-type .to c) vs
     → instructionFits c ≡ true
 unfolding instructionFits patternAt
 instruction-fits c vs h =
     let known = h .1 .1 .1 .1 .0 in
-    both-i _ _ (eq-eqb _ _ (long templateField.the-type (c .template) 4 _ known))
+    both-i _ _ (action-fits (c .action) _ (h .1 .1 .0))
+    (both-i _ _ (eq-eqb _ _ (long templateField.the-type (c .template) 4 _ known))
     (all-i 4 _
-    (element templateField.the-type (λ f. patternFits (f .pattern) ≡ true) template-field-fits (c .template) 4 _ known _))
+    (element templateField.the-type (λ f. patternFits (f .pattern) ≡ true) template-field-fits (c .template) 4 _ known _)))
 
 node-fits : (x : Node) (vs : List Val) → Is (field node.the-type .row) (node.the-type .to x) vs → nodeFits x ≡ true
 unfolding nodeFits rowAt processAt tupleAt

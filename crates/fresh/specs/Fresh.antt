@@ -9,11 +9,11 @@ use lib.IntN.{ℤ}
 use Rattle.net.specs.Choice.{choose, both, implies, all}
 use Rattle.net.specs.Records.{fieldAt, rowAt, processAt, tupleAt, patternAt, nodeAt, instructionAt, addressOf, placeOf, processCount}
 use Rattle.sound.specs.Soundness.{allUnset, soundOf}
-use Rattle.fresh.specs.Types.{Locality, Item, Tuple, Row, Process, Node, Pattern, Instruction, Net}
+use Rattle.fresh.specs.Types.{Locality, Item, Tuple, Row, Process, Node, Pattern, Action, Instruction, Net}
 use Rattle.keeping.specs.Admission.{admits}
 
 -- ---- what the types of a running program fix and the definitions' lists and whole numbers do not: readings of 32
--- bits, and the length of each array ("The net")
+-- bits, sets of 16, and the length of each array ("The net")
 unfoldable pub readingFits : ℤ → Bool
 readingFits (ℤ.pos v) = ltb v 2147483648
 readingFits (ℤ.negsuc v) = ltb v 2147483648
@@ -45,8 +45,20 @@ nodeFits x =
     (both (both (eqb (length (x .processes)) 4) (all 4 (λ i. processFits (processAt x i))))
     (both (eqb (length (x .tuples)) 16) (all 16 (λ i. tupleFits (tupleAt x i)))))
 
+-- a set has 16 bits
+unfoldable pub actionFits : Action → Bool
+actionFits Action.Stop = true
+actionFits (Action.Out t p) = true
+actionFits (Action.In t p) = true
+actionFits (Action.Read t p) = true
+actionFits (Action.Eval t sent p) = true
+actionFits (Action.New v p) = true
+actionFits (Action.Fork p q) = true
+actionFits (Action.OutAll g p) = ltb (g .0) 65536
+
 unfoldable pub instructionFits : Instruction → Bool
-instructionFits c = both (eqb (length (c .template)) 4) (all 4 (λ i. patternFits (patternAt c i)))
+instructionFits c =
+    both (actionFits (c .action)) (both (eqb (length (c .template)) 4) (all 4 (λ i. patternFits (patternAt c i))))
 
 unfoldable pub netFits : Net → Bool
 netFits s =

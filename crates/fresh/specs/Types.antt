@@ -8,5 +8,6 @@ pub use Rattle.net.specs.declared.process.Process.{Process}
 pub use Rattle.net.specs.declared.node.Node.{Node}
 pub use Rattle.net.specs.declared.instruction.Pattern.{Pattern}
 pub use Rattle.net.specs.declared.instruction.TemplateField.{TemplateField}
+pub use Rattle.net.specs.declared.instruction.Action.{Action}
 pub use Rattle.net.specs.declared.instruction.Instruction.{Instruction}
 pub use Rattle.net.specs.declared.network.Net.{Net}

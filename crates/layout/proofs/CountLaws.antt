@@ -28,10 +28,10 @@ node-few f n k x ok = record {
       (of-zero (λ (t : Tuple). t .count ≤ 4) few-none);
 }
 
-instruction-few : (n k : ℕ) (c : Instruction) → InstructionOk n k c → c .count ≤ 4
+instruction-few : (f n k : ℕ) (c : Instruction) → InstructionOk f n k c → c .count ≤ 4
 unfolding withAction zeroInstruction
-instruction-few n k c =
-    instruction-each n k c (λ (b : Instruction). b .count ≤ 4) (λ ok. ok .most) (λ a. omega arith)
+instruction-few f n k c =
+    instruction-each f n k c (λ (b : Instruction). b .count ≤ 4) (λ ok. ok .most) (λ a. omega arith)
 
 pub counts-of : (s : Net) → Shaped s → soundOf s ≡ true → Counts s
 unfolding nodeAt instructionAt
@@ -47,8 +47,8 @@ counts-of s shape h =
           filled-each {Q = NodeCounts} (ok .nodes-ok) (node-few f n k)
           (of-zero NodeCounts (node-few f n k _ (zero-node f n k))) (a .0);
       code-few = λ p.
-          filled-each {Q = λ (c : Instruction). c .count ≤ 4} (ok .code-ok) (instruction-few n k)
-          (of-zero (λ (c : Instruction). c .count ≤ 4) (instruction-few n k _ (zero-instruction n k))) (p .0);
+          filled-each {Q = λ (c : Instruction). c .count ≤ 4} (ok .code-ok) (instruction-few f n k)
+          (of-zero (λ (c : Instruction). c .count ≤ 4) (instruction-few f n k _ (zero-instruction f n k))) (p .0);
     }
 
 -- ---- as the code uses them

@@ -1,4 +1,4 @@
-// What an image writes of the code (document 01, "The image", 5).
+// What an image writes of the code (document 01, "The image", 5; document 02, slip 11).
 use crate::bits::put_number;
 use crate::bits::put_pair;
 use crate::fields::one_less;
@@ -9,6 +9,7 @@ use net::instruction::Action;
 use net::instruction::Instruction;
 use net::instruction::Pattern;
 use net::instruction::Target;
+use net::locality::Group;
 use net::locality::Place;
 use net::network::Net;
 ghost use Prim.Native.Nat.{_≤_};
@@ -126,6 +127,17 @@ fn put_fork(out: &mut [bool], at: usize, p: Place, q: Place) -> usize
     put_place(out, second, q)
 }
 
+// An out to a set: the set, template and next place.
+fn put_spread(out: &mut [bool], at: usize, g: Group, c: Instruction, p: Place) -> usize
+    requires { ⌜ c .count ≤ 4 ⌝ }
+    ensures { λ r. ⌜ Wrote (now (out .entry)) at (bitsOf 3 7 ++ (bitsOf 16 (g .0) ++ (templateBits c ++ placeBits p))) (now (out .exit)) r ⌝ }
+{
+    let first = put_number(out, at, 3, 7);
+    let second = put_number(out, first, 16, g.0 as usize);
+    let third = put_template(out, second, c);
+    put_place(out, third, p)
+}
+
 // An action, with the template of its instruction.
 fn put_action(out: &mut [bool], at: usize, c: Instruction, action: Action) -> usize
     requires { ⌜ c .count ≤ 4 ⌝ }
@@ -139,6 +151,7 @@ fn put_action(out: &mut [bool], at: usize, c: Instruction, action: Action) -> us
         Action::Eval(t, sent, p) => put_eval(out, at, t, sent, p),
         Action::New(v, p) => put_new(out, at, v, p),
         Action::Fork(p, q) => put_fork(out, at, p, q),
+        Action::OutAll(g, p) => put_spread(out, at, g, c, p),
     }
 }
 

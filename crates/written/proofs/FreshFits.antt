@@ -1,5 +1,5 @@
--- The test of fit (`specs/Fresh.antt`) taken apart: a record that passes it has the lengths of its type, and its readings
--- have 32 bits. Assumes nothing.
+-- The test of fit (`specs/Fresh.antt`) taken apart: a record that passes it has the lengths of its type, its readings have
+-- 32 bits and its sets 16. Assumes nothing.
 use Prim.Native.Nat.{ℕ, _<_}
 use mathlib.Core.Path.{_≡_}
 use mathlib.Core.Bool.{true}
@@ -10,7 +10,8 @@ use Rattle.net.specs.Choice.{both, all}
 use Rattle.net.specs.Records.{fieldAt, patternAt, rowAt, processAt, tupleAt, nodeAt, instructionAt, addressOf, placeOf}
 use Rattle.net.specs.Shape.{ShapedTuple, ShapedRow, ShapedProcess, ShapedNode, ShapedInstruction, Shaped}
 use Rattle.written.specs.Types.{Tuple, Row, Process, Node, Instruction, Net}
-use Rattle.fresh.specs.Fresh.{itemFits, patternFits, tupleFits, processFits, rowFits, nodeFits, instructionFits, netFits}
+use Rattle.fresh.specs.Fresh.{itemFits, patternFits, tupleFits, processFits, rowFits, nodeFits, actionFits, instructionFits}
+use Rattle.fresh.specs.Fresh.{netFits}
 use Rattle.net.proofs.Laws.{both-l, both-r, all-e}
 
 pub record TupleFit (t : Tuple) : Type 0 where
@@ -58,14 +59,18 @@ node-fit x h =
 
 pub record InstructionFit (c : Instruction) : Type 0 where
   pub shaped : ShapedInstruction c
+  pub action-fits : actionFits (c .action) ≡ true
   pub each-pattern : (i : ℕ) → i < 4 → patternFits (patternAt c i) ≡ true
 
 pub instruction-fit : (c : Instruction) → instructionFits c ≡ true → InstructionFit c
 unfolding instructionFits
-instruction-fit c h = record {
-  shaped = record { template-is = eqb-true _ _ (both-l _ _ h) };
-  each-pattern = all-e 4 _ (both-r (eqb (length (c .template)) 4) _ h);
-}
+instruction-fit c h =
+    let template = both-r (actionFits (c .action)) _ h in
+    record {
+      shaped = record { template-is = eqb-true _ _ (both-l _ _ template) };
+      action-fits = both-l _ _ h;
+      each-pattern = all-e 4 _ (both-r (eqb (length (c .template)) 4) _ template);
+    }
 
 pub record NetFit (s : Net) : Type 0 where
   pub shaped : Shaped s

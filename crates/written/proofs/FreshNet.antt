@@ -8,15 +8,15 @@ use native.Mathlib.Omega.{arith}
 use native.Mathlib.Decide.{decLe}
 use lib.ListN.{getD}
 use lib.Dec.{ltb, eqb}
-use borrow.Author.Tests.{eq-eqb, ltb-true}
+use borrow.Author.Tests.{eq-eqb, ltb-true, lt-ltb}
 use Rattle.net.specs.Choice.{both, implies, all}
 use Rattle.net.specs.Records.{startingAt, zeroField, zeroTuple, freeProcess, zeroNode, addressOf}
 use Rattle.net.specs.Records.{zeroTemplateField, zeroInstruction, fieldAt, rowAt, processAt, tupleAt, patternAt, nodeAt}
 use Rattle.net.specs.Records.{instructionAt, withAction}
-use Rattle.written.specs.Types.{Locality, Place, Tuple, Process, Node, Target, Action, Instruction, Net}
+use Rattle.written.specs.Types.{Locality, Place, Tuple, Process, Node, Action, Instruction, Net}
 use Rattle.sound.specs.Soundness.{allUnset, soundOf}
-use Rattle.fresh.specs.Fresh.{readingFits, itemFits, patternFits, tupleFits, processFits, rowFits, nodeFits, instructionFits}
-use Rattle.fresh.specs.Fresh.{netFits, nodeStarts, ownOrigin, ownOrigins, ownMark, ownMarks, startsAt}
+use Rattle.fresh.specs.Fresh.{readingFits, itemFits, patternFits, tupleFits, processFits, rowFits, nodeFits, actionFits}
+use Rattle.fresh.specs.Fresh.{instructionFits, netFits, nodeStarts, ownOrigin, ownOrigins, ownMark, ownMarks, startsAt}
 use Rattle.net.proofs.Laws.{both-i, both-l, both-r, implies-i, all-i, all-e}
 use Rattle.net.proofs.Every.{Every, every-weaken, Filled, filled-at}
 use Rattle.net.proofs.SlotLaws.{slot-busy}
@@ -68,37 +68,47 @@ node-fits a f n k x ok =
     (array-fits tupleFits (passes tupleFits (ok .store-ok .tuples-ok) (tuple-fits _ n) refl)))
 
 template-fits : (formals : Bool) (n : ℕ) (c : Instruction) → TemplateOk formals n c → instructionFits c ≡ true
-unfolding instructionFits patternAt zeroTemplateField patternFits readingFits
+unfolding instructionFits actionFits patternAt zeroTemplateField patternFits readingFits
 template-fits formals n c ok =
-    array-fits (λ f. patternFits (f .pattern))
-    (passes (λ f. patternFits (f .pattern)) (ok .patterns-ok) (λ f i. i .fits) refl)
+    both-i _ _ (ap actionFits (sym (ok .no-action)))
+    (array-fits (λ f. patternFits (f .pattern))
+    (passes (λ f. patternFits (f .pattern)) (ok .patterns-ok) (λ f i. i .fits) refl))
 
-fits-with : (c b : Instruction) (a : Action) → withAction c a ≡ b → instructionFits c ≡ true → instructionFits b ≡ true
-fits-with c b a e h = ap instructionFits (sym e) ∙ action-fits c a h
+fits-with : (c b : Instruction) (a : Action) → withAction c a ≡ b → actionFits a ≡ true → instructionFits c ≡ true
+    → instructionFits b ≡ true
+fits-with c b a e h g = ap instructionFits (sym e) ∙ action-fits c a h g
 
 module _ (n k : ℕ) (c : Instruction) where
-  spoken-fits : (make : Target → Place → Action) (formals : Bool) → Communicated make formals n k c → instructionFits c ≡ true
+  spoken-fits : {To : Type 0} {Fine : To → Type 0} (make : To → Place → Action) (formals : Bool)
+      → ((t : To) (p : Place) → Fine t → actionFits (make t p) ≡ true) → Communicated Fine make formals n k c
+      → instructionFits c ≡ true
   unfolding Communicated
-  spoken-fits make formals (t, _, (b, ok, (p, _, e))) = fits-with b c (make t p) e (template-fits formals n b ok)
+  spoken-fits make formals fits (t, good, (b, ok, (p, _, e))) =
+      fits-with b c (make t p) e (fits t p good) (template-fits formals n b ok)
+
+  bare-fits : (a : Action) → withAction zeroInstruction a ≡ c → actionFits a ≡ true → instructionFits c ≡ true
+  bare-fits a e h = fits-with zeroInstruction c a e h zero-instruction-fits
 
   acting-fits : (v : ℕ) → Acting n k v c → instructionFits c ≡ true
-  unfolding Acting Evaluated Created Forked
+  unfolding actionFits Acting Evaluated Created Forked
   acting-fits zero a = ap instructionFits (sym a) ∙ zero-instruction-fits
-  acting-fits (suc zero) a = spoken-fits Action.Out false a
-  acting-fits (suc (suc zero)) a = spoken-fits Action.In true a
-  acting-fits (suc (suc (suc zero))) a = spoken-fits Action.Read true a
-  acting-fits (suc (suc (suc (suc zero)))) a = fits-with zeroInstruction c _ (a .2 .2 .2) zero-instruction-fits
-  acting-fits (suc (suc (suc (suc (suc zero))))) a = fits-with zeroInstruction c _ (a .2 .2) zero-instruction-fits
-  acting-fits (suc (suc (suc (suc (suc (suc v)))))) a = fits-with zeroInstruction c _ (a .2 .2) zero-instruction-fits
+  acting-fits (suc zero) a = spoken-fits Action.Out false (λ t p _. refl) a
+  acting-fits (suc (suc zero)) a = spoken-fits Action.In true (λ t p _. refl) a
+  acting-fits (suc (suc (suc zero))) a = spoken-fits Action.Read true (λ t p _. refl) a
+  acting-fits (suc (suc (suc (suc zero)))) a = bare-fits _ (a .2 .2 .2) refl
+  acting-fits (suc (suc (suc (suc (suc zero))))) a = bare-fits _ (a .2 .2) refl
+  acting-fits (suc (suc (suc (suc (suc (suc zero)))))) a = bare-fits _ (a .2 .2) refl
+  acting-fits (suc (suc (suc (suc (suc (suc (suc v))))))) a =
+      spoken-fits Action.OutAll false (λ g p ok. lt-ltb (g .0) 65536 (ok .fits)) a
 
-  instruction-fits : InstructionOk n k c → instructionFits c ≡ true
+  instruction-fits : (f : ℕ) → InstructionOk f n k c → instructionFits c ≡ true
   unfolding InstructionOk
-  instruction-fits a = acting-fits (a .0) (a .2)
+  instruction-fits f a = acting-fits (a .0) (a .2)
 
 pub net-fits : (s : Net) → NetOk s → netFits s ≡ true
 net-fits s ok =
     FitLaws.net-fits s (passes-at (λ _. nodeFits) (ok .nodes-ok) (λ a. node-fits a _ _ _) (λ _. zero-node-fits))
-    (passes instructionFits (ok .code-ok) (instruction-fits _ _) zero-instruction-fits)
+    (passes instructionFits (ok .code-ok) (λ c. instruction-fits _ _ c _) zero-instruction-fits)
 
 -- ---- starting processes
 node-starts : (a : Locality) (k c : ℕ) (x : Node) → ProcessesOk a k c x → nodeStarts x ≡ true
@@ -169,5 +179,5 @@ fresh-ok s f h g =
               unused = λ u. sym (ok .nodes-ok .holds a l .unused u);
             };
       };
-      code-ok = filled-at (ok .code-ok) (λ p l. instruction-ok _ _ _ (fit .each-instruction p l)) (λ c. sym);
+      code-ok = filled-at (ok .code-ok) (λ p l. instruction-ok _ _ _ _ (fit .each-instruction p l)) (λ c. sym);
     }

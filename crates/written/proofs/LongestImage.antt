@@ -1,6 +1,6 @@
--- A net of each format whose image is the longest, of 14,749 bytes in format 1 and 16,699 in format 2: 16 addresses, each with 4
--- processes and 16 tuples of 4 readings, and 512 outs of 4 readings at a written address; every row holds every right but n. The
--- format alone, f, tells one net from the other. Assumes nothing.
+-- A net of each format whose image is the longest, of 14,749 bytes in format 1 and 17,339 in format 2: 16 addresses, each with 4
+-- processes and 16 tuples of 4 readings, and 512 outs of 4 readings, in format 1 at a written address and in format 2 to every
+-- address; every row holds every right but n. The format, f, tells one net from the other. Assumes nothing.
 use Prim.Native.Nat.{ℕ, zero, suc, _+_, _*_, _/_, _<_, _≤_}
 use mathlib.Core.Path.{_≡_, refl, sym, ap, subst, _∙_}
 use mathlib.Core.Bool.{Bool, true, false}
@@ -13,10 +13,11 @@ use Rattle.net.specs.Choice.{choose, both, implies, all, fold, inRange}
 use Rattle.net.specs.Records.{startingAt, zeroField, unsetVariable, allRights, alike, zeroTemplateField, addressOf, placeOf}
 use Rattle.net.specs.Records.{fieldAt, variableAt, rightsAt, rowAt, processAt, tupleAt, patternAt, nodeAt, instructionAt, rowFor}
 use Rattle.net.specs.Records.{processCount}
+use Rattle.net.specs.Groups.{halved, member, allMembers}
 use Rattle.written.specs.Types.{Locality, Place, Tuple, Row, Process, Node, Target, Action, Instruction, Net}
-use Rattle.sound.specs.Soundness.{itemSound, isUnset, allUnset, targetSound, patternSound, templateSound, isActual}
+use Rattle.sound.specs.Soundness.{itemSound, isUnset, allUnset, targetSound, groupSound, patternSound, templateSound, isActual}
 use Rattle.sound.specs.Soundness.{actualsOnly, actionSound, templateFor, instructionSound, soundOf}
-use Rattle.keeping.specs.Keeping.{mayPut, atTarget, permits, permitsMarked, keepsOf}
+use Rattle.keeping.specs.Keeping.{mayPut, mayPutAll, atTarget, permits, permitsMarked, keepsOf}
 use Rattle.keeping.specs.Admission.{admitsProcess, admitsNode, admitsAt, admits}
 use Rattle.image.specs.Image.{accepted, openedOf}
 use Rattle.written.specs.Types.{Opened}
@@ -25,8 +26,8 @@ use Rattle.text.specs.Joined.{joined}
 use Rattle.written.specs.ImageOf.{processesBits, itemBits, tupleBits, tuplesBits, targetBits, patternBits}
 use Rattle.written.specs.ImageOf.{templateBits, actionBits, instructionBits, rowsBits, allProcessesBits, allTuplesBits}
 use Rattle.written.specs.ImageOf.{codeBits, netBits, imageOf}
-use Rattle.fresh.specs.Fresh.{readingFits, itemFits, patternFits, tupleFits, processFits, rowFits, nodeFits, instructionFits}
-use Rattle.fresh.specs.Fresh.{netFits, slotStarts, nodeStarts, ownOrigin, ownOrigins, ownMark, ownMarks, startsAt, freshOf}
+use Rattle.fresh.specs.Fresh.{readingFits, itemFits, patternFits, tupleFits, processFits, rowFits, nodeFits, actionFits}
+use Rattle.fresh.specs.Fresh.{instructionFits, netFits, slotStarts, nodeStarts, ownOrigin, ownOrigins, ownMark, ownMarks, startsAt, freshOf}
 use Rattle.written.specs.WrittenClaims.{Longest, LongestIsReached}
 use Rattle.accepted.specs.LengthClaims.{longestIn}
 use Rattle.net.proofs.Laws.{both-i, implies-i, all-i}
@@ -56,12 +57,13 @@ fullNode a = record {
   tuples = replicate 16 (fullTuple a);
 }
 
-fullInstruction : Instruction
-fullInstruction = record {
-  action = Action.Out (Target.Written (addressOf 0)) (placeOf 0);
-  count = 4;
-  template = replicate 4 zeroTemplateField;
-}
+-- in format 1, and in format 2
+fullAction : Bool → Action
+fullAction true = Action.Out (Target.Written (addressOf 0)) (placeOf 0)
+fullAction false = Action.OutAll (record { 0 = 65535 }) (placeOf 0)
+
+fullInstruction : Bool → Instruction
+fullInstruction first = record { action = fullAction first; count = 4; template = replicate 4 zeroTemplateField }
 
 fullNet : ℕ → Net
 fullNet f = record {
@@ -69,16 +71,16 @@ fullNet f = record {
   addresses = 16;
   length = 512;
   nodes = listed (λ a. fullNode (addressOf a)) 16;
-  code = replicate 512 fullInstruction;
+  code = replicate 512 (fullInstruction (eqb f 1));
 }
 
 node-is-full : (f : ℕ) (a : Locality) → a .0 < 16 → nodeAt (fullNet f) a ≡ fullNode a
 unfolding nodeAt fullNet
 node-is-full f a h = listed-at (λ b. fullNode (addressOf b)) pastNode 16 (a .0) h
 
-code-is-full : (f : ℕ) (p : Place) → p .0 < 512 → instructionAt (fullNet f .code) p ≡ fullInstruction
+code-is-full : (f : ℕ) (p : Place) → p .0 < 512 → instructionAt (fullNet f .code) p ≡ fullInstruction (eqb f 1)
 unfolding instructionAt fullNet
-code-is-full f p h = getD-replicate 512 (p .0) fullInstruction pastInstruction h
+code-is-full f p h = getD-replicate 512 (p .0) (fullInstruction (eqb f 1)) pastInstruction h
 
 -- ---- it is fresh
 node-fits : (a : Locality) → nodeFits (fullNode a) ≡ true
@@ -132,13 +134,15 @@ node-owns a =
     all-i 16 _ (λ i h. implies-i _ _ (λ _.
     eq-eqb _ _ (ap (λ (t : Tuple). t .mark .0) (getD-replicate 16 i (fullTuple a) pastTuple h))))
 
-instruction-fits : instructionFits fullInstruction ≡ true
-unfolding instructionFits fullInstruction patternAt zeroTemplateField patternFits readingFits all both
-instruction-fits = refl
+instruction-fits : (first : Bool) → instructionFits (fullInstruction first) ≡ true
+unfolding instructionFits actionFits fullInstruction fullAction patternAt zeroTemplateField patternFits readingFits all both
+instruction-fits true = refl
+instruction-fits false = refl
 
-instruction-sound : instructionSound 16 512 fullInstruction ≡ true
-unfolding instructionSound fullInstruction actionSound targetSound templateFor templateSound actualsOnly isActual patternSound patternAt zeroTemplateField inRange all both choose implies
-instruction-sound = refl
+instruction-sound : (f : ℕ) (first : Bool) → eqb f 1 ≡ first → instructionSound f 16 512 (fullInstruction first) ≡ true
+unfolding instructionSound fullInstruction fullAction actionSound targetSound groupSound allMembers member halved templateFor templateSound actualsOnly isActual patternSound patternAt zeroTemplateField inRange all both choose implies
+instruction-sound f true e = refl
+instruction-sound f false e = rw e refl
 
 module _ (f : ℕ) where
   nodes-length : length (fullNet f .nodes) ≡ 16
@@ -147,7 +151,7 @@ module _ (f : ℕ) where
 
   code-length : length (fullNet f .code) ≡ 512
   unfolding fullNet
-  code-length = length-replicate 512 fullInstruction
+  code-length = length-replicate 512 (fullInstruction (eqb f 1))
 
   net-fits : netFits (fullNet f) ≡ true
   unfolding netFits
@@ -155,7 +159,7 @@ module _ (f : ℕ) where
       both-i _ _
       (both-i _ _ (eq-eqb _ _ nodes-length) (all-i 16 _ (λ a h. ap nodeFits (node-is-full f (addressOf a) h) ∙ node-fits _)))
       (both-i _ _ (eq-eqb _ _ code-length)
-      (all-i 512 _ (λ p h. ap instructionFits (code-is-full f (placeOf p) h) ∙ instruction-fits)))
+      (all-i 512 _ (λ p h. ap instructionFits (code-is-full f (placeOf p) h) ∙ instruction-fits _)))
 
   net-sound : 1 ≤ f → f ≤ 2 → soundOf (fullNet f) ≡ true
   unfolding fullNet
@@ -174,16 +178,18 @@ module _ (f : ℕ) where
       });
     };
     code-ok =
-        every-replicate _ pastInstruction 512 fullInstruction (λ p l. record {
+        let full = fullInstruction (eqb f 1) in
+        every-replicate _ pastInstruction 512 full (λ p l. record {
           used = λ _.
-              instruction-apart 16 512 fullInstruction (instruction-fit fullInstruction instruction-fits .shaped) instruction-sound;
+              instruction-apart f 16 512 full (instruction-fit full (instruction-fits _) .shaped) (instruction-sound f _ refl);
           unused = λ u. absurd (omega arith);
         });
   })
 
-permitted : (a : Locality) → permits fullRow a (fullInstruction .action) ≡ true
-unfolding permits fullRow fullInstruction atTarget mayPut rightsAt allRights
-permitted a = refl
+permitted : (a : Locality) (first : Bool) → permits fullRow a (fullInstruction first .action) ≡ true
+unfolding permits fullRow fullInstruction fullAction atTarget mayPut mayPutAll allMembers member halved rightsAt allRights all both implies
+permitted a true = refl
+permitted a false = refl
 
 -- the row that a process of a full node is judged by
 judged-by : (a : Locality) → a .0 < 16 → (i : ℕ) → i < 4 → rowFor (fullNode a) (processAt (fullNode a) i) ≡ fullRow
@@ -198,7 +204,7 @@ module _ (f : ℕ) where
   unfolding keepsOf permitsMarked
   kept p a =
       all-i 512 _ (λ q h. implies-i _ _ (λ _.
-      ap (λ (c : Instruction). permits fullRow a (c .action)) (code-is-full f (placeOf q) h) ∙ permitted a))
+      ap (λ (c : Instruction). permits fullRow a (c .action)) (code-is-full f (placeOf q) h) ∙ permitted a _))
 
   net-admitted : admits (fullNet f) ≡ true
   unfolding admits admitsAt admitsNode admitsProcess
@@ -248,12 +254,13 @@ tuples-length : (a : Locality) → length (tuplesBits (fullNode a)) ≡ 2149
 unfolding tuplesBits fullNode tupleAt tupleBits fullTuple fieldAt zeroField itemBits readingBits joined bitsOf
 tuples-length a = refl
 
-instruction-length : length (instructionBits fullInstruction) ≡ 160
-unfolding instructionBits fullInstruction actionBits targetBits addressBits templateBits patternAt zeroTemplateField patternBits readingBits placeBits joined bitsOf
-instruction-length = refl
+instruction-length : (first : Bool) → length (instructionBits (fullInstruction first)) ≡ choose first 160 170
+unfolding instructionBits fullInstruction fullAction actionBits targetBits addressBits templateBits patternAt zeroTemplateField patternBits readingBits placeBits joined bitsOf choose
+instruction-length true = refl
+instruction-length false = refl
 
 -- the bits and bytes of the whole
-bytes-of : (b : Bool) → (116947 + 16 * choose b 65 1040 + 7) / 8 ≡ choose b 14749 16699
+bytes-of : (b : Bool) → (35027 + 16 * choose b 65 1040 + 512 * choose b 160 170 + 7) / 8 ≡ choose b 14749 17339
 unfolding choose
 bytes-of true = refl
 bytes-of false = refl
@@ -281,13 +288,13 @@ module _ (f : ℕ) where
       joined-length 16 2149 _
       (λ a h. ap (λ (x : Node). length (tuplesBits x)) (node-is-full f (addressOf a) h) ∙ tuples-length _)
 
-  code-bits-length : length (codeBits (fullNet f)) ≡ 81920
+  code-bits-length : length (codeBits (fullNet f)) ≡ 512 * choose (eqb f 1) 160 170
   unfolding codeBits fullNet
   code-bits-length =
-      joined-length 512 160 _
-      (λ p h. ap (λ (c : Instruction). length (instructionBits c)) (code-is-full f (placeOf p) h) ∙ instruction-length)
+      joined-length 512 (choose (eqb f 1) 160 170) _
+      (λ p h. ap (λ (c : Instruction). length (instructionBits c)) (code-is-full f (placeOf p) h) ∙ instruction-length _)
 
-  net-length : length (netBits (fullNet f)) ≡ 116947 + 16 * choose (eqb f 1) 65 1040
+  net-length : length (netBits (fullNet f)) ≡ 35027 + 16 * choose (eqb f 1) 65 1040 + 512 * choose (eqb f 1) 160 170
   unfolding netBits
   net-length =
       let s = fullNet f in

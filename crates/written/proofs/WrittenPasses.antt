@@ -224,7 +224,7 @@ codeOf s₀ = record {
   put = λ p s c. withInstruction s (placeOf p) c;
   cut = λ p s c. withInstruction s (placeOf p) c;
   past = pastInstruction;
-  Good = λ p. InstructionOk (s₀ .addresses) (s₀ .length);
+  Good = λ p. InstructionOk (s₀ .format) (s₀ .addresses) (s₀ .length);
   undo = λ c. zeroInstruction;
   Frame = λ i s. Above s₀ s;
   Extra = λ i s c. Unit {0};
@@ -246,13 +246,16 @@ code-kept s₀ s p c e = record {
 module _ (s₀ : Net) (h : s₀ .addresses ≤ 16) (k : s₀ .length ≤ 512) (l : length (s₀ .code) ≡ 512)
     (bare : (p : ℕ) → p < s₀ .length → getD (s₀ .code) p pastInstruction ≡ zeroInstruction) where
   reads-placed : (s : Net) → Above s₀ s
-      → Reads (instruction (s .addresses) (s .length)) instructionBits (InstructionOk (s₀ .addresses) (s₀ .length))
+      → Reads (instruction (s .format) (s .addresses) (s .length)) instructionBits
+      (InstructionOk (s₀ .format) (s₀ .addresses) (s₀ .length))
   reads-placed s e =
+      let f : ℕ = s₀ .format in
       let n : ℕ = s₀ .addresses in
       let m : ℕ = s₀ .length in
-      subst (λ (j : ℕ). Reads (instruction (s .addresses) j) instructionBits (InstructionOk n m)) (e .length-is)
-      (subst (λ (j : ℕ). Reads (instruction j m) instructionBits (InstructionOk n m)) (e .addresses-are)
-      (reads-instruction n m h k))
+      subst (λ (j : ℕ). Reads (instruction (s .format) (s .addresses) j) instructionBits (InstructionOk f n m)) (e .length-is)
+      (subst (λ (j : ℕ). Reads (instruction (s .format) j m) instructionBits (InstructionOk f n m)) (e .addresses-are)
+      (subst (λ (j : ℕ). Reads (instruction j n m) instructionBits (InstructionOk f n m)) (e .format-is)
+      (reads-instruction n m h k f)))
 
   filling-code : Filling (codeOf s₀) s₀ (λ p. instructionOf (placeOf p)) (s₀ .length) instructionBits
   unfolding instructionOf withInstruction

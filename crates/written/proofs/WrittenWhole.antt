@@ -1,11 +1,11 @@
 -- The nets that the layout of an image gives (`WrittenNet.antt`), said of the net alone: what stands at each address and
 -- at each place of the code. Assumes nothing.
 use Prim.Native.Nat.{ℕ, zero, suc, _<_}
-use mathlib.Core.Path.{_≡_, refl, sym, ap, subst, subst₂, _∙_}
+use mathlib.Core.Path.{_≡_, refl, sym, ap, subst, _∙_}
 use mathlib.Core.List.{List, [], _∷_, map}
 use native.Mathlib.Omega.{arith}
 use lib.ListN.{length, getD, length-map}
-use Rattle.written.specs.Types.{Node, Net}
+use Rattle.written.specs.Types.{Node, Instruction, Net}
 use Rattle.net.specs.Records.{alike, zeroNode, zeroInstruction, emptyNet}
 use Rattle.written.specs.ImageOf.{netBits}
 use Rattle.net.proofs.Every.{Every, Filled}
@@ -20,14 +20,18 @@ use Rattle.written.proofs.WrittenNet.{empty-at}
 use Rattle.net.proofs.Past.{pastNode, pastInstruction}
 use Rattle.written.proofs.WrittenProcesses.{bareNode, free}
 
+-- the code of the net s
+abbrev pub CodeOk : Net → List Instruction → Type 0
+CodeOk s =
+    Every (Filled (InstructionOk (s .format) (s .addresses) (s .length)) (λ c. zeroInstruction ≡ c) (s .length)) pastInstruction
+    512
+
 pub record NetOk (s : Net) : Type 0 where
   pub format-ok : Ranged 1 3 (s .format)
   pub addresses-ok : Ranged 1 17 (s .addresses)
   pub length-ok : Ranged 1 513 (s .length)
   pub nodes-ok : AtEach (λ a. WithTuples a (s .format) (s .addresses) (s .length)) (s .addresses) (s .nodes)
-  pub code-ok :
-      Every (Filled (InstructionOk (s .addresses) (s .length)) (λ c. zeroInstruction ≡ c) (s .length)) pastInstruction 512
-      (s .code)
+  pub code-ok : CodeOk s (s .code)
 
 -- ---- what the passes give
 module _ (s b : Net) (g : Staged WithTuples s) (t : Through (codeOf s) s (s .length) b) where
@@ -41,8 +45,7 @@ module _ (s b : Net) (g : Staged WithTuples s) (t : Through (codeOf s) s (s .len
     code = s .code;
   }
 
-  placed : Every (Filled (InstructionOk (s .addresses) (s .length)) (λ c. zeroInstruction ≡ c) (s .length)) pastInstruction 512
-      (b .code)
+  placed : CodeOk s (b .code)
   placed = record {
     size-is = t .cells-ok .size-is;
     holds = λ p h. record {
@@ -60,9 +63,7 @@ module _ (s b : Net) (g : Staged WithTuples s) (t : Through (codeOf s) s (s .len
         addresses-ok = stage .addresses-ok;
         length-ok = stage .length-ok;
         nodes-ok = stage .nodes-ok;
-        code-ok =
-            subst₂ (λ (n k : ℕ). Every (Filled (InstructionOk n k) (λ c. zeroInstruction ≡ c) k) pastInstruction 512 (b .code))
-            (t .frame .addresses-are) (t .frame .length-is) placed;
+        code-ok = subst (λ (x : Net). CodeOk x (b .code)) before placed;
       }
 
 from-ok : (b : Net) → FromHeader b → NetOk b

@@ -93,6 +93,7 @@ actionBits c (Action.Read t p) = bitsOf 3 3 ++ (targetBits t ++ (templateBits c 
 actionBits c (Action.Eval t sent p) = bitsOf 3 4 ++ (targetBits t ++ (placeBits sent ++ placeBits p))
 actionBits c (Action.New v p) = bitsOf 3 5 ++ (variableBits v ++ placeBits p)
 actionBits c (Action.Fork p q) = bitsOf 3 6 ++ (placeBits p ++ placeBits q)
+actionBits c (Action.OutAll g p) = bitsOf 3 7 ++ (bitsOf 16 (g .0) ++ (templateBits c ++ placeBits p))
 
 unfoldable pub instructionBits : Instruction → List Bool
 instructionBits c = actionBits c (c .action)

@@ -36,7 +36,7 @@ OneImage =
 unfoldable pub OneNet : Type 0
 OneNet = (x y : Net) → freshOf x ≡ true → freshOf y ≡ true → imageOf x ≡ imageOf y → x ≡ y
 
--- "The longest accepted image has 14,749 bytes" in format 1 and 16,699 in format 2: one of that length is accepted
+-- "The longest accepted image has 14,749 bytes" in format 1 and 17,339 in format 2: one of that length is accepted
 -- (`LengthClaims.antt`: none is longer)
 pub record Longest (f : ℕ) : Type 0 where
   pub image : List ℕ
