@@ -92,15 +92,12 @@ module _ {A B C R : Type 0} (f : A → B → C → R) where
   by-first3 x y b c r p q = rw p q
 
 -- ---- straight lines: each value is what its call promises
-put-as : (p p′ : Process) (q : Place) (y : Node) (t u : Tuple) (c : Changed) (x : Plan)
+pub put-as : (p p′ : Process) (q : Place) (y : Node) (t u : Tuple) (c : Changed) (x : Plan)
     → t ≡ u → c ≡ putIn y t → p′ ≡ movedTo p q → x ≡ changing p′ Answer.NoRoom c → x ≡ changing (movedTo p q) Answer.NoRoom (putIn y u)
 put-as p p′ q y t u c x a b d e = e ∙ ap (λ (z : Process). changing z Answer.NoRoom c) d ∙ ap (changing (movedTo p q) Answer.NoRoom) (b ∙ ap (putIn y) a)
 
--- the tuple of an out, marked
-pub put-marked : (p p′ : Process) (q : Place) (y : Node) (a : Locality) (t m u : Tuple) (c : Changed) (x : Plan)
-    → t ≡ u → m ≡ marked a t → c ≡ putIn y m → p′ ≡ movedTo p q → x ≡ changing p′ Answer.NoRoom c
-    → x ≡ changing (movedTo p q) Answer.NoRoom (putIn y (marked a u))
-put-marked p p′ q y a t m u c x d e = put-as p p′ q y m (marked a u) c x (e ∙ ap (marked a) d)
+pub marked-as : (a : Locality) (t u m : Tuple) → t ≡ u → m ≡ marked a t → m ≡ marked a u
+marked-as a t u m d e = e ∙ ap (marked a) d
 
 pub start-as : (p r s : Process) (y : Node) (q : Place) (x : Plan) → r ≡ s → x ≡ startPlan p y r q → x ≡ startPlan p y s q
 start-as p r s y q x a d = d ∙ ap (λ (z : Process). startPlan p y z q) a

@@ -61,8 +61,14 @@ opening f a p x v q l = record {
 unfoldable pub newPlan : ℕ → Locality → Process → Node → ℕ → Place → ℕ → Plan
 newPlan f a p x v q n = choose (ltb n 16) (opening f a p x v q (addressOf n)) (refusing Answer.NoRoom x)
 
+-- an out to a set, where y is the host's node: the process goes on if each member has room. What the members receive is no part of
+-- the plan (`Sharing.antt` of `step`)
+unfoldable pub allPlan : Process → Node → Place → Bool → Plan
+allPlan p y q room = choose room (going (movedTo p q) y) (refusing Answer.NoRoom y)
+
 -- the plan of a request: f is the format, a the host's address, n the address count, `within` whether sent code keeps within y's
--- row for it; for a new, whose target has no node yet, y is the host's node
+-- row for it, or whether each member of a set has room; for a new, whose target has no node yet, and for an out to a set, which has
+-- many, y is the host's node
 unfoldable pub grantedPlan : ℕ → Locality → Process → Node → Evaluated → ℕ → Bool → Request → Plan
 grantedPlan f a p y e n within Request.Lack = refusing Answer.NotSet y
 grantedPlan f a p y e n within Request.Stop = stopPlan y
@@ -72,6 +78,7 @@ grantedPlan f a p y e n within (Request.Read l q) = readPlan (matchedOf p y e .p
 grantedPlan f a p y e n within (Request.Eval l sent q) = evalPlan a p y sent q within
 grantedPlan f a p y e n within (Request.New v q) = newPlan f a p y v q n
 grantedPlan f a p y e n within (Request.Fork q q′) = startPlan p y (copiedTo p q′) q
+grantedPlan f a p y e n within (Request.OutAll g q) = allPlan p y q within
 
 unfoldable pub planOf : ℕ → Locality → Row → Process → Node → Evaluated → ℕ → Bool → Request → Plan
 planOf f a row p y e n within req =

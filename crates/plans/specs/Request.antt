@@ -7,7 +7,8 @@ use mathlib.Core.List.{List, [], _∷_}
 use Rattle.net.specs.Choice.{choose}
 use Rattle.net.specs.Records.{variableAt}
 use Rattle.matching.specs.Matching.{evaluatedOf}
-use Rattle.keeping.specs.Keeping.{mayTake, mayRead, mayPut, maySend, mayCreate}
+use Rattle.keeping.specs.Keeping.{mayTake, mayRead, mayPut, mayPutAll, maySend, mayCreate}
+use Rattle.net.specs.Groups.{membersOf}
 use Rattle.plans.specs.Types.{Locality, Value, Process, Row, Target, Action, Instruction, Evaluated}
 
 -- the address that a variable holds
@@ -39,6 +40,7 @@ asked a p e (Action.Read t q) = spoken e (targetOf a p t) (λ l. Request.Read l 
 asked a p e (Action.Eval t sent q) = at (targetOf a p t) (λ l. Request.Eval l sent q)
 asked a p e (Action.New v q) = Request.New v q
 asked a p e (Action.Fork q r) = Request.Fork q r
+asked a p e (Action.OutAll g q) = choose (e .defined) (Request.OutAll g q) Request.Lack
 
 -- what the instruction c asks for in the process p hosted at a
 unfoldable pub requestOf : Locality → Process → Instruction → Request
@@ -54,6 +56,7 @@ granted r (Request.Read l q) = mayRead r l
 granted r (Request.Eval l sent q) = maySend r l
 granted r (Request.New v q) = mayCreate r
 granted r (Request.Fork q r′) = true
+granted r (Request.OutAll g q) = mayPutAll r g
 
 -- the addresses that a request names beside its host
 unfoldable pub targets : Request → List Locality
@@ -65,6 +68,7 @@ targets (Request.Read l q) = l ∷ []
 targets (Request.Eval l sent q) = l ∷ []
 targets (Request.New v q) = []
 targets (Request.Fork q r) = []
+targets (Request.OutAll g q) = membersOf g
 
 -- the request is for a new address, which it does not name
 unfoldable pub isNew : Request → Bool
@@ -76,3 +80,4 @@ isNew (Request.Read l q) = false
 isNew (Request.Eval l sent q) = false
 isNew (Request.New v q) = true
 isNew (Request.Fork q r) = false
+isNew (Request.OutAll g q) = false

@@ -27,7 +27,7 @@ ghost use Rattle.net.specs.Records.{marked, withField, withVariable, withRows, 
 ghost use Rattle.plans.specs.Additions.{itemOf, tupleOf, openedRows};
 ghost use Rattle.plans.specs.Types.{Value};
 ghost use Rattle.plans.specs.Plan.{going, refusing, changing, stopPlan, outPlan, inPlan, readPlan, startPlan, evalPlan};
-ghost use Rattle.plans.specs.Plan.{opening, newPlan, grantedPlan, planOf};
+ghost use Rattle.plans.specs.Plan.{opening, newPlan, allPlan, grantedPlan, planOf};
 
 // The answer, the host's process and the target's node after the step, and whether the target is an address
 // that the step opens.
@@ -65,7 +65,7 @@ fn with_value(t: Tuple, e: Evaluated, i: usize) -> Tuple
     }
 }
 
-// The tuple of an out.
+// The field values of an out.
 fn tuple_of(e: Evaluated) -> Tuple
     ensures { λ r. ⌜ r ≡ tupleOf e ⌝ }
 {
@@ -76,6 +76,14 @@ fn tuple_of(e: Evaluated) -> Tuple
         i += 1;
     }
     t
+}
+
+// The tuple of an out by a process hosted at a, marked with that address.
+pub fn tuple_from(a: Locality, e: Evaluated) -> Tuple
+    ensures { λ r. ⌜ r ≡ marked a (tupleOf e) ⌝ }
+{
+    let tuple = tuple_of(e);
+    tuple.marked(a)
 }
 
 // Nothing changes.
@@ -129,11 +137,10 @@ fn stop_plan(y: Node) -> Plan
     }
 }
 
-// The tuple is marked with the host's address.
 fn out_plan(a: Locality, p: Process, y: Node, q: Place, e: Evaluated) -> Plan
     ensures { λ r. ⌜ r ≡ outPlan p y q (marked a (tupleOf e)) ⌝ }
 {
-    let tuple = tuple_of(e).marked(a);
+    let tuple = tuple_from(a, e);
     let put = y.put(tuple);
     changed(p.moved_to(q), Answer::NoRoom, put)
 }
@@ -256,6 +263,18 @@ fn new_plan(f: usize, a: Locality, p: Process, x: Node, v: u8, q: Place, n: usiz
     }
 }
 
+// An out to a set, where y is the host's node: the process goes on if each member has room. What the members receive is no
+// part of the plan.
+fn all_plan(p: Process, y: Node, q: Place, room: bool) -> Plan
+    ensures { λ r. ⌜ r ≡ allPlan p y q room ⌝ }
+{
+    if room {
+        goes_on(p.moved_to(q), y)
+    } else {
+        refused(Answer::NoRoom, y)
+    }
+}
+
 // The plan of a request whose right is held.
 fn granted_plan(
     f: usize,
@@ -278,11 +297,13 @@ fn granted_plan(
         Request::Eval(_, sent, q) => eval_plan(a, p, y, sent, q, within),
         Request::New(v, q) => new_plan(f, a, p, y, v, q, n),
         Request::Fork(q, other) => fork_plan(p, y, q, other),
+        Request::OutAll(_, q) => all_plan(p, y, q, within),
     }
 }
 
 // The plan of a request: f is the format, a the host's address, n the address count, `within` whether sent code keeps within
-// y's row for it. For a new, whose target has no node yet, y is the host's node.
+// y's row for it, or whether each member of a set has room. For a new, whose target has no node yet, and for an out to a set,
+// which has many, y is the host's node.
 pub fn plan_for(
     f: usize,
     a: Locality,

@@ -1,6 +1,7 @@
 // What an instruction asks for, once its variables are read (document 01, "One pick").
 use keeping::rights::may_create;
 use keeping::rights::may_put;
+use keeping::rights::may_put_all;
 use keeping::rights::may_read;
 use keeping::rights::may_send;
 use keeping::rights::may_take;
@@ -10,6 +11,7 @@ use matching::template::variable;
 use net::instruction::Action;
 use net::instruction::Instruction;
 use net::instruction::Target;
+use net::locality::Group;
 use net::locality::Locality;
 use net::locality::Place;
 use net::policy::Row;
@@ -28,7 +30,7 @@ pub enum Aim {
 }
 
 // An action with its target known. `Lack` is a needed variable that is unset, or a target variable that
-// holds a reading. `Eval` has the sent place before the next one.
+// holds a reading. `Eval` has the sent place before the next one; `OutAll` is an out to each member of a set.
 pub enum Request {
     Lack,
     Stop,
@@ -38,6 +40,7 @@ pub enum Request {
     Eval(Locality, Place, Place),
     New(u8, Place),
     Fork(Place, Place),
+    OutAll(Group, Place),
 }
 
 // A request with its evaluated template.
@@ -122,6 +125,17 @@ fn eval_at(aim: Aim, sent: Place, q: Place) -> Request
     }
 }
 
+// The request of an out to a set, which needs no target but a defined template.
+fn out_all_of(e: Evaluated, g: Group, q: Place) -> Request
+    ensures { λ r. ⌜ r ≡ choose (e .defined) (Request.OutAll g q) Request.Lack ⌝ }
+{
+    if e.defined {
+        Request::OutAll(g, q)
+    } else {
+        Request::Lack
+    }
+}
+
 // The request of an action.
 fn request_of(a: Locality, p: Process, e: Evaluated, action: Action) -> Request
     ensures { λ r. ⌜ r ≡ asked a p e action ⌝ }
@@ -134,6 +148,7 @@ fn request_of(a: Locality, p: Process, e: Evaluated, action: Action) -> Request
         Action::Eval(t, sent, q) => eval_at(aim_of(a, p, t), sent, q),
         Action::New(v, q) => Request::New(v, q),
         Action::Fork(q, r) => Request::Fork(q, r),
+        Action::OutAll(g, q) => out_all_of(e, g, q),
     }
 }
 
@@ -160,5 +175,6 @@ pub(crate) fn has_right(row: Row, r: Request) -> bool
         Request::Eval(l, _, _) => may_send(row, l),
         Request::New(_, _) => may_create(row),
         Request::Fork(_, _) => true,
+        Request::OutAll(g, _) => may_put_all(row, g),
     }
 }

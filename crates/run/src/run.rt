@@ -6,6 +6,7 @@ use notation::reading::Verdict as TextVerdict;
 use notation::reading::read_text;
 use plans::answer::number_of;
 use readers::fault::Fault;
+use step::sharing::share_out;
 use step::turn::changes_net;
 use step::turn::count_after;
 use step::turn::host_after;
@@ -40,7 +41,8 @@ pub struct Finished {
 }
 
 // Makes each pick, and leaves its answer in the buffer. The net stays in one place: a pick copies the two
-// nodes and the instruction that it concerns, and the code only where it sends some.
+// nodes and the instruction that it concerns, the code only where it sends some, and all nodes only where it is an
+// out to a set.
 pub fn make(start: Net, picks: &[u8], answers: &mut [u8]) -> Net
     requires { ⌜ Startable start × (length (now picks) ≤ length (now answers)) ⌝ }
     ensures { λ r. ⌜ Made start (now (picks .entry)) (now (answers .entry)) (now (answers .exit)) r ⌝ }
@@ -56,22 +58,32 @@ pub fn make(start: Net, picks: &[u8], answers: &mut [u8]) -> Net
         let seat = seat_of(b, net.format, net.addresses, net.nodes[host_at]);
         let place = seat.index;
         let turn = turn_of(seat, net.code[place]);
-        let l = turn.target;
-        let from = turn.source;
-        let target_at = l.0 as usize;
-        let source_at = from.0 as usize;
-        let plan = if turn.sends {
-            plan_with(net.code, turn, net.nodes[source_at])
+        let group = turn.group;
+        if group.0 != 0 {
+            let nodes = net.nodes;
+            let shared = share_out(nodes, turn);
+            let answer = shared.answer;
+            answers[at] = number_of(answer);
+            let after = shared.nodes;
+            net.nodes = after;
         } else {
-            plan_of(turn, net.nodes[source_at], true)
-        };
-        let answer = plan.answer;
-        answers[at] = number_of(answer);
-        if changes_net(answer) {
-            let target = plan.target;
-            net.nodes[target_at] = target;
-            net.nodes[host_at] = host_after(b, net.format, l, plan, net.nodes[host_at]);
-            net.addresses = count_after(plan.opens, net.addresses);
+            let l = turn.target;
+            let from = turn.source;
+            let target_at = l.0 as usize;
+            let source_at = from.0 as usize;
+            let plan = if turn.sends {
+                plan_with(net.code, turn, net.nodes[source_at])
+            } else {
+                plan_of(turn, net.nodes[source_at], true)
+            };
+            let answer = plan.answer;
+            answers[at] = number_of(answer);
+            if changes_net(answer) {
+                let target = plan.target;
+                net.nodes[target_at] = target;
+                net.nodes[host_at] = host_after(b, net.format, l, plan, net.nodes[host_at]);
+                net.addresses = count_after(plan.opens, net.addresses);
+            }
         }
     }
     net

@@ -1,6 +1,9 @@
+pub mod EachMember
 pub mod Lengths
 pub mod PutBack
+pub mod SharingLaws
 pub mod SoundChanges
 pub mod SoundKept
 pub mod SoundRequests
+pub mod Stores
 pub mod TurnLaws

@@ -22,17 +22,20 @@ use Rattle.net.proofs.Every.{chosen-lt}
 use Rattle.net.proofs.Lowest.{first-cases}
 use Rattle.matching.proofs.MatchingPromise.{matchingPromise as matching}
 use Rattle.keeping.proofs.KeepingPromise.{keepingPromise as keeping}
-use Rattle.step.specs.Types.{Locality, Place, Value, Tuple, Rights, Row, Process, Node, Slot, Net, Evaluated, Found}
+use Rattle.step.specs.Types.{Locality, Place, Group, Value, Tuple, Rights, Row, Process, Node, Slot, Net, Evaluated, Found}
 use Rattle.step.specs.Types.{Answer, Picked}
 use Rattle.step.specs.Types.{Request}
-use Rattle.plans.specs.Request.{granted, targets, isNew}
+use Rattle.plans.specs.Request.{granted, isNew}
+use Rattle.net.specs.Choice.{all, implies, fold}
+use Rattle.net.specs.Groups.{halved, member, allMembers}
+use Rattle.step.specs.Pick.{roomAtAll, addedAll, outAll}
 use Rattle.step.specs.Pick.{withHost, stopped, out, input, inFound, read, readFound, startedIn, eval, fork, create, created}
 use Rattle.step.specs.Pick.{createdAt, unused, carriedOut, acting, unchanged, performed, added, taken, opened}
 use Rattle.plans.specs.Additions.{tupleOf, openedRows, creatorRows}
 use Rattle.step.specs.Types.{Plan}
 use Rattle.plans.specs.Plan.{going, refusing, changing, stopPlan, outPlan, inPlan, readPlan, startPlan, evalPlan}
-use Rattle.plans.specs.Plan.{opening, newPlan, grantedPlan, planOf}
-use Rattle.step.specs.Turn.{near, firstNear, targetIn, sourceIn}
+use Rattle.plans.specs.Plan.{opening, newPlan, allPlan, grantedPlan, planOf}
+use Rattle.step.specs.Turn.{near, targetIn, sourceIn, noGroup, groupOf}
 use Rattle.step.specs.PutBack.{changes, hostAfter, countAfter, targeted}
 use Rattle.step.specs.PutBack.{putBack}
 use Rattle.step.specs.Turn.{sentWithin}
@@ -42,7 +45,7 @@ abbrev pub back : Net → Locality → ℕ → Locality → Plan → Picked
 back s a k l plan = record { answer = plan .answer; net = putBack s a k l plan }
 
 -- a choice of plans put back is the choice of what they come to
-chosen : (f : Plan → Picked) (b : Bool) (x y : Plan) (u v : Picked) → f x ≡ u → f y ≡ v → f (choose b x y) ≡ choose b u v
+pub chosen : (f : Plan → Picked) (b : Bool) (x y : Plan) (u v : Picked) → f x ≡ u → f y ≡ v → f (choose b x y) ≡ choose b u v
 unfolding choose
 chosen f true x y u v g h = g
 chosen f false x y u v g h = h
@@ -226,6 +229,18 @@ module _ (s : Net) (a : Locality) (k : ℕ) (size : length (s .nodes) ≡ 16) (l
         chosen (back s a k l) (keepsOf (s .code) sent l (rowFor (nodeAt s l) (sentFrom a p sent))) _ _ _ _
         (start-back busy p (sentFrom a p sent) q) (refusing-back l Answer.NotWithin _ refl)
 
+  -- an out to the empty set, "which only moves the process on" (document 02, slip 11)
+  none-receives : (p : Process) (q : Place) (t : Tuple) → outAll s a k p noGroup q t ≡ performed (withHost s a k (movedTo p q))
+  unfolding outAll roomAtAll addedAll allMembers all implies member both halved fold choose noGroup
+  none-receives p q t = refl
+
+  none-back : (p : Process) (g : Group) (q : Place) (t : Tuple) → g .0 ≡ 0 → back s a k a (allPlan p (nodeAt s a) q true) ≡ outAll s a k p g q t
+  unfolding allPlan choose going performed changes noGroup
+  none-back p g q t e =
+      let none : g ≡ noGroup = λ i. record { 0 = e i } in
+      kept-back Answer.Performed a (movedTo p q) refl
+      ∙ sym (ap (λ (h : Group). outAll s a k p h q t) none ∙ none-receives p q t)
+
   -- a new address is not the host's
   module _ (used : a .0 < s .addresses) (p : Process) (v : ℕ) (q : Place) where
     open-back : (s .addresses < 16) → back s a k (unused s) (opening (s .format) a p (nodeAt s a) v q (unused s)) ≡ performed (created s a k p v q)
@@ -274,29 +289,31 @@ module _ (s : Net) (a : Locality) (k : ℕ) (seat : Standing s a k) (p : Process
   here : (l : Locality) (f : Rights → Bool) → f noRights ≡ false → f (rightsAt (rowFor (nodeAt s a) p) l) ≡ true → near l a ≡ l
   here l f z h = near-is l a (over (rowFor (nodeAt s a) p) l f (seat .rights p) z h)
 
-  granted-back : (req : Request) → granted (rowFor (nodeAt s a) p) req ≡ true
+  granted-back : (req : Request) → groupOf req .0 ≡ 0 → granted (rowFor (nodeAt s a) p) req ≡ true
       → back s a k (target req)
       (grantedPlan (s .format) a p (source req) e (s .addresses) (sentWithin (s .code) a p (source req) req) req)
       ≡ carriedOut s a k p e req
-  unfolding granted target source targetIn sourceIn firstNear targets isNew choose grantedPlan sentWithin carriedOut input read fork noRights
+  unfolding granted target source targetIn sourceIn groupOf isNew choose grantedPlan sentWithin carriedOut input read fork noRights
       changes unused
-  granted-back Request.Lack g = refusing-back s a k (seat .size) (seat .low) a Answer.NotSet _ refl
-  granted-back Request.Stop g = stop-back s a k (seat .size) (seat .low) a
-  granted-back (Request.Out l q) g =
+  granted-back Request.Lack none g = refusing-back s a k (seat .size) (seat .low) a Answer.NotSet _ refl
+  granted-back Request.Stop none g = stop-back s a k (seat .size) (seat .low) a
+  granted-back (Request.Out l q) none g =
       rw (here l (λ r. r .put) refl (sym (keeping .puts _ l) ∙ g)) (out-back s a k (seat .size) (seat .low) l p q (marked a (tupleOf e)))
-  granted-back (Request.In l q) g =
+  granted-back (Request.In l q) none g =
       rw (here l (λ r. r .take) refl (sym (keeping .takes _ l) ∙ g))
       (in-back s a k (seat .size) (seat .low) l _ q _ (matching .stored p (nodeAt s l) e))
-  granted-back (Request.Read l q) g =
+  granted-back (Request.Read l q) none g =
       rw (here l (λ r. choose (r .take) true (r .read)) refl (sym (keeping .reads _ l) ∙ g)) (read-back s a k (seat .size) (seat .low) l _ q _)
-  granted-back (Request.Eval l sent q) g =
+  granted-back (Request.Eval l sent q) none g =
       rw (here l (λ r. r .send) refl (sym (keeping .sends _ l) ∙ g))
       (eval-back s a k (seat .size) (seat .low) l (seat .busy) p sent q)
-  granted-back (Request.New v q) g = new-back s a k (seat .size) (seat .low) (seat .used) p v q
-  granted-back (Request.Fork q q′) g = start-back s a k (seat .size) (seat .low) a (seat .busy) p (copiedTo p q′) q
+  granted-back (Request.New v q) none g = new-back s a k (seat .size) (seat .low) (seat .used) p v q
+  granted-back (Request.Fork q q′) none g = start-back s a k (seat .size) (seat .low) a (seat .busy) p (copiedTo p q′) q
+  granted-back (Request.OutAll h q) none g = none-back s a k (seat .size) (seat .low) p h q _ none
 
-  pub put-back-is : (req : Request) → back s a k (target req) (planIn req) ≡ acting s a k p e req
+  -- that of an out to a set is in `SharingLaws.antt`
+  pub put-back-is : (req : Request) → groupOf req .0 ≡ 0 → back s a k (target req) (planIn req) ≡ acting s a k p e req
   unfolding planIn planOf acting changes
-  put-back-is req =
-      chosen-if (back s a k (target req)) (granted (rowFor (nodeAt s a) p) req) _ _ _ _ (granted-back req)
+  put-back-is req none =
+      chosen-if (back s a k (target req)) (granted (rowFor (nodeAt s a) p) req) _ _ _ _ (granted-back req none)
       (λ g. refusing-back s a k (seat .size) (seat .low) (target req) Answer.NoRight _ refl)

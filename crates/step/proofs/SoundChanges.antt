@@ -2,7 +2,7 @@
 -- runs, of a node and of a net, in the facts of `NodeFacts.antt` and `NetFacts.antt` of `sound`.
 -- Assumes nothing.
 use Prim.Native.Nat.{ℕ, _+_, _-_, _<_, _≤_}
-use mathlib.Core.Path.{_≡_, refl, sym, _∙_}
+use mathlib.Core.Path.{_≡_, refl, sym, subst, _∙_}
 use mathlib.Core.Bool.{true}
 use mathlib.Core.List.{List}
 use native.Mathlib.Omega.{arith}
@@ -13,6 +13,7 @@ use Rattle.net.specs.Choice.{fold}
 use Rattle.net.specs.Records.{rowAt, rowFor, tupleAt, nodeAt, addressOf, zeroTuple, zeroNode, allRights, alike}
 use Rattle.net.specs.Records.{withVariable, withRights, withRows, withProcess, withNode, withCounts}
 use Rattle.net.specs.Records.{movedTo, copiedTo, sentFrom, afterTaking, withoutTuple}
+use Rattle.net.specs.Groups.{member}
 use Rattle.sound.specs.Soundness.{valueSound}
 use Rattle.net.proofs.Every.{chosen, chosen-lt, Every, every-set, every-weaken, Filled, filled-set, filled-add, filled-map}
 use Rattle.net.proofs.Past.{pastTuple}
@@ -23,8 +24,8 @@ use Rattle.sound.proofs.NodeChanges.{runs, zero-row, alike-rows, other-row, zer
 use Rattle.sound.proofs.MoreAddresses.{running-more, rows-more, node-more, instruction-more}
 use Rattle.sound.proofs.NetFacts.{NetOk}
 use Rattle.sound.proofs.NetChanges.{node-at, with-node}
-use Rattle.step.specs.Types.{Locality, Value, Tuple, Row, Process, Node, Place, Net}
-use Rattle.step.specs.Pick.{withHost, added, taken, opened, unused, createdAt, created}
+use Rattle.step.specs.Types.{Locality, Group, Value, Tuple, Row, Process, Node, Place, Net}
+use Rattle.step.specs.Pick.{withHost, added, addedAll, taken, opened, unused, createdAt, created}
 use Rattle.plans.specs.Additions.{gaining, ownRow, openedRows, creatorRows}
 
 -- an array set anew at each place
@@ -104,6 +105,30 @@ module _ (s : Net) (ok : NetOk s) where
   unfolding taken withNode
   taken-kept l i h g = with-node s ok l _ h (without-tuple _ _ _ _ (node-at s ok l h) i g)
 
+-- a tuple added at each member of a set of addresses in use
+module _
+    (s : Net) (ok : NetOk s) (g : Group) (t : Tuple) (used : (l : Locality) → member g l ≡ true → l .0 < s .addresses)
+    (tuple-ok : TupleOk (s .addresses) t)
+  where
+    record SameCount (s′ : Net) : Type 0 where
+      count-is : s .addresses ≡ s′ .addresses
+      net-ok : NetOk s′
+
+    added-more : (s′ : Net) (l : Locality) → SameCount s′ → member g l ≡ true → SameCount (added s′ l t)
+    unfolding added withNode
+    added-more s′ l h m = record {
+      count-is = h .count-is;
+      net-ok =
+          added-kept s′ (h .net-ok) l t (omega (arith, used l m, h .count-is))
+          (subst (λ (n : ℕ). TupleOk n t) (h .count-is) tuple-ok);
+    }
+
+    pub added-all-kept : NetOk (addedAll s g t)
+    unfolding addedAll
+    added-all-kept =
+        fold-keeps (λ _. SameCount) _ s 16 (record { count-is = refl; net-ok = ok })
+        (λ i s′ _ h. chosen SameCount (member g (addressOf i)) _ _ (added-more s′ (addressOf i) h) (λ _. h)) .net-ok
+
 -- ---- one address more: the rows of the creator, and of the new node
 gaining-ok : (n : ℕ) (r : Row) → RowOk n r → RowOk (n + 1) (gaining r (addressOf n))
 unfolding gaining withRights
@@ -182,5 +207,5 @@ module _
               (opened-rows-ok f n _ (node-at s ok a hosted .rows-ok) p a hosted))
               (filled-set (a .0) _ hosted creator
               (filled-map (node-more n (n + 1) more f k) (λ x e. e) (ok .nodes-ok)));
-          code-ok = filled-map (instruction-more n (n + 1) more k) (λ c e. e) (ok .code-ok);
+          code-ok = filled-map (instruction-more n (n + 1) more f k) (λ c e. e) (ok .code-ok);
         }

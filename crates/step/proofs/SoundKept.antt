@@ -2,23 +2,22 @@
 -- facts of `NetFacts.antt` of `sound` (`done-kept`), and an instruction of a sound net asks for no other (`SoundRequests.antt`).
 -- Assumes nothing.
 use Prim.Native.Nat.{ℕ, _<_}
-use mathlib.Core.Path.{_≡_, refl, sym, ap, _∙_}
+use mathlib.Core.Path.{_≡_, refl}
 use mathlib.Core.Bool.{true}
-use mathlib.Core.List.{List}
 use native.Mathlib.Omega.{arith}
-use lib.ListN.{getD, set, List·getD-map}
-use lib.Seq.{map-set-same}
-use Rattle.net.specs.Records.{processAt, nodeAt, tupleAt, withProcess, withNode, movedTo, freeProcess}
+use Rattle.net.specs.Records.{processAt, nodeAt, tupleAt, withNode, movedTo, freeProcess}
 use Rattle.matching.specs.Matching.{matchedOf}
-use Rattle.sound.specs.Soundness.{soundOf}
+use borrow.Author.Tests.{ltb-true}
+use Rattle.net.proofs.GroupLaws.{members-at}
+use Rattle.sound.specs.Soundness.{groupSound, soundOf}
 use Rattle.matching.specs.MatchingPromise.{OldestThatFits}
 use Rattle.net.proofs.Laws.{choose-true}
 use Rattle.net.proofs.Every.{chosen, chosen-lt}
 use Rattle.matching.proofs.MatchingPromise.{matchingPromise as promise}
-use Rattle.step.specs.Types.{Locality, Place, Tuple, Process, Slot, Instruction, Net, Evaluated, Found}
+use Rattle.step.specs.Types.{Locality, Place, Group, Tuple, Process, Slot, Instruction, Net, Evaluated, Found}
 use Rattle.step.specs.Types.{Answer, Picked}
 use Rattle.step.specs.Types.{Request}
-use Rattle.step.specs.Pick.{hostOf, slotOf, unchanged, performed, withHost, stopped, out, inFound, input}
+use Rattle.step.specs.Pick.{hostOf, slotOf, unchanged, performed, withHost, stopped, out, outAll, inFound, input}
 use Rattle.step.specs.Pick.{readFound, read, startedIn, eval, fork, create, carriedOut, acting, processStep}
 use Rattle.step.specs.Pick.{slotStep, stepOf, pickOf}
 use Rattle.net.specs.Shape.{Shaped}
@@ -28,21 +27,9 @@ use Rattle.sound.proofs.NodeChanges.{runs, free-slot}
 use Rattle.sound.proofs.CodeFacts.{InstructionOk}
 use Rattle.sound.proofs.NetFacts.{NetOk, sound-apart, net-sound, net-shaped}
 use Rattle.sound.proofs.NetChanges.{node-at, instruction-at}
-use Rattle.step.proofs.SoundChanges.{moved, copied, sent-from, with-host, added-kept, taken-kept, created-kept}
+use Rattle.step.proofs.SoundChanges.{moved, copied, sent-from, with-host, added-kept, added-all-kept, taken-kept, created-kept}
 use Rattle.step.proofs.SoundRequests.{bound, RequestOk, request-ok}
-
--- ---- a change of a process leaves the tuple counts
-same-at :
-    {A : Type 0} (f : A → ℕ) (xs : List A) (a l : ℕ) (y d : A) → f y ≡ f (getD xs a d)
-    → f (getD (set xs a y) l d) ≡ f (getD xs l d)
-same-at f xs a l y d e =
-    sym (List·getD-map f (set xs a y) l d)
-    ∙ ap (λ (m : List ℕ). getD m l (f d)) (map-set-same f xs a y d e)
-    ∙ List·getD-map f xs l d
-
-stored-same : (s : Net) (a l : Locality) (i : ℕ) (p : Process) → nodeAt (withHost s a i p) l .stored ≡ nodeAt s l .stored
-unfolding withHost withNode withProcess nodeAt
-stored-same s a l i p = same-at (λ x. x .stored) (s .nodes) (a .0) (l .0) _ _ refl
+use Rattle.step.proofs.Stores.{stored-same}
 
 -- ---- an answer's net
 record Kept (r : Picked) : Type 0 where
@@ -76,6 +63,16 @@ module _
     unfolding out withHost withNode
     out-kept l q t h g u =
         chosen Kept _ _ _ (λ _. performed-kept _ (added-kept _ (move-kept p q running g) l t h u)) (λ _. same-kept s _ ok)
+
+    out-all-kept :
+        (g : Group) (q : Place) (t : Tuple) → groupSound (s .addresses) g ≡ true → q .0 < s .length
+        → TupleOk (s .addresses) t → Kept (outAll s a i p g q t)
+    unfolding outAll withHost withNode groupSound
+    out-all-kept g q t h next u =
+        chosen Kept _ _ _
+        (λ _. performed-kept _
+        (added-all-kept _ (move-kept p q running next) g t (λ l m. ltb-true _ _ (members-at g _ h l m)) u))
+        (λ _. same-kept s _ ok)
 
     module _ (l : Locality) (q : Place) (e : Evaluated) (reached : l .0 < s .addresses) (next : q .0 < s .length) where
       oldest : (j : ℕ) → matchedOf p (nodeAt s l) e .found ≡ Found.At j → OldestThatFits (nodeAt s l) e j
@@ -131,12 +128,13 @@ module _
         chosen Kept _ _ _ (λ _. started-kept l q e (h .0) (h .2) _ (sent-from _ _ p running a sent hosted (h .1)) _) (λ _. same-kept s _ ok)
     done-kept e (Request.New v q) h = create-kept v q h
     done-kept e (Request.Fork q r) h = started-kept a q e hosted (h .0) _ (copied _ _ p running r (h .1)) _
+    done-kept e (Request.OutAll g q) h = out-all-kept g q _ (h .0) (h .1) (h .2)
 
     step-kept :
-        (c : Instruction) → InstructionOk (s .addresses) (s .length) c → Kept (processStep s a i p c)
+        (c : Instruction) → InstructionOk (s .format) (s .addresses) (s .length) c → Kept (processStep s a i p c)
     unfolding processStep acting
     step-kept c h =
-        chosen Kept _ _ _ (λ _. done-kept _ _ (request-ok (s .addresses) (s .length) a p c hosted running h))
+        chosen Kept _ _ _ (λ _. done-kept _ _ (request-ok (s .format) (s .addresses) (s .length) a p c hosted running h))
         (λ _. same-kept s _ ok)
 
 -- ---- a pick

@@ -9,7 +9,7 @@ use native.Mathlib.Omega.{arith}
 use borrow.Author.Tests.{ltb-true}
 use Rattle.net.specs.Records.{marked, zeroField, zeroTuple, fieldAt, variableAt}
 use Rattle.matching.specs.Matching.{evaluatedOf, wantAt, fitsOf, boundOf}
-use Rattle.sound.specs.Soundness.{itemSound, valueSound, targetSound}
+use Rattle.sound.specs.Soundness.{itemSound, valueSound, targetSound, groupSound}
 use Rattle.matching.specs.MatchingPromise.{Holds, reading-met, address-met, as-before}
 use Rattle.net.proofs.Every.{chosen, chosen-lt, filled-each}
 use Rattle.net.proofs.FoldLaws.{fold-keeps}
@@ -103,6 +103,7 @@ RequestOk a n k e (Request.Read l q) = (l .0 < n) × (q .0 < k)
 RequestOk a n k e (Request.Eval l sent q) = (l .0 < n) × (sent .0 < k) × (q .0 < k)
 RequestOk a n k e (Request.New v q) = q .0 < k
 RequestOk a n k e (Request.Fork q r) = (q .0 < k) × (r .0 < k)
+RequestOk a n k e (Request.OutAll g q) = (groupSound n g ≡ true) × (q .0 < k) × TupleOk n (marked a (tupleOf e))
 
 aim-ok : (n : ℕ) (x : Value) → valueSound n x ≡ true → AimOk n (aimOf x)
 unfolding AimOk aimOf valueSound
@@ -130,8 +131,8 @@ module _
     unfolding spoken RequestOk
     spoken-ok aim h = chosen (RequestOk a n k e) (e .defined) _ _ (λ _. at-ok aim h) (λ _. tt)
 
-module _ (n k : ℕ) (a : Locality) (p : Process) (c : Instruction) (hosted : a .0 < n) (running : Running n k p) where
-  asked-ok : (x : Action) → Acts n k x c → RequestOk a n k (evaluatedOf a p c) (asked a p (evaluatedOf a p c) x)
+module _ (f n k : ℕ) (a : Locality) (p : Process) (c : Instruction) (hosted : a .0 < n) (running : Running n k p) where
+  asked-ok : (x : Action) → Acts f n k x c → RequestOk a n k (evaluatedOf a p c) (asked a p (evaluatedOf a p c) x)
   unfolding asked Acts RequestOk
   asked-ok Action.Stop h = tt
   asked-ok (Action.Out t q) (e, h, ok) =
@@ -143,7 +144,10 @@ module _ (n k : ℕ) (a : Locality) (p : Process) (c : Instruction) (hosted : a 
       at-ok a n k _ _ (λ l u. (u, g, h)) _ (target-ok n k a p t hosted running e)
   asked-ok (Action.New v q) (g, h, _) = h
   asked-ok (Action.Fork q r) (g, h, _) = (g, h)
+  asked-ok (Action.OutAll g q) (_, m, h, ok) =
+      chosen (RequestOk a n k (evaluatedOf a p c)) (evaluatedOf a p c .defined) _ _
+      (λ _. (m, h, said-ok n k a p c hosted running (ok .template-ok))) (λ _. tt)
 
-  pub request-ok : InstructionOk n k c → RequestOk a n k (evaluatedOf a p c) (requestOf a p c)
+  pub request-ok : InstructionOk f n k c → RequestOk a n k (evaluatedOf a p c) (requestOf a p c)
   unfolding requestOf
   request-ok ok = asked-ok (c .action) ok

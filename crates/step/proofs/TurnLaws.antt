@@ -17,11 +17,11 @@ use Rattle.plans.specs.Request.{requestOf, asked, granted}
 use Rattle.plans.specs.Plan.{planOf, refusing}
 use Rattle.net.proofs.Laws.{choose-true, choose-false, both-l, both-r}
 use Rattle.net.proofs.ReadingLaws.{never}
-use Rattle.step.specs.Types.{Locality, Place, Action, Row, Process, Node, Instruction, Net, Evaluated, Answer, Request, Plan, Picked}
+use Rattle.step.specs.Types.{Locality, Place, Group, Action, Row, Process, Node, Instruction, Net, Evaluated, Answer, Request, Plan, Picked}
 use Rattle.step.specs.Pick.{hostOf, slotOf, spareOf, stepOf, slotStep, processStep, acting, carriedOut, unchanged}
 use Rattle.step.specs.PutBack.{changes, putBack, hostAfter, countAfter, targeted}
 use Rattle.step.specs.Turn.{Seat, Turn, ready, refusal, met, indexIn, seated, seatOf, seatAt, targetIn, sourceIn, asking, turnOf, turnAt}
-use Rattle.step.specs.Turn.{sentWithin, seatPlan, turnPlan, planWith, planAt, sendsCode}
+use Rattle.step.specs.Turn.{sentWithin, seatPlan, turnPlan, planWith, planAt, sendsCode, groupOf}
 use Rattle.net.specs.Shape.{Shaped}
 use Rattle.net.proofs.Past.{pastNode}
 use Rattle.step.proofs.PutBack.{back, Standing, row-length, planIn, target, source, put-back-is}
@@ -47,6 +47,7 @@ nothing-sent code a p y (Request.Read l q) x e h = refl
 nothing-sent code a p y (Request.Eval l sent q) x e h = never (sym h ∙ e)
 nothing-sent code a p y (Request.New v q) x e h = refl
 nothing-sent code a p y (Request.Fork q q′) x e h = refl
+nothing-sent code a p y (Request.OutAll g q) x e h = refl
 
 -- ---- a plan put back, node by node
 module _ (s : Net) (b : ℕ) (l : Locality) (plan : Plan) (x : Bool) where
@@ -79,24 +80,26 @@ meets s a k b n p l r =
       | no h ↦ rw (r, le-ltb (p .at .0) 512 (omega arith)) (past-code s a k p l (omega arith))
     ]
 
--- ---- a pick that is not ready
-module _ (s : Net) (b : ℕ) (l : Locality) (y : Node) where
-  refused-back : (x : Answer) → changes x ≡ false → back s (hostOf b) (slotOf b) l (refusing x y) ≡ unchanged x s
-  unfolding refusing unchanged
-  refused-back x e =
-      ap {B = Picked} (λ (z : Net). record { answer = x; net = z })
-      (sym (put-nothing s b l (refusing x y) false refl (sym e)))
-
+-- ---- a pick that is not ready, where `made` is what a refusal comes to
+module _ (s : Net) (made : Answer → Picked) (kept : (x : Answer) → changes x ≡ false → made x ≡ unchanged x s) where
   in-order :
       (x w z : Bool) (next : Picked) → both x (both w z) ≡ false
-      → back s (hostOf b) (slotOf b) l (refusing (choose x (choose w Answer.FreeSlot Answer.NotInUse) Answer.Malformed) y)
+      → made (choose x (choose w Answer.FreeSlot Answer.NotInUse) Answer.Malformed)
       ≡ choose x (choose w (choose z next (unchanged Answer.FreeSlot s)) (unchanged Answer.NotInUse s))
       (unchanged Answer.Malformed s)
   unfolding choose both changes
   in-order true true true next e = never (sym e)
-  in-order true true false next e = refused-back Answer.FreeSlot refl
-  in-order true false z next e = refused-back Answer.NotInUse refl
-  in-order false w z next e = refused-back Answer.Malformed refl
+  in-order true true false next e = kept Answer.FreeSlot refl
+  in-order true false z next e = kept Answer.NotInUse refl
+  in-order false w z next e = kept Answer.Malformed refl
+
+refused-back :
+    (s : Net) (b : ℕ) (l : Locality) (y : Node) (x : Answer) → changes x ≡ false
+    → back s (hostOf b) (slotOf b) l (refusing x y) ≡ unchanged x s
+unfolding refusing unchanged
+refused-back s b l y x e =
+    ap {B = Picked} (λ (z : Net). record { answer = x; net = z })
+    (sym (put-nothing s b l (refusing x y) false refl (sym e)))
 
 -- ---- a pick that is ready
 ready-step :
@@ -112,7 +115,7 @@ ready-step false y z next s e = never e
 
 -- ---- the pick
 module _ (s : Net) (b : ℕ) where
-  p : Process
+  unfoldable pub p : Process
   p = processAt (nodeAt s (hostOf b)) (slotOf b)
 
   -- past the last address no slot is busy
@@ -138,32 +141,45 @@ module _ (s : Net) (b : ℕ) where
         busy = busy;
       }
 
-  Made : Type 0
-  Made = back s (hostOf b) (slotOf b) (turnAt s b .target) (planAt s (turnAt s b)) ≡ stepOf s b
+  -- what `made` makes of the plan of its turn is the pick, if it is what the request comes to where the pick is ready
+  module _
+      (made : Plan → Picked) (y : Node) (within : Bool)
+      (kept : (x : Answer) → changes x ≡ false → made (refusing x y) ≡ unchanged x s)
+    where
+      unfoldable pub Does : Type 0
+      Does =
+          ready b (s .addresses) p ≡ true
+          → made
+          (planOf (s .format) (hostOf b) (rowFor (nodeAt s (hostOf b)) p) p y (turnAt s b .template) (s .addresses) within
+          (turnAt s b .request))
+          ≡ acting s (hostOf b) (slotOf b) p (turnAt s b .template) (turnAt s b .request)
 
-  made-by : (x : Bool) → x ≡ ready b (s .addresses) p → Shaped s → Made
-  unfolding Made ready refusal stepOf slotStep planIn target source processStep p
-      planAt planWith turnPlan seatPlan turnAt turnOf asking seatAt seatOf seated
-  made-by true q shaped =
-      ap (back s (hostOf b) (slotOf b) (turnAt s b .target)) (choose-true _ _ _ (sym q))
-      ∙ put-back-is s (hostOf b) (slotOf b) (standing shaped (sym q)) p (turnAt s b .template) (turnAt s b .request)
-      ∙ meets s (hostOf b) (slotOf b) b (s .addresses) p (shaped .code-is) (sym q)
-      ∙ ready-step _ _ _ _ s (sym q)
-  made-by false q shaped =
-      ap (back s (hostOf b) (slotOf b) (turnAt s b .target)) (choose-false _ _ _ (sym q))
-      ∙ in-order s b (turnAt s b .target) _ _ _ _ _ (sym q)
+      made-if : (x : Bool) → x ≡ ready b (s .addresses) p → Shaped s → Does → made (turnPlan (turnAt s b) y within) ≡ stepOf s b
+      unfolding Does ready refusal stepOf slotStep processStep p turnPlan seatPlan turnAt turnOf asking seatAt seatOf seated
+      made-if true q shaped does =
+          ap made (choose-true _ _ _ (sym q))
+          ∙ does (sym q)
+          ∙ meets s (hostOf b) (slotOf b) b (s .addresses) p (shaped .code-is) (sym q)
+          ∙ ready-step _ _ _ _ s (sym q)
+      made-if false q shaped does =
+          ap made (choose-false _ _ _ (sym q)) ∙ in-order s (λ x. made (refusing x y)) kept _ _ _ _ (sym q)
 
-  -- the same of the turn, the plan and the net that the code has
+      pub made-by : Shaped s → Does → made (turnPlan (turnAt s b) y within) ≡ stepOf s b
+      made-by = made-if _ refl
+
+  -- of the turn, the plan and the net that the code has, where the turn's set is empty
   pub turn-is :
-      (turn : Turn) (plan : Plan) (after : Net) → Shaped s → turn ≡ turnAt s b → plan ≡ planAt s turn
+      (turn : Turn) (plan : Plan) (after : Net) → Shaped s → turn ≡ turnAt s b → turn .group .0 ≡ 0 → plan ≡ planAt s turn
       → after ≡ putBack s (hostOf b) (slotOf b) (turn .target) plan
       → _≡_ {A = Picked} (record { answer = plan .answer; net = after }) (stepOf s b)
-  unfolding Made
-  turn-is turn plan after shaped ht hp hn =
+  unfolding Does planIn target source planAt planWith turnAt turnOf asking seatAt seatOf seated p
+  turn-is turn plan after shaped ht none hp hn =
       ap {B = Picked} (λ (z : Net). record { answer = plan .answer; net = z }) hn
       ∙ ap (back s (hostOf b) (slotOf b) (turn .target)) hp
       ∙ ap (λ (t : Turn). back s (hostOf b) (slotOf b) (t .target) (planAt s t)) ht
-      ∙ made-by _ refl shaped
+      ∙ made-by (back s (hostOf b) (slotOf b) (turnAt s b .target)) _ _ (refused-back s b _ _) shaped
+      (λ r. put-back-is s (hostOf b) (slotOf b) (standing shaped r) p (turnAt s b .template) (turnAt s b .request)
+      (sym (ap (λ (t : Turn). t .group .0) ht) ∙ none))
 
 -- ---- straight lines: each value is what its call promises
 pub seat-as :
@@ -177,7 +193,7 @@ unfolding seatOf seated
 seat-as b f n x k row i h r d = rw (r, d, h)
 
 pub turned-as :
-    (z : Seat) (c m : Instruction) (host target source : Locality) (req : Request) (e : Evaluated) (x : Bool)
+    (z : Seat) (c m : Instruction) (host target source : Locality) (req : Request) (e : Evaluated) (x : Bool) (g : Group)
     → host ≡ hostOf (z .pick)
     → m ≡ met (z .pick) (z .addresses) (z .process) c
     → req ≡ requestOf host (z .process) m
@@ -185,9 +201,12 @@ pub turned-as :
     → target ≡ targetIn host (z .addresses) req
     → source ≡ sourceIn host req
     → x ≡ sendsCode req
-    → _≡_ {A = Turn} (record { seat = z; request = req; template = e; target = target; source = source; sends = x }) (turnOf z c)
+    → g ≡ groupOf req
+    → _≡_ {A = Turn}
+    (record { seat = z; request = req; template = e; target = target; source = source; sends = x; group = g })
+    (turnOf z c)
 unfolding turnOf asking
-turned-as z c m host target source req e x a d r t l o y = rw (y, o, l, t, r, a, d)
+turned-as z c m host target source req e x g a d r t l o y u = rw (u, y, o, l, t, r, a, d)
 
 pub slot-as : (x y : Node) (p : Process) (k j : ℕ) → k ≡ j → y ≡ withProcess x k p → y ≡ withProcess x j p
 slot-as x y p k j e h = h ∙ ap (λ (i : ℕ). withProcess x i p) e

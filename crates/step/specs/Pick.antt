@@ -1,11 +1,14 @@
 -- One pick (document 01, "One pick"): the answer and the net after it, for every net and every byte. In what follows s
 -- is the net, a the hosting address, k the slot, p the process that stands there.
 use Prim.Native.Nat.{ℕ, _+_, _/_, _%_}
+use mathlib.Core.Bool.{Bool}
 use lib.Dec.{eqb, ltb}
-use Rattle.net.specs.Choice.{choose}
+use Rattle.net.specs.Choice.{choose, fold}
 use Rattle.net.specs.Records.{processAt, nodeAt, instructionAt, rowFor, withProcess, withTuple, withNode, withRows}
 use Rattle.net.specs.Records.{withVariable, movedTo, copiedTo, sentFrom, withoutTuple, freeSlot, freeProcess, zeroNode}
 use Rattle.net.specs.Records.{marked, addressOf, withCounts}
+use Rattle.net.specs.declared.locality.Group.{Group}
+use Rattle.net.specs.Groups.{member, allMembers}
 use Rattle.matching.specs.Matching.{evaluatedOf, matchedOf}
 use Rattle.keeping.specs.Keeping.{keepsOf}
 use Rattle.sound.specs.Soundness.{soundOf}
@@ -48,6 +51,19 @@ added s l t = withNode s l (withTuple (nodeAt s l) t)
 unfoldable pub out : Net → Locality → ℕ → Process → Locality → Place → Tuple → Picked
 out s a k p l q t =
     choose (ltb (nodeAt s l .stored) 16) (performed (added (withHost s a k (movedTo p q)) l t)) (unchanged Answer.NoRoom s)
+
+-- an out to a set (document 02, slip 11): "right o is needed at each member, and room at each; either all receive the tuple or
+-- none does"
+unfoldable pub roomAtAll : Net → Group → Bool
+roomAtAll s g = allMembers g (λ l. ltb (nodeAt s l .stored) 16)
+
+-- the tuple added at each member, as the newest
+unfoldable pub addedAll : Net → Group → Tuple → Net
+addedAll s g t = fold 16 (λ i s′. choose (member g (addressOf i)) (added s′ (addressOf i) t) s′) s
+
+unfoldable pub outAll : Net → Locality → ℕ → Process → Group → Place → Tuple → Picked
+outAll s a k p g q t =
+    choose (roomAtAll s g) (performed (addedAll (withHost s a k (movedTo p q)) g t)) (unchanged Answer.NoRoom s)
 
 -- the tuple at place i taken at l
 unfoldable pub taken : Net → Locality → ℕ → Net
@@ -118,6 +134,7 @@ carriedOut s a k p e (Request.Read l q) = read s a k q (matchedOf p (nodeAt s l)
 carriedOut s a k p e (Request.Eval l sent q) = eval s a k p l sent q
 carriedOut s a k p e (Request.New v q) = create s a k p v q
 carriedOut s a k p e (Request.Fork q r) = fork s a k p q r
+carriedOut s a k p e (Request.OutAll g q) = outAll s a k p g q (marked a (tupleOf e))
 
 -- ---- the order of the tests: 9, 8, 7, then 1 at a stop, 6, 4, 5, then 3 or 2
 

@@ -5,15 +5,15 @@ pub use Rattle.step.specs.declared.turn.Seat.{Seat}
 pub use Rattle.step.specs.declared.turn.Turn.{Turn}
 use Prim.Native.Nat.{ℕ}
 use mathlib.Core.Bool.{Bool, true, false}
-use mathlib.Core.List.{List, [], _∷_}
+use mathlib.Core.List.{List}
 use lib.Dec.{eqb, ltb}
 use Rattle.net.specs.Choice.{choose, both}
 use Rattle.net.specs.Records.{zeroInstruction, processAt, nodeAt, instructionAt, rowFor, sentFrom, addressOf, placeOf}
 use Rattle.matching.specs.Matching.{evaluatedOf}
 use Rattle.keeping.specs.Keeping.{keepsOf}
-use Rattle.plans.specs.Request.{requestOf, targets, isNew}
+use Rattle.plans.specs.Request.{requestOf, isNew}
 use Rattle.plans.specs.Plan.{planOf, refusing}
-use Rattle.step.specs.Types.{Locality, Place, Process, Node, Instruction, Net, Evaluated, Answer, Request, Plan}
+use Rattle.step.specs.Types.{Locality, Place, Group, Process, Node, Instruction, Net, Evaluated, Answer, Request, Plan}
 use Rattle.step.specs.Pick.{hostOf, slotOf, spareOf}
 
 -- the pick is well formed, its address in use and its slot busy: 9, 8 and 7 are absent
@@ -40,20 +40,40 @@ seated b f n x p = record { pick = b; format = f; addresses = n; process = p; ro
 unfoldable pub seatOf : ℕ → ℕ → ℕ → Node → Seat
 seatOf b f n x = seated b f n x (processAt x (slotOf b))
 
--- ---- the address that a request concerns beside its host a, n being the address count; a itself where no node has it
+-- ---- the address whose node the plan of a request of the host a is drawn from: its one target's, and a where it has none, or one
+-- that has no node yet, or a set of them; a too where no node has the address
 unfoldable pub near : Locality → Locality → Locality
 near l a = choose (ltb (l .0) 16) l a
 
-unfoldable pub firstNear : List Locality → Locality → Locality
-firstNear [] a = a
-firstNear (l ∷ ls) a = near l a
-
-unfoldable pub targetIn : Locality → ℕ → Request → Locality
-targetIn a n r = choose (isNew r) (near (addressOf n) a) (firstNear (targets r) a)
-
--- the address whose node its plan is drawn from: its target's, or its host's where the target has no node yet
 unfoldable pub sourceIn : Locality → Request → Locality
-sourceIn a r = choose (isNew r) a (firstNear (targets r) a)
+sourceIn a Request.Lack = a
+sourceIn a Request.Stop = a
+sourceIn a (Request.Out l q) = near l a
+sourceIn a (Request.In l q) = near l a
+sourceIn a (Request.Read l q) = near l a
+sourceIn a (Request.Eval l sent q) = near l a
+sourceIn a (Request.New v q) = a
+sourceIn a (Request.Fork q r) = a
+sourceIn a (Request.OutAll g q) = a
+
+-- the address that it changes beside its host, n being the address count: for a new the one that it opens
+unfoldable pub targetIn : Locality → ℕ → Request → Locality
+targetIn a n r = choose (isNew r) (near (addressOf n) a) (sourceIn a r)
+
+-- ---- the set that a request puts to: the empty one where it is no out to a set
+unfoldable pub noGroup : Group
+noGroup = record { 0 = 0 }
+
+unfoldable pub groupOf : Request → Group
+groupOf Request.Lack = noGroup
+groupOf Request.Stop = noGroup
+groupOf (Request.Out l q) = noGroup
+groupOf (Request.In l q) = noGroup
+groupOf (Request.Read l q) = noGroup
+groupOf (Request.Eval l sent q) = noGroup
+groupOf (Request.New v q) = noGroup
+groupOf (Request.Fork q r) = noGroup
+groupOf (Request.OutAll g q) = g
 
 -- ---- whether a request sends code
 unfoldable pub sendsCode : Request → Bool
@@ -65,6 +85,7 @@ sendsCode (Request.Read l q) = false
 sendsCode (Request.Eval l sent q) = true
 sendsCode (Request.New v q) = false
 sendsCode (Request.Fork q q′) = false
+sendsCode (Request.OutAll g q) = false
 
 -- ---- what a pick asks for from its seat: m is the instruction that it meets, c the one at the seat's index
 unfoldable pub asking : Locality → Seat → Instruction → Turn
@@ -75,6 +96,7 @@ asking a z m = record {
   target = targetIn a (z .addresses) (requestOf a (z .process) m);
   source = sourceIn a (requestOf a (z .process) m);
   sends = sendsCode (requestOf a (z .process) m);
+  group = groupOf (requestOf a (z .process) m);
 }
 
 unfoldable pub turnOf : Seat → Instruction → Turn
@@ -97,8 +119,10 @@ sentWithin code a p y (Request.Read l q) = true
 sentWithin code a p y (Request.Eval l sent q) = keepsOf code sent l (rowFor y (sentFrom a p sent))
 sentWithin code a p y (Request.New v q) = true
 sentWithin code a p y (Request.Fork q q′) = true
+sentWithin code a p y (Request.OutAll g q) = true
 
--- ---- the plan of a turn: y is the node at its source, `within` whether sent code keeps within y's row for it
+-- ---- the plan of a turn: y is the node at its source, `within` whether sent code keeps within y's row for it, or whether each
+-- member of its set has room
 unfoldable pub seatPlan : Seat → Evaluated → Request → Node → Bool → Plan
 seatPlan z e req y within =
     choose (ready (z .pick) (z .addresses) (z .process))
@@ -111,6 +135,6 @@ turnPlan t y within = seatPlan (t .seat) (t .template) (t .request) y within
 unfoldable pub planWith : List Instruction → Turn → Node → Plan
 planWith code t y = turnPlan t y (sentWithin code (hostOf (t .seat .pick)) (t .seat .process) y (t .request))
 
--- in a net
+-- in a net, where its set is empty (`Sharing.antt` has the others)
 unfoldable pub planAt : Net → Turn → Plan
 planAt s t = planWith (s .code) t (nodeAt s (t .source))

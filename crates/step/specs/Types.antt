@@ -1,6 +1,7 @@
 -- The types that the definitions of this crate speak of.
 pub use Rattle.net.specs.declared.locality.Locality.{Locality}
 pub use Rattle.net.specs.declared.locality.Place.{Place}
+pub use Rattle.net.specs.declared.locality.Group.{Group}
 pub use Rattle.net.specs.declared.tuple.Value.{Value}
 pub use Rattle.net.specs.declared.tuple.Variable.{Variable}
 pub use Rattle.net.specs.declared.tuple.Item.{Item}

@@ -1,4 +1,5 @@
 // One pick (document 01, "One pick"): the net after it comes back with the answer.
+use crate::sharing::share_out;
 use crate::turn::Turn;
 use crate::turn::changes_net;
 use crate::turn::count_after;
@@ -18,6 +19,7 @@ ghost use mathlib.Core.Bool.{true};
 ghost use Rattle.sound.specs.Soundness.{soundOf};
 ghost use Rattle.step.specs.Pick.{hostOf, slotOf, stepOf, pickOf};
 ghost use Rattle.step.specs.PutBack.{putBack};
+ghost use Rattle.step.specs.Sharing.{sharedOf, sharedAt};
 ghost use Rattle.step.specs.Turn.{turnAt, planAt};
 
 // The net after a pick, with its answer.
@@ -77,16 +79,34 @@ impl Machine {
         }
     }
 
+    // The turn of an out to a set, which concerns many nodes.
+    fn share(self, turn: Turn) -> Picked
+        ensures { λ r. ⌜ r ≡ sharedAt (self .net) (sharedOf (self .net .nodes) turn) ⌝ }
+    {
+        let mut net = self.net;
+        let nodes = net.nodes;
+        let shared = share_out(nodes, turn);
+        let answer = shared.answer;
+        let after = shared.nodes;
+        net.nodes = after;
+        Picked { answer, net }
+    }
+
     // A pick on a net that is known to be sound.
     pub fn step(mut self, b: u8) -> Picked
         ensures { λ r. ⌜ r ≡ stepOf (self .net) b ⌝ }
     {
         let turn = self.turn_at(b);
-        let plan = self.plan_at(turn);
-        let answer = plan.answer;
-        self = self.put_back(b, turn.target, plan);
-        let after = self.net;
-        Picked { answer, net: after }
+        let group = turn.group;
+        if group.0 == 0 {
+            let plan = self.plan_at(turn);
+            let answer = plan.answer;
+            self = self.put_back(b, turn.target, plan);
+            let after = self.net;
+            Picked { answer, net: after }
+        } else {
+            self.share(turn)
+        }
     }
 
     // A pick on any net. A sound net stays sound.

@@ -2,6 +2,7 @@
 use keeping::rights::keeps;
 use matching::template::Evaluated;
 use net::instruction::Instruction;
+use net::locality::Group;
 use net::locality::Locality;
 use net::locality::Place;
 use net::node::Node;
@@ -20,7 +21,7 @@ ghost use Rattle.net.specs.Records.{addressOf};
 ghost use Rattle.step.specs.Pick.{hostOf, slotOf};
 ghost use Rattle.step.specs.PutBack.{changes, hostAfter, countAfter};
 ghost use Rattle.step.specs.Turn.{ready, refusal, met, indexIn, seatOf, near, targetIn, sourceIn, turnOf};
-ghost use Rattle.step.specs.Turn.{sentWithin, seatPlan, turnPlan, planWith, sendsCode};
+ghost use Rattle.step.specs.Turn.{sentWithin, seatPlan, turnPlan, planWith, sendsCode, groupOf};
 
 // What a pick finds at its host: the process that it names, with the row that it is judged by and the index
 // of its instruction. `pick` is the pick itself, `format` the net's format, `addresses` the address count.
@@ -33,8 +34,9 @@ pub struct Seat {
     pub index: usize,
 }
 
-// What a pick asks for from its seat, with its evaluated template, the address that it concerns beside its
-// host, the address whose node its plan is drawn from, and whether it sends code.
+// What a pick asks for from its seat, with its evaluated template, the address that it changes beside its
+// host, the address whose node its plan is drawn from, whether it sends code, and the set that it puts to, which is
+// empty where it is no out to a set.
 pub struct Turn {
     pub seat: Seat,
     pub request: Request,
@@ -42,6 +44,7 @@ pub struct Turn {
     pub target: Locality,
     pub source: Locality,
     pub sends: bool,
+    pub group: Group,
 }
 
 // The address that a pick names.
@@ -120,7 +123,7 @@ fn unused_or(n: usize, a: Locality) -> Locality
     if n < 16 { Locality(n as u8) } else { a }
 }
 
-// The address that a request concerns beside its host a.
+// The address that a request changes beside its host a.
 fn target_of(a: Locality, n: usize, r: Request) -> Locality
     ensures { λ x. ⌜ x ≡ targetIn a n r ⌝ }
     ensures { λ x. ⌜ (a .0 < 16 → x .0 < 16) ⌝ }
@@ -134,10 +137,12 @@ fn target_of(a: Locality, n: usize, r: Request) -> Locality
         Request::Eval(l, _, _) => nearest(l, a),
         Request::New(_, _) => unused_or(n, a),
         Request::Fork(_, _) => a,
+        Request::OutAll(_, _) => a,
     }
 }
 
-// The address whose node the plan of a request is drawn from: its target's, or the host a where that has no node yet.
+// The address whose node the plan of a request is drawn from: its one target's, or the host a where it has none, or one that
+// has no node yet, or a set of them.
 fn source_of(a: Locality, r: Request) -> Locality
     ensures { λ x. ⌜ x ≡ sourceIn a r ⌝ }
     ensures { λ x. ⌜ (a .0 < 16 → x .0 < 16) ⌝ }
@@ -151,6 +156,7 @@ fn source_of(a: Locality, r: Request) -> Locality
         Request::Eval(l, _, _) => nearest(l, a),
         Request::New(_, _) => a,
         Request::Fork(_, _) => a,
+        Request::OutAll(_, _) => a,
     }
 }
 
@@ -167,6 +173,24 @@ fn sends_code(r: Request) -> bool
         Request::Eval(_, _, _) => true,
         Request::New(_, _) => false,
         Request::Fork(_, _) => false,
+        Request::OutAll(_, _) => false,
+    }
+}
+
+// The set that a request puts to: the empty one where it is no out to a set.
+fn group_of(r: Request) -> Group
+    ensures { λ x. ⌜ x ≡ groupOf r ⌝ }
+{
+    match r {
+        Request::Lack => Group(0),
+        Request::Stop => Group(0),
+        Request::Out(_, _) => Group(0),
+        Request::In(_, _) => Group(0),
+        Request::Read(_, _) => Group(0),
+        Request::Eval(_, _, _) => Group(0),
+        Request::New(_, _) => Group(0),
+        Request::Fork(_, _) => Group(0),
+        Request::OutAll(g, _) => g,
     }
 }
 
@@ -201,6 +225,7 @@ pub fn turn_of(seat: Seat, c: Instruction) -> Turn
     let target = target_of(host, seat.addresses, request);
     let source = source_of(host, request);
     let sends = sends_code(request);
+    let group = group_of(request);
     Turn {
         seat,
         request,
@@ -208,6 +233,7 @@ pub fn turn_of(seat: Seat, c: Instruction) -> Turn
         target,
         source,
         sends,
+        group,
     }
 }
 
@@ -227,10 +253,12 @@ fn sent_within(code: [Instruction; 512], a: Locality, p: Process, y: Node, r: Re
         }
         Request::New(_, _) => true,
         Request::Fork(_, _) => true,
+        Request::OutAll(_, _) => true,
     }
 }
 
-// The plan from a seat: y is the node at the source, `within` whether sent code keeps within y's row for it.
+// The plan from a seat: y is the node at the source, `within` whether sent code keeps within y's row for it, or whether
+// each member of the set has room.
 fn seat_plan(seat: Seat, template: Evaluated, request: Request, y: Node, within: bool) -> Plan
     ensures { λ x. ⌜ x ≡ seatPlan seat template request y within ⌝ }
 {

@@ -1,6 +1,6 @@
 -- `plans::plan::out_plan` meets its contract. Assumes nothing.
 use Rattle.plans.specs.Plan.{outPlan}
-use Rattle.plans.proofs.PlanLaws.{put-marked}
+use Rattle.plans.proofs.PlanLaws.{put-as}
 use borrow.Author.Needs.{needs}
 use Rattle.plans.proofs.plan.out_plan.Statement.{statement}
 use Rattle.plans.proofs.plan.out_plan.Tie as tie
@@ -14,5 +14,4 @@ out-plan-spec =
     (λ c κs. search needs)
     (λ c κs. search needs)
     (λ c κs. search needs)
-    (λ c κs. search needs)
-    (λ c. search (needs, put-marked)))
+    (λ c. search (needs, put-as)))

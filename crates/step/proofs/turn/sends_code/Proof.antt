@@ -18,6 +18,8 @@ sends-code-spec =
     (λ c. search needs)
     (λ c. search needs)
     (λ c. search needs)
+    (λ c. search needs)
+    (λ c. search (needs, by sendsCode))
     (λ c. search (needs, by sendsCode))
     (λ c. search (needs, by sendsCode))
     (λ c. search (needs, by sendsCode))

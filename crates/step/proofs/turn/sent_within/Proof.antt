@@ -22,6 +22,8 @@ sent-within-spec =
     (λ c κs. search needs)
     (λ c. search needs)
     (λ c. search needs)
+    (λ c. search needs)
+    (λ c. search (needs, by5 sentWithin, within-as))
     (λ c. search (needs, by5 sentWithin, within-as))
     (λ c. search (needs, by5 sentWithin, within-as))
     (λ c. search (needs, by5 sentWithin, within-as))

@@ -1,14 +1,12 @@
 -- `step::turn::source_of` meets its contract. Assumes nothing.
-use Rattle.step.specs.Turn.{firstNear, sourceIn}
-use Rattle.plans.specs.Request.{targets, isNew}
-use Rattle.net.specs.Choice.{choose}
+use Rattle.step.specs.Turn.{sourceIn}
 use Rattle.plans.proofs.PlanLaws.{by2}
 use borrow.Author.Needs.{needs}
 use Rattle.step.proofs.turn.source_of.Statement.{statement}
 use Rattle.step.proofs.turn.source_of.Tie as tie
 
 pub source-of-spec : {M : Type 1} → statement M
-unfolding sourceIn firstNear targets isNew choose
+unfolding sourceIn
 source-of-spec =
     tie.close
     (tie.spec
@@ -24,6 +22,8 @@ source-of-spec =
     (λ c κs. search needs)
     (λ c. search needs)
     (λ c. search needs)
+    (λ c. search needs)
+    (λ c. search (needs, by2 sourceIn))
     (λ c. search (needs, by2 sourceIn))
     (λ c. search (needs, by2 sourceIn))
     (λ c. search (needs, by2 sourceIn))

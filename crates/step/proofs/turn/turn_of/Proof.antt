@@ -14,4 +14,5 @@ turn-of-spec =
     (λ c κs. search needs)
     (λ c κs. search needs)
     (λ c κs. search needs)
+    (λ c κs. search needs)
     (λ c. search (needs, turned-as, low-as)))

@@ -1,5 +1,6 @@
 -- `step::machine::Machine::step` meets its contract. Assumes nothing.
 use Rattle.step.proofs.TurnLaws.{turn-is}
+use Rattle.step.proofs.SharingLaws.{share-is}
 use Rattle.step.proofs.Lengths.{machine-shaped}
 use borrow.Author.Needs.{needs}
 use Rattle.step.proofs.machine.Machine.step.Statement.{statement}
@@ -12,4 +13,6 @@ step-spec =
     (λ c κs. search needs)
     (λ c κs. search needs)
     (λ c κs. search needs)
-    (λ c. search (needs, turn-is, machine-shaped)))
+    (λ c κs. search needs)
+    (λ c. search (needs, turn-is, machine-shaped))
+    (λ c. search (needs, share-is, machine-shaped)))
