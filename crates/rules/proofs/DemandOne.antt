@@ -12,8 +12,8 @@ use Rattle.rules.specs.Types.{Answer, Picked}
 use Rattle.plans.specs.Answer.{numberOf}
 use Rattle.plans.specs.Request.{requestOf}
 use Rattle.step.specs.Pick.{hostOf, slotOf, unchanged, performed, stopped, processStep, stepOf, slotStep, pickOf}
-use Rattle.rules.specs.Rules.{processIn, instructionIn, rowIn, Stands, Reduces, OUT, IN, READ, EVAL, NEW, FORK}
-use Rattle.rules.specs.DemandOne.{Held, out-held, in-held, read-held, eval-held, new-held, fork-held}
+use Rattle.rules.specs.Rules.{processIn, instructionIn, rowIn, Stands, Reduces, OUT, IN, READ, EVAL, NEW, FORK, OUT-ALL}
+use Rattle.rules.specs.DemandOne.{Held, out-held, in-held, read-held, eval-held, new-held, fork-held, out-all-held}
 use Rattle.rules.specs.DemandOne.{pickedProcess, pickedAction, OnlyWithRight, RefusedChangesNothing}
 use Rattle.rules.proofs.Outcomes.{ComesTo, performs, refuses, ends, outcome}
 use Rattle.rules.proofs.Rules.{picked-step}
@@ -32,6 +32,7 @@ module _ (s : Net) (a : Locality) (k : ℕ) where
   held _ (EVAL h p g within f) = held-at _ h (eval-held (p .points) g)
   held _ (NEW h g room) = held-at _ h (new-held g)
   held _ (FORK h f) = held-at _ h fork-held
+  held _ (OUT-ALL h d used may room) = held-at _ h (out-all-held may)
 
 pub is-performed : (w : Answer) → numberOf w ≡ 0 → w ≡ Answer.Performed
 unfolding numberOf

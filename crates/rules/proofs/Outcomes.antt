@@ -10,7 +10,7 @@ use Rattle.rules.specs.Types.{Answer, Picked, Aim, Request}
 use Rattle.plans.specs.Answer.{numberOf}
 use Rattle.plans.specs.Request.{at, spoken, asked}
 use Rattle.step.specs.Pick.{unchanged, performed, stopped, out, input, inFound, read, readFound, startedIn, eval}
-use Rattle.step.specs.Pick.{fork, create, carriedOut, acting}
+use Rattle.step.specs.Pick.{outAll, fork, create, carriedOut, acting}
 
 pub data ComesTo (s : Net) (a : Locality) (k : ℕ) : Action → Picked → Type 0 where
   performs : {x : Action} (n : Net) → ComesTo s a k x (performed n)
@@ -56,19 +56,24 @@ module _ (s : Net) (a : Locality) (k : ℕ) (x : Action) where
     at-outcome (Aim.At l) f h = acting-outcome (f l) (h l)
     at-outcome Aim.Nowhere f h = lack-outcome
 
+    -- a request whose template has to be defined
+    told-outcome :
+        (r : Request) → ComesTo s a k x (acting s a k p e r)
+        → ComesTo s a k x (acting s a k p e (choose (e .defined) r Request.Lack))
+    told-outcome r h =
+        chosen (λ y. ComesTo s a k x (acting s a k p e y)) (e .defined) _ _ (λ _. h) (λ _. lack-outcome)
+
     spoken-outcome :
         (aim : Aim) (f : Locality → Request) → ((l : Locality) → ComesTo s a k x (carriedOut s a k p e (f l)))
         → ComesTo s a k x (acting s a k p e (spoken e aim f))
     unfolding spoken
-    spoken-outcome aim f h =
-        chosen (λ r. ComesTo s a k x (acting s a k p e r)) (e .defined) _ _ (λ _. at-outcome aim f h)
-        (λ _. lack-outcome)
+    spoken-outcome aim f h = told-outcome (at aim f) (at-outcome aim f h)
 
 -- by the action
 pub outcome :
     (s : Net) (a : Locality) (k : ℕ) (p : Process) (e : Evaluated) (x : Action)
     → ComesTo s a k x (acting s a k p e (asked a p e x))
-unfolding asked carriedOut out input read eval fork create numberOf
+unfolding asked carriedOut out outAll input read eval fork create numberOf
 outcome s a k p e Action.Stop = acting-outcome s a k _ p e _ ends
 outcome s a k p e (Action.Out t q) =
     spoken-outcome s a k _ p e _ _ (λ l. or-refused s a k _ _ _ Answer.NoRoom (omega arith) (performs _))
@@ -80,3 +85,6 @@ outcome s a k p e (Action.Eval t sent q) =
 outcome s a k p e (Action.New v q) =
     acting-outcome s a k _ p e _ (or-refused s a k _ _ _ Answer.NoRoom (omega arith) (performs _))
 outcome s a k p e (Action.Fork q r) = acting-outcome s a k _ p e _ (started-outcome s a k _ _ _ _ _ _)
+outcome s a k p e (Action.OutAll g q) =
+    told-outcome s a k _ p e (Request.OutAll g q)
+    (acting-outcome s a k _ p e _ (or-refused s a k _ _ _ Answer.NoRoom (omega arith) (performs _)))

@@ -75,20 +75,23 @@ module _ {w : Answer} {after : Net} (final : numberOf w ≤ 1) (s : Net) (a : Lo
   aimed (Aim.At l) f h = record { l = l; points = refl; acts = h }
   aimed Aim.Nowhere f h = absurd (lack h)
 
-  spoke-by :
-      (d : Bool) (aim : Aim) (f : Locality → Request)
-      → Gave w after (acting s a k p e (choose d (at aim f) Request.Lack))
-      → Spoke w after s a k p e d aim f
+  -- a request whose template has to be defined
+  pub told :
+      (d : Bool) (r : Request)
+      → Gave w after (acting s a k p e (choose d r Request.Lack))
+      → Passed w after d (acting s a k p e r)
   unfolding choose
-  spoke-by true aim f h = record { defined = refl; aims = aimed aim f h }
-  spoke-by false aim f h = absurd (lack h)
+  told true r h = record { test = refl; rest = h }
+  told false r h = absurd (lack h)
 
   pub spoke :
       (aim : Aim) (f : Locality → Request)
       → Gave w after (acting s a k p e (spoken e aim f))
       → Spoke w after s a k p e (e .defined) aim f
   unfolding spoken
-  spoke aim f h = spoke-by (e .defined) aim f h
+  spoke aim f h =
+      let t = told (e .defined) (at aim f) h in
+      record { defined = t .test; aims = aimed aim f (t .rest) }
 
 -- ---- what was picked: a busy slot of an address in use, in a sound net
 pub record Seated (w : Answer) (after : Net) (s : Net) (b : ℕ) : Type 0 where

@@ -9,7 +9,9 @@ use native.Mathlib.Omega.{arith}
 use borrow.Author.Tests.{ltb-true, lt-ltb, eq-eqb, not-true, not-false}
 use Rattle.net.specs.Records.{processAt, tupleAt, nodeAt, movedTo, freeSlot}
 use Rattle.matching.specs.Matching.{boundOf, matchedOf}
-use Rattle.sound.specs.Soundness.{soundOf, targetSound, actionSound}
+use Rattle.sound.specs.Soundness.{soundOf, targetSound, groupSound, actionSound}
+use Rattle.keeping.specs.Keeping.{mayPutAll}
+use Rattle.net.proofs.GroupLaws.{members-at, members-all}
 use Rattle.matching.specs.MatchingPromise.{OldestThatFits}
 use Rattle.net.proofs.Laws.{both-l, both-r, choose-true}
 use Rattle.matching.proofs.MatchingPromise.{matchingPromise as promise}
@@ -19,15 +21,15 @@ use Rattle.rules.specs.Types.{Answer, Picked, Aim, Request}
 use Rattle.plans.specs.Answer.{numberOf}
 use Rattle.plans.specs.Request.{targetOf, at, spoken, asked, requestOf, granted}
 use Rattle.step.specs.Pick.{hostOf, slotOf, spareOf, performed, unchanged, withHost, stopped, out, inFound, input}
-use Rattle.step.specs.Pick.{readFound, read, startedIn, eval, fork, create, carriedOut, acting, processStep}
+use Rattle.step.specs.Pick.{readFound, read, startedIn, eval, fork, create, roomAtAll, outAll, carriedOut, acting, processStep}
 use Rattle.step.specs.Pick.{stepOf, slotStep, pickOf}
 use Rattle.rules.specs.Rules.{processIn, instructionIn, templateIn, rowIn, Stands, Points}
-use Rattle.rules.specs.Rules.{LowestFree, Reduces, OUT, IN, READ, EVAL, NEW, FORK, Ends, NIL}
+use Rattle.rules.specs.Rules.{LowestFree, Reduces, OUT, IN, READ, EVAL, NEW, FORK, OUT-ALL, Ends, NIL}
 use Rattle.rules.specs.Rules.{StepIsPick, StopIsPick}
 use Rattle.rules.proofs.StepFacts.{Facts, facts, stored-few, Runs, running, target-exists}
 use Rattle.rules.proofs.Within.{keeps-within, within-keeps}
 use Rattle.rules.proofs.Outcomes.{ComesTo, performs, refuses, ends, outcome}
-use Rattle.rules.proofs.ReadBack.{Gave, same-number, refused, through, Aimed, acted, aimed, spoke, seated}
+use Rattle.rules.proofs.ReadBack.{Gave, same-number, refused, through, Aimed, acted, aimed, told, spoke, seated}
 
 -- ---- the lowest free slot, as the definition looks for it
 free-test : Node → ℕ → Bool
@@ -60,7 +62,7 @@ module _ (s : Net) (a : Locality) (k : ℕ) (seat : Seat s a k) where
   unfolding processIn
   runs = running (s .format) (s .addresses) (s .length) (nodeAt s a) k (seat .ok .nodes a (seat .used)) (seat .low)
 
-  sound-action : (x : Action) → Stands s a k x → actionSound (s .addresses) (s .length) x ≡ true
+  sound-action : (x : Action) → Stands s a k x → actionSound (s .format) (s .addresses) (s .length) x ≡ true
   unfolding instructionIn
   sound-action x h = rw (h .acts) at (seat .ok .actions (processIn s a k .at) (runs (h .busy) .placed))
 
@@ -152,12 +154,12 @@ module _ (s : Net) (a : Locality) (k : ℕ) (after : Net) (seat : Seat s a k) wh
 
   -- by the action
   step-by :
-      (x : Action) → Stands s a k x → actionSound (s .addresses) (s .length) x ≡ true
+      (x : Action) → Stands s a k x → actionSound (s .format) (s .addresses) (s .length) x ≡ true
       → Gave Answer.Performed after
       (acting s a k (processIn s a k) (templateIn s a k) (asked a (processIn s a k) (templateIn s a k) x))
       → Reduces s a k after
-  unfolding asked granted carriedOut actionSound numberOf rowIn stopped out input inFound read readFound eval fork
-      create
+  unfolding asked granted carriedOut actionSound groupSound mayPutAll numberOf rowIn stopped out outAll roomAtAll input inFound read
+      readFound eval fork create
   step-by Action.Stop h sound g =
       let no = same-number (acted final-0 s a k _ _ _ g .rest) in
       absurd (omega arith)
@@ -190,6 +192,13 @@ module _ (s : Net) (a : Locality) (k : ℕ) (after : Net) (seat : Seat s a k) wh
       let room = through final-0 Answer.NoRoom s _ _ (omega arith) (ac .rest) in
       as-performed _ (room .rest) (NEW h (ac .test) (ltb-true _ _ (room .test)))
   step-by (Action.Fork q r) h sound g = started a _ q (λ j f. FORK h f) (acted final-0 s a k _ _ _ g .rest)
+  step-by (Action.OutAll all q) h sound g =
+      let t = told final-0 s a k _ _ _ (Request.OutAll all q) g in
+      let ac = acted final-0 s a k _ _ _ (t .rest) in
+      let room = through final-0 Answer.NoRoom s _ _ (omega arith) (ac .rest) in
+      as-performed _ (room .rest)
+      (OUT-ALL h (t .test) (λ l m. ltb-true _ _ (members-at all _ (both-l _ _ (both-r _ _ sound)) l m))
+      (members-at all _ (ac .test)) (λ l m. ltb-true _ _ (members-at all _ (room .test) l m)))
 
 -- a stop, and nothing else, is answered 1
 stop-by :
@@ -227,7 +236,7 @@ module _ (s : Net) (a : Locality) (k : ℕ) where
       ∙ choose-true _ _ _ g
 
   step-does : (after : Net) → Seat s a k → Reduces s a k after → Does (performed after)
-  unfolding Does asked granted carriedOut out input inFound read readFound eval fork create startedIn
+  unfolding Does asked granted carriedOut mayPutAll out outAll roomAtAll input inFound read readFound eval fork create startedIn
   step-does _ seat (OUT h p d g room) =
       does _ _ h (spoken-is _ _ _ _ d (p .points)) g ∙ choose-true _ _ _ (lt-ltb _ _ room)
   step-does _ seat (IN {l = l} {i = i} h p d g o) =
@@ -242,6 +251,9 @@ module _ (s : Net) (a : Locality) (k : ℕ) where
       ∙ rw (slot-is _ _ f)
   step-does _ seat (NEW h g room) = does _ _ h refl g ∙ choose-true _ _ _ (lt-ltb _ _ room)
   step-does _ seat (FORK h f) = does _ _ h refl refl ∙ rw (slot-is _ _ f)
+  step-does _ seat (OUT-ALL {g = g} h d used may room) =
+      does _ _ h (choose-true _ _ _ d) (members-all g _ may)
+      ∙ choose-true _ _ _ (members-all g _ (λ l m. lt-ltb _ _ (room l m)))
 
   stop-does : (after : Net) → Ends s a k after → Does (record { answer = Answer.Ended; net = after })
   unfolding Does asked granted carriedOut stopped
@@ -254,6 +266,7 @@ module _ (s : Net) (a : Locality) (k : ℕ) where
   stands-busy _ (EVAL h p g within f) = h .busy
   stands-busy _ (NEW h g room) = h .busy
   stands-busy _ (FORK h f) = h .busy
+  stands-busy _ (OUT-ALL h d used may room) = h .busy
 
   stop-busy : (after : Net) → Ends s a k after → processIn s a k .busy ≡ true
   stop-busy _ (NIL h) = h .busy
@@ -303,15 +316,20 @@ stepIsPick s sound b after = (
       ∙ step-does s _ _ after (seat-of s b sound (h .1)) step,
 )
 
+pub picked-stop :
+    (s : Net) (b : ℕ) (after : Net) → Gave Answer.Ended after (pickOf s b) → Ends s (hostOf b) (slotOf b) after
+unfolding processIn instructionIn templateIn processStep requestOf
+picked-stop s b after h =
+    let p = seated final-1 s b h in
+    stop-by s (hostOf b) (slotOf b) after _ _ (outcome s (hostOf b) (slotOf b) _ _ _)
+    (stands-at s (hostOf b) (slotOf b) (p .busy)) (p .acts)
+
 pub stopIsPick : StopIsPick
-unfolding StopIsPick Does processIn instructionIn templateIn processStep requestOf
+unfolding StopIsPick Does
 stopIsPick s sound b after = (
   λ e.
-      let p = seated final-1 s b (record { is = e }) in (
-        p .spare,
-        p .used,
-        stop-by s (hostOf b) (slotOf b) after _ _ (outcome s (hostOf b) (slotOf b) _ _ _)
-            (stands-at s (hostOf b) (slotOf b) (p .busy)) (p .acts),
-      ),
+      let h : Gave Answer.Ended after (pickOf s b) = record { is = e } in
+      let p = seated final-1 s b h in
+      (p .spare, p .used, picked-stop s b after h),
   λ h. pick-is s b sound (h .0) (h .1) (stop-busy s _ _ after (h .2)) ∙ stop-does s _ _ after (h .2),
 )

@@ -6,7 +6,7 @@ use mathlib.Core.Bool.{true}
 use native.Mathlib.Omega.{arith}
 use borrow.Author.Tests.{ltb-true, leb-true, lt-ltb}
 use Rattle.net.specs.Records.{variableAt, processAt, nodeAt, instructionAt}
-use Rattle.keeping.specs.Reaching.{Follows, out-next, in-next, read-next, eval-next, new-next, fork-first, fork-second}
+use Rattle.keeping.specs.Reaching.{Follows, out-next, in-next, read-next, eval-next, new-next, fork-first, fork-second, out-all-next}
 use Rattle.sound.specs.Soundness.{valueSound, processSound, tuplesSound, nodeSound, targetSound, actionSound}
 use Rattle.sound.specs.Soundness.{instructionSound, nodesSound, codeSound, soundOf}
 use Rattle.net.proofs.Laws.{both-l, both-r, all-e}
@@ -21,7 +21,8 @@ pub record Facts (s : Net) : Type 0 where
   pub short : s .length ≤ 512
   pub nodes : (a : Locality) → a .0 < s .addresses → nodeSound (s .format) (s .addresses) (s .length) (nodeAt s a) ≡ true
   pub actions :
-      (p : Place) → p .0 < s .length → actionSound (s .addresses) (s .length) (instructionAt (s .code) p .action) ≡ true
+      (p : Place) → p .0 < s .length
+      → actionSound (s .format) (s .addresses) (s .length) (instructionAt (s .code) p .action) ≡ true
 
 pub facts : (s : Net) → soundOf s ≡ true → Facts s
 unfolding soundOf nodesSound codeSound instructionSound
@@ -73,12 +74,13 @@ target-exists n k a p (Target.Written m) l h r g e = let same : m ≡ l = cc in 
 target-exists n k a p Target.Own l h r g e = let same : a ≡ l = cc in rw (← same) h
 target-exists n k a p (Target.Held v) l h r g e = held-exists n (variableAt p v) l (r .values v (ltb-true _ _ g)) e
 
-pub follow-low : (n k : ℕ) (q : Place) (x : Action) → Follows q x → actionSound n k x ≡ true → q .0 < k
+pub follow-low : (f n k : ℕ) (q : Place) (x : Action) → Follows q x → actionSound f n k x ≡ true → q .0 < k
 unfolding actionSound
-follow-low n k q _ out-next h = ltb-true _ _ (both-r _ _ h)
-follow-low n k q _ in-next h = ltb-true _ _ (both-r _ _ h)
-follow-low n k q _ read-next h = ltb-true _ _ (both-r _ _ h)
-follow-low n k q _ eval-next h = ltb-true _ _ (both-r _ _ (both-r _ _ h))
-follow-low n k q _ new-next h = ltb-true _ _ (both-r _ _ h)
-follow-low n k q _ fork-first h = ltb-true _ _ (both-l _ _ h)
-follow-low n k q _ fork-second h = ltb-true _ _ (both-r _ _ h)
+follow-low f n k q _ out-next h = ltb-true _ _ (both-r _ _ h)
+follow-low f n k q _ in-next h = ltb-true _ _ (both-r _ _ h)
+follow-low f n k q _ read-next h = ltb-true _ _ (both-r _ _ h)
+follow-low f n k q _ eval-next h = ltb-true _ _ (both-r _ _ (both-r _ _ h))
+follow-low f n k q _ new-next h = ltb-true _ _ (both-r _ _ h)
+follow-low f n k q _ fork-first h = ltb-true _ _ (both-l _ _ h)
+follow-low f n k q _ fork-second h = ltb-true _ _ (both-r _ _ h)
+follow-low f n k q _ out-all-next h = ltb-true _ _ (both-r _ _ (both-r _ _ h))

@@ -14,7 +14,7 @@ use Rattle.rules.proofs.StepFacts.{Facts, follow-low}
 
 module _ (s : Net) (ok : Facts s) (sent : Place) (low : sent .0 < s .length) (l : Locality) (row : Row) where
   closed : (p q : Place) → p .0 < s .length → Follows q (instructionAt (s .code) p .action) → q .0 < s .length
-  closed p q h f = follow-low (s .addresses) (s .length) q _ f (ok .actions p h)
+  closed p q h f = follow-low (s .format) (s .addresses) (s .length) q _ f (ok .actions p h)
 
   pub keeps-within : keepsOf (s .code) sent l row ≡ true → KeepsWithin (s .code) sent l row
   keeps-within h = record { permitted = promise .keeps (s .code) (s .length) (ok .short) closed sent l row low .0 h }

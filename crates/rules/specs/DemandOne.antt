@@ -5,6 +5,8 @@ use Prim.Native.Nat.{ℕ, _<_}
 use mathlib.Core.Path.{_≡_}
 use mathlib.Core.Bool.{true}
 use Rattle.net.specs.Records.{processAt, nodeAt, instructionAt, rowFor}
+use Rattle.net.specs.declared.locality.Group.{Group}
+use Rattle.net.specs.Groups.{member}
 use Rattle.keeping.specs.Keeping.{mayTake, mayRead, mayPut, maySend, mayCreate}
 use Rattle.plans.specs.Answer.{numberOf}
 use Rattle.plans.specs.Request.{targetOf}
@@ -13,7 +15,7 @@ use Rattle.rules.specs.Types.{Locality, Place, Row, Process, Target, Act
 use Rattle.rules.specs.Types.{Aim}
 
 -- the row holds the right of an action of the process p hosted at a: at the address that its target points to o for an
--- out, i for an in, r or i for a read and e for an eval, and n for a new. A fork needs none, and a stop is no action.
+-- out, i for an in, r or i for a read and e for an eval, o at each member of an out's set, and n for a new. A fork needs none, and a stop is no action.
 pub data Held (row : Row) (a : Locality) (p : Process) : Action → Type 0 where
   out-held :
       {t : Target} {q : Place} {l : Locality}
@@ -37,6 +39,10 @@ pub data Held (row : Row) (a : Locality) (p : Process) : Action → Type 0 where
       → Held row a p (Action.Eval t sent q)
   new-held : {v : ℕ} {q : Place} → mayCreate row ≡ true → Held row a p (Action.New v q)
   fork-held : {q r : Place} → Held row a p (Action.Fork q r)
+  out-all-held :
+      {g : Group} {q : Place}
+      → ((l : Locality) → member g l ≡ true → mayPut row l ≡ true)
+      → Held row a p (Action.OutAll g q)
 
 -- the process that a pick names, and the action at its place
 unfoldable pub pickedProcess : Net → ℕ → Process

@@ -1,3 +1,4 @@
+pub mod AllOrNone
 pub mod DemandOne
 pub mod NewClaims
 pub mod Rules

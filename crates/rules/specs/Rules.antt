@@ -9,6 +9,8 @@ use mathlib.Core.Logic.{_↔_}
 use mathlib.Core.Bool.{true, false}
 use mathlib.Core.List.{List}
 use Rattle.net.specs.Records.{processAt, tupleAt, marked, nodeAt, instructionAt, rowFor, movedTo, copiedTo, sentFrom, freeProcess}
+use Rattle.net.specs.declared.locality.Group.{Group}
+use Rattle.net.specs.Groups.{member}
 use Rattle.matching.specs.Matching.{evaluatedOf, boundOf}
 use Rattle.keeping.specs.Reaching.{Reaches}
 use Rattle.keeping.specs.Keeping.{mayTake, mayRead, mayPut, maySend, mayCreate, permits}
@@ -16,7 +18,7 @@ use Rattle.sound.specs.Soundness.{soundOf}
 use Rattle.matching.specs.MatchingPromise.{OldestThatFits}
 use Rattle.plans.specs.Request.{targetOf}
 use Rattle.plans.specs.Additions.{tupleOf}
-use Rattle.step.specs.Pick.{hostOf, slotOf, spareOf, pickOf, withHost, added, taken, created}
+use Rattle.step.specs.Pick.{hostOf, slotOf, spareOf, pickOf, withHost, added, addedAll, taken, created}
 use Rattle.rules.specs.Types.{Locality, Place, Row, Process, Node, Target, Action, Instruction, Evaluated, Net}
 use Rattle.rules.specs.Types.{Answer, Aim}
 
@@ -126,6 +128,17 @@ pub data Reduces (s : Net) (a : Locality) (k : ℕ) : Net → Type 0 where
       → LowestFree (nodeAt s a) j
       → Reduces s a k
       (withHost (withHost s a k (movedTo (processIn s a k) q)) a j (copiedTo (processIn s a k) r))
+  -- an out to a set (document 02, slip 11), which document 004 does not have: OUT at each member at once. Each member exists, and
+  -- has room for the tuple
+  OUT-ALL :
+      {g : Group} {q : Place}
+      → Stands s a k (Action.OutAll g q)
+      → templateIn s a k .defined ≡ true
+      → ((l : Locality) → member g l ≡ true → l .0 < s .addresses)
+      → ((l : Locality) → member g l ≡ true → mayPut (rowIn s a k) l ≡ true)
+      → ((l : Locality) → member g l ≡ true → nodeAt s l .stored < 16)
+      → Reduces s a k
+      (addedAll (withHost s a k (movedTo (processIn s a k) q)) g (marked a (tupleOf (templateIn s a k))))
 
 -- l :: P | nil ≡ l :: P, the law (ABS), from left to right: a process that ends, whose slot is freed
 pub data Ends (s : Net) (a : Locality) (k : ℕ) : Net → Type 0 where
