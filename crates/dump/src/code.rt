@@ -8,6 +8,7 @@ use net::instruction::Action;
 use net::instruction::Instruction;
 use net::instruction::Pattern;
 use net::instruction::Target;
+use net::locality::Group;
 use net::locality::Place;
 
 fn put_pair(out: &mut [u8], at: usize, first: u8, second: u8) -> usize {
@@ -44,6 +45,13 @@ fn put_aimed(
     put_places(out, aimed, first, second, 0)
 }
 
+// An out to a set.
+fn put_spread(out: &mut [u8], at: usize, group: Group, next: Place, none: Place) -> usize {
+    let named = put(out, at, 7);
+    let aimed = put_two(out, named, group.0);
+    put_places(out, aimed, next, none, 0)
+}
+
 // An action with no target.
 fn put_plain(
     out: &mut [u8],
@@ -68,6 +76,7 @@ fn put_action(out: &mut [u8], at: usize, action: Action) -> usize {
         Action::Eval(t, sent, p) => put_aimed(out, at, 4, t, sent, p),
         Action::New(v, p) => put_plain(out, at, 5, p, none, v),
         Action::Fork(p, q) => put_plain(out, at, 6, p, q, 0),
+        Action::OutAll(g, p) => put_spread(out, at, g, p, none),
     }
 }
 

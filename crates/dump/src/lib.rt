@@ -19,8 +19,9 @@
 //       4 fields, 5 bytes each: kind 1 (1 reading, 2 address), value 4
 //       mark     1
 //   512 instructions, 29 bytes each:
-//     action     1  0 to 6 as in document 01
-//     target     2  kind (0 written, 1 self, 2 variable; 0 where there is none), value
+//     action     1  0 to 6 as in document 01, 7 as in document 02, slip 11
+//     target     2  kind (0 written, 1 self, 2 variable; 0 where there is none), value; action 7: its set, the
+//                   number of its 16 bits
 //     places     4  2 each: the next place and 0; eval: sent, next; fork: first, second; stop: 0, 0
 //     variable   1  that of a new, else 0
 //     count      1

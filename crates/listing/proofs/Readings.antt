@@ -35,8 +35,9 @@ use Rattle.plans.specs.Additions.{itemOf, tupleOf}
 use Rattle.step.specs.Types.{Locality, Place, Value, Variable, Item, Field, Tuple, Row, Process, Slot, Node, Pattern, Instruction, Net}
 use Rattle.step.specs.Types.{Evaluated, Found, Answer, Request}
 use Rattle.step.specs.declared.machine.Picked.{Picked}
-use Rattle.step.specs.Pick.{unchanged, performed, withHost, stopped, added, out, taken, inFound, input, readFound, read, startedIn, eval}
+use Rattle.step.specs.Pick.{unchanged, performed, withHost, stopped, added, out, outAll, taken, inFound, input, readFound, read, startedIn, eval}
 use Rattle.step.specs.Pick.{fork, opened, unused, createdAt, created, create, carriedOut, acting, processStep, slotStep, stepOf, pickOf}
+use Rattle.step.proofs.EachMember.{all-kept}
 use Rattle.run.specs.Run.{ranFrom, answered}
 
 -- ---- a place of a list, once one is set
@@ -235,6 +236,10 @@ module _ (s : Net) (ok : NetOk s) where
   unfolding withHost
   with-host a k p h = with-node a _ (with-process _ (ok .nodes a) k p h)
 
+  added-ok : (l : Locality) (t : Tuple) → TupleOk t → NetOk (added s l t)
+  unfolding added
+  added-ok l t h = with-node l _ (with-tuple _ (ok .nodes l) t h)
+
   opened-ok : NetOk (opened s)
   unfolding opened withCounts nodeAt
   opened-ok = record { nodes = ok .nodes; code = ok .code }
@@ -279,18 +284,22 @@ module _ (s : Net) (ok : NetOk s) where
     start-after l copy q g Slot.Full = stays _
 
     done : (e : Evaluated) → WantsOk (e .wants) → (r : Request) → After (carriedOut s a k p e r)
-    unfolding carriedOut stopped out added input read eval fork create
+    unfolding carriedOut stopped out outAll input read eval fork create
     done e g Request.Lack = stays _
     done e g Request.Stop = record { net-ok = with-host s ok a k _ free-process }
     done e g (Request.Out l q) =
-        let t = with-host s ok a k _ (moved p h q) in
-        chosen After _ _ _ (λ _. does _ (with-node _ t l _ (with-tuple _ (t .nodes l) _ (marked-ok a _ (tuple-ok e g)))))
-        (λ _. stays _)
+        chosen After _ _ _
+        (λ _. does _ (added-ok _ (with-host s ok a k _ (moved p h q)) l _ (marked-ok a _ (tuple-ok e g)))) (λ _. stays _)
     done e g (Request.In l q) = in-after l q _ _ (matched p (nodeAt s l) e h (ok .nodes l))
     done e g (Request.Read l q) = read-after q _ _ (matched p (nodeAt s l) e h (ok .nodes l))
     done e g (Request.Eval l r q) = chosen After _ _ _ (λ _. start-after l _ q (sent p h a r) _) (λ _. stays _)
     done e g (Request.New v q) = chosen After _ _ _ (λ _. does _ (created-ok s ok a k p v q h)) (λ _. stays _)
     done e g (Request.Fork q r) = start-after a _ q (copied p h r) _
+    done e g (Request.OutAll members q) =
+        chosen After _ _ _
+        (λ _. does _
+        (all-kept members _ NetOk _ (with-host s ok a k _ (moved p h q))
+        (λ s′ l _ ok′. added-ok s′ ok′ l _ (marked-ok a _ (tuple-ok e g))))) (λ _. stays _)
 
   step-after : (a : Locality) (k : ℕ) → After (slotStep s a k)
   unfolding slotStep processStep acting evaluatedOf

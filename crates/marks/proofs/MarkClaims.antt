@@ -2,11 +2,14 @@
 -- the net as it was; what each does to the tuples is said in `Nodes.antt`.
 -- Assumes nothing.
 use Prim.Native.Nat.{ℕ, _<_}
-use mathlib.Core.Path.{_≡_, sym, ap, subst, _∙_}
+use mathlib.Core.Path.{_≡_, refl, sym, ap, subst, _∙_}
 use mathlib.Core.Logic.{_⊎_, inl, inr}
+use mathlib.Core.Bool.{Bool, true, false}
 use native.Mathlib.Omega.{arith}
 use lib.ListN.{length}
 use Rattle.net.specs.Records.{nodeAt, tupleAt}
+use Rattle.net.specs.declared.locality.Group.{Group}
+use Rattle.net.specs.Groups.{member}
 use Rattle.sound.proofs.NetFacts.{NetOk, net-sound}
 use Rattle.sound.proofs.NetChanges.{node-at}
 use Rattle.plans.specs.Answer.{numberOf}
@@ -15,14 +18,14 @@ use Rattle.plans.specs.Additions.{tupleOf}
 use Rattle.step.specs.Pick.{hostOf, slotOf, pickOf}
 use Rattle.rules.specs.Types.{Answer, Row}
 use Rattle.rules.specs.Rules.{processIn, instructionIn, templateIn, Stands}
-use Rattle.rules.specs.Rules.{Reduces, OUT, IN, READ, EVAL, NEW, FORK, Ends, NIL, StepIsPick, StopIsPick}
+use Rattle.rules.specs.Rules.{Reduces, OUT, IN, READ, EVAL, NEW, FORK, OUT-ALL, Ends, NIL, StepIsPick, StopIsPick}
 use Rattle.rules.specs.DemandOne.{Held, out-held, pickedProcess, pickedAction, OnlyWithRight}
 use Rattle.rules.proofs.DemandOne.{Left, was-performed, was-ended, as-it-was, is-performed, picked-left, onlyWithRight}
 use Rattle.rules.proofs.Rules.{stepIsPick, stopIsPick}
 use Rattle.marks.specs.Types.{Locality, Place, Process, Node, Target, Action, Net, Aim}
-use Rattle.marks.specs.MarkClaims.{valuesOf, PutsAt, by-out, Added, StandsAt, MarkIsTrue}
+use Rattle.marks.specs.MarkClaims.{valuesOf, PutsAt, by-out, by-out-all, Added, StandsAt, MarkIsTrue}
 use Rattle.marks.proofs.Nodes.{Stood, PutOr, stays, host-stood, hosts-stood, in-stood, created-stood}
-use Rattle.marks.proofs.Nodes.{out-added, out-or}
+use Rattle.marks.proofs.Nodes.{out-added, out-or, all-added, all-or, passed-stood}
 use Rattle.marks.proofs.Starts.{own-marks, comes-ok}
 
 -- ---- a net's arrays
@@ -45,24 +48,46 @@ same-target t u q r e = cc
 same-address : (l m : Locality) → Aim.At m ≡ Aim.At l → m ≡ l
 same-address l m e = cc
 
-module _ (s : Net) (a : Locality) (k : ℕ) (t : Target) (q : Place) (e : instructionIn s a k .action ≡ Action.Out t q) where
-  -- no other instruction is an out
-  no-other : {C : Type 0} (x : Action) → Stands s a k x → (x ≡ Action.Out t q → _≡_ {A = ℕ} 0 1) → C
-  no-other x h f = let z = f (sym (h .acts) ∙ e) in absurd (omega arith)
+same-group : (g h : Group) (q r : Place) → Action.OutAll h r ≡ Action.OutAll g q → h ≡ g
+same-group g h q r e = cc
 
-  out-step : NetOk s → (after : Net) → Reduces s a k after → OutStep s a k t after
-  out-step ok _ (OUT {t = u} {q = r} {l = l} h p d g room) =
-      let same = same-target t u q r (sym (h .acts) ∙ e) in
-      record {
-        l = l;
-        points = subst (λ (x : Target). targetOf a (processIn s a k) x ≡ Aim.At l) same (p .points);
-        adds = out-added s a k _ l _ (size s ok l (p .exists)) room (node-in s ok l (p .exists));
-      }
-  out-step ok _ (IN h p d g o) = no-other _ h (λ w. cc w)
-  out-step ok _ (READ h p d g o) = no-other _ h (λ w. cc w)
-  out-step ok _ (EVAL h p g within f) = no-other _ h (λ w. cc w)
-  out-step ok _ (NEW h g room) = no-other _ h (λ w. cc w)
-  out-step ok _ (FORK h f) = no-other _ h (λ w. cc w)
+module _ (s : Net) (a : Locality) (k : ℕ) where
+  -- no other action stands where y does
+  no-other :
+      {C : Type 0} (y : Action) → instructionIn s a k .action ≡ y → (x : Action) → Stands s a k x
+      → (x ≡ y → _≡_ {A = ℕ} 0 1) → C
+  no-other y e x h f = let z = f (sym (h .acts) ∙ e) in absurd (omega arith)
+
+  module _ (t : Target) (q : Place) (e : instructionIn s a k .action ≡ Action.Out t q) where
+    out-step : NetOk s → (after : Net) → Reduces s a k after → OutStep s a k t after
+    out-step ok _ (OUT {t = u} {q = r} {l = l} h p d g room) =
+        let same = same-target t u q r (sym (h .acts) ∙ e) in
+        record {
+          l = l;
+          points = subst (λ (x : Target). targetOf a (processIn s a k) x ≡ Aim.At l) same (p .points);
+          adds = out-added s a k _ l _ (size s ok l (p .exists)) room (node-in s ok l (p .exists));
+        }
+    out-step ok _ (IN h p d g o) = no-other _ e _ h (λ w. cc w)
+    out-step ok _ (READ h p d g o) = no-other _ e _ h (λ w. cc w)
+    out-step ok _ (EVAL h p g within f) = no-other _ e _ h (λ w. cc w)
+    out-step ok _ (NEW h g room) = no-other _ e _ h (λ w. cc w)
+    out-step ok _ (FORK h f) = no-other _ e _ h (λ w. cc w)
+    out-step ok _ (OUT-ALL h d used r room) = no-other _ e _ h (λ w. cc w)
+
+  -- the step of an out to a set, at a member
+  module _ (g : Group) (q : Place) (e : instructionIn s a k .action ≡ Action.OutAll g q) (l : Locality) (m : member g l ≡ true) where
+    all-step :
+        NetOk s → (after : Net) → Reduces s a k after
+        → Added (tupleOf (templateIn s a k)) a (nodeAt s l) (nodeAt after l)
+    all-step ok _ (OUT h p d r room) = no-other _ e _ h (λ w. cc w)
+    all-step ok _ (IN h p d r o) = no-other _ e _ h (λ w. cc w)
+    all-step ok _ (READ h p d r o) = no-other _ e _ h (λ w. cc w)
+    all-step ok _ (EVAL h p r within f) = no-other _ e _ h (λ w. cc w)
+    all-step ok _ (NEW h r room) = no-other _ e _ h (λ w. cc w)
+    all-step ok _ (FORK h f) = no-other _ e _ h (λ w. cc w)
+    all-step ok _ (OUT-ALL {g = f} {q = r} h d used held room) =
+        let in-it : member f l ≡ true = ap (λ (x : Group). member x l) (same-group g f q r (sym (h .acts) ∙ e)) ∙ m in
+        all-added s a k _ l _ (size s ok l (used l in-it)) (room l in-it) f in-it (ok .nodes-ok .size-is)
 
 -- the right that it has is one at its target
 held-points :
@@ -75,6 +100,10 @@ out-points :
     → (l : Locality) × (targetOf (hostOf b) (pickedProcess s b) t ≡ Aim.At l)
 unfolding OnlyWithRight
 out-points s b t q h e = held-points _ _ _ t q (subst (Held _ _ _) e (onlyWithRight s b h))
+
+by-member : {C : Type 0} (x : Bool) → (x ≡ true → C) → (x ≡ false → C) → C
+by-member true f g = f refl
+by-member false f g = g refl
 
 -- ---- what stands at c after the pick b: put by it, or there before
 record PutOrStood (s : Net) (b : ℕ) (c : Locality) (y : Node) : Type 0 where
@@ -111,12 +140,19 @@ module _ (s : Net) (ok : NetOk s) (b : ℕ) where
   unfolding pickedAction pickedProcess instructionIn processIn
   out-at t q h e = out-step s (hostOf b) (slotOf b) t q e ok (pickOf s b .net) (step h)
 
+  all-at :
+      (g : Group) (q : Place) → numberOf (pickOf s b .answer) ≡ 0 → pickedAction s b ≡ Action.OutAll g q → (l : Locality)
+      → member g l ≡ true → Added (tupleOf (templateIn s (hostOf b) (slotOf b))) (hostOf b) (nodeAt s l) (nodeAt (pickOf s b .net) l)
+  unfolding pickedAction pickedProcess instructionIn processIn
+  all-at g q h e l m = all-step s (hostOf b) (slotOf b) g q e l m ok (pickOf s b .net) (step h)
+
   added-at : (l : Locality) → PutsAt s b l → Added (valuesOf s b) (hostOf b) (nodeAt s l) (nodeAt (pickOf s b .net) l)
   unfolding valuesOf pickedProcess processIn instructionIn templateIn
   added-at l (by-out {t} {q} h e g) =
       let z = out-at t q h e in
       subst (λ (m : Locality). Added (valuesOf s b) (hostOf b) (nodeAt s m) (nodeAt (pickOf s b .net) m))
       (same-address l (z .l) (sym (z .points) ∙ g)) (z .adds)
+  added-at l (by-out-all {g} {q} h e m) = all-at g q h e l m
 
   performed-or :
       numberOf (pickOf s b .answer) ≡ 0 → (after : Net) → Reduces s (hostOf b) (slotOf b) after → (c : Locality)
@@ -130,6 +166,11 @@ module _ (s : Net) (ok : NetOk s) (b : ℕ) where
   performed-or z _ (EVAL h p g within f) c = stood s b c _ (hosts-stood s _ _ _ _ _ _ c)
   performed-or z _ (NEW h g room) c = stood s b c _ (created-stood s _ _ _ _ _ c)
   performed-or z _ (FORK h f) c = stood s b c _ (hosts-stood s _ _ _ _ _ _ c)
+  performed-or z _ (OUT-ALL {g = g} h d used r room) c =
+      by-member (member g c)
+      (λ m. put s b c _ c (by-out-all z (h .acts) m)
+      (all-or s _ _ _ c _ (size s ok c (used c m)) (room c m) g m (ok .nodes-ok .size-is)))
+      (λ m. stood s b c _ (passed-stood s _ _ _ g _ c (ok .nodes-ok .size-is) m))
 
   ended-or : (after : Net) → Ends s (hostOf b) (slotOf b) after → (c : Locality) → PutOrStood s b c (nodeAt after c)
   ended-or _ (NIL h) c = stood s b c _ (host-stood s _ _ _ c)

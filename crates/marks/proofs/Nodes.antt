@@ -1,19 +1,24 @@
--- The tuples of a net's nodes after each change that a step makes: a process replaced, a tuple put, a tuple taken, an
--- address opened.
+-- The tuples of a net's nodes after each change that a step makes: a process replaced, a tuple put, to one address or to each
+-- of a set, a tuple taken, an address opened.
 -- Assumes nothing.
 use Prim.Native.Nat.{ℕ, zero, suc, _+_, _-_, _<_, _≤_}
 use mathlib.Core.Path.{_≡_, refl, sym, ap, subst, _∙_}
 use mathlib.Core.Logic.{_⊎_, inl, inr}
+use mathlib.Core.Bool.{true, false}
 use mathlib.Core.List.{List, [], _∷_}
 use native.Mathlib.Omega.{arith}
 use lib.ListN.{length, getD, set, length-set}
 use lib.Seq.{getD-set-same, getD-set-other}
 use Rattle.net.specs.Records.{nodeAt, tupleAt, marked, zeroNode, withNode, withCounts, withProcess, withRows, withTuple}
 use Rattle.net.specs.Records.{withoutTuple, afterTaking}
-use Rattle.net.proofs.Laws.{split}
+use Rattle.net.specs.Choice.{choose}
+use Rattle.net.specs.declared.locality.Group.{Group}
+use Rattle.net.specs.Groups.{member}
+use Rattle.net.proofs.Laws.{choose-true, choose-false, split}
 use Rattle.net.proofs.Every.{chosen-lt}
 use Rattle.net.proofs.Past.{pastTuple}
-use Rattle.step.specs.Pick.{withHost, added, taken, opened, unused, createdAt, created}
+use Rattle.step.specs.Pick.{withHost, added, addedAll, taken, opened, unused, createdAt, created}
+use Rattle.step.proofs.Stores.{added-all-at}
 use Rattle.step.proofs.SoundChanges.{set-each}
 use Rattle.marks.specs.Types.{Locality, Place, Tuple, Process, Node, Net}
 use Rattle.marks.specs.MarkClaims.{Added, StandsAt}
@@ -127,6 +132,15 @@ pub record PutOr (s : Net) (l c : Locality) (y : Node) : Type 0 where
 stood-or : (s : Net) (l c : Locality) (y : Node) → Stood (nodeAt s c) y → PutOr s l c y
 stood-or s l c y h = record { each = λ i g. inr (h .each i g) }
 
+-- a process replaced, and then a tuple put at each member of a set
+all-at :
+    (s : Net) (a : Locality) (k : ℕ) (p : Process) (g : Group) (t : Tuple) (c : Locality) → length (s .nodes) ≡ 16
+    → nodeAt (addedAll (withHost s a k p) g t) c
+    ≡ choose (member g c) (withTuple (nodeAt (withHost s a k p) c) t) (nodeAt (withHost s a k p) c)
+unfolding withHost withNode
+all-at s a k p g t c nodes =
+    added-all-at (withHost s a k p) g t (length-set (s .nodes) (a .0) (withProcess (nodeAt s a) k p) ∙ nodes) c
+
 -- where the process p of a is replaced, and then the tuple put at l
 module _
     (s : Net) (a : Locality) (k : ℕ) (p : Process) (l : Locality) (t : Tuple)
@@ -150,10 +164,29 @@ module _
           ];
     }
 
+    -- or put at each member of a set, l among them
+    module _ (g : Group) (m : member g l ≡ true) (nodes : length (s .nodes) ≡ 16) where
+      receives :
+          nodeAt (addedAll (withHost s a k p) g (marked a t)) l ≡ withTuple (nodeAt (withHost s a k p) l) (marked a t)
+      receives = all-at s a k p g (marked a t) l nodes ∙ choose-true _ _ _ m
+
+      pub all-added : Added t a (nodeAt s l) (nodeAt (addedAll (withHost s a k p) g (marked a t)) l)
+      all-added = subst (Added t a (nodeAt s l)) (sym receives) there
+
+      pub all-or : PutOr s l l (nodeAt (addedAll (withHost s a k p) g (marked a t)) l)
+      all-or = subst (PutOr s l l) (sym receives) there-or
+
     pub out-or : (c : Locality) → PutOr s l c (nodeAt (added (withHost s a k p) l (marked a t)) c)
     unfolding added
     out-or c =
         node-at (PutOr s l) (withHost s a k p) l _ there-or c (stood-or s l c _ (host-stood s a k p c))
+
+-- at an address that is no member nothing is put
+pub passed-stood :
+    (s : Net) (a : Locality) (k : ℕ) (p : Process) (g : Group) (t : Tuple) (c : Locality) → length (s .nodes) ≡ 16
+    → member g c ≡ false → Stood (nodeAt s c) (nodeAt (addedAll (withHost s a k p) g t) c)
+passed-stood s a k p g t c nodes m =
+    subst (Stood (nodeAt s c)) (sym (all-at s a k p g t c nodes ∙ choose-false _ _ _ m)) (host-stood s a k p c)
 
 -- ---- a tuple taken
 after-taking : (x : Node) (i j : ℕ) → x .stored ≤ 16 → j < x .stored - 1 → StandsAt x (afterTaking x i j)

@@ -4,7 +4,10 @@
 use Prim.Native.Nat.{ℕ, _+_, _<_}
 use mathlib.Core.Path.{_≡_}
 use mathlib.Core.Logic.{_⊎_}
+use mathlib.Core.Bool.{true}
 use mathlib.Core.List.{List}
+use Rattle.net.specs.declared.locality.Group.{Group}
+use Rattle.net.specs.Groups.{member}
 use Rattle.net.specs.Records.{nodeAt, tupleAt, instructionAt}
 use Rattle.matching.specs.Matching.{evaluatedOf}
 use Rattle.image.specs.Image.{openedOf}
@@ -35,13 +38,19 @@ unfoldable pub valuesOf : Net → ℕ → Tuple
 valuesOf s b =
     tupleOf (evaluatedOf (hostOf b) (pickedProcess s b) (instructionAt (s .code) (pickedProcess s b .at)))
 
--- the pick b puts a tuple at l: it is answered 0, its instruction is an out, and l is the out's target
+-- the pick b puts a tuple at l: it is answered 0, its instruction is an out, and l is the out's target or a member of its set
 pub data PutsAt (s : Net) (b : ℕ) (l : Locality) : Type 0 where
   by-out :
       {t : Target} {q : Place}
       → numberOf (pickOf s b .answer) ≡ 0
       → pickedAction s b ≡ Action.Out t q
       → targetOf (hostOf b) (pickedProcess s b) t ≡ Aim.At l
+      → PutsAt s b l
+  by-out-all :
+      {g : Group} {q : Place}
+      → numberOf (pickOf s b .answer) ≡ 0
+      → pickedAction s b ≡ Action.OutAll g q
+      → member g l ≡ true
       → PutsAt s b l
 
 -- from the node x to the node y one tuple is added, as the newest, with the fields of t and the mark a; the older ones
@@ -68,13 +77,14 @@ pub record MarkIsTrue : Type 0 where
       → (a : Locality) (i : ℕ)
       → i < nodeAt s a .stored
       → tupleAt (nodeAt s a) i .mark ≡ a
-  -- an out answered 0, in any net, has a target
+  -- an out to a target, answered 0 in any net, has one
   pub aimed :
       (s : Net) (b : ℕ) (t : Target) (q : Place)
       → numberOf (pickOf s b .answer) ≡ 0
       → pickedAction s b ≡ Action.Out t q
       → (l : Locality) × (targetOf (hostOf b) (pickedProcess s b) t ≡ Aim.At l)
-  -- at its target one tuple is added, as the newest, and bears the address where the out was performed: the pick's
+  -- at its target, or at each member of its set, one tuple is added, as the newest, and bears the address where the out was
+  -- performed: the pick's
   pub added :
       (s : Net) (b : ℕ) (l : Locality)
       → Comes s

@@ -8,18 +8,21 @@ use lib.Dec.{eqb}
 use borrow.Author.Tests.{lt-ltb}
 use Rattle.net.specs.Choice.{choose}
 use Rattle.net.specs.Records.{nodeAt, withNode}
+use Rattle.net.specs.Groups.{member}
 use Rattle.net.proofs.Laws.{choose-true, both-i}
 use Rattle.plans.specs.Request.{targets, isNew}
-use Rattle.step.specs.Pick.{hostOf, slotOf, spareOf, unchanged, performed, withHost, stopped, added, out, taken, inFound, input}
+use Rattle.step.specs.Pick.{hostOf, slotOf, spareOf, unchanged, performed, withHost, stopped, added, out, roomAtAll, addedAll, outAll}
+use Rattle.step.specs.Pick.{taken, inFound, input}
 use Rattle.step.specs.Pick.{readFound, read, startedIn, eval, fork, unused, createdAt, created, create, carriedOut, acting}
 use Rattle.step.specs.Pick.{processStep, slotStep, stepOf}
-use Rattle.step.specs.Types.{Place, Tuple, Process, Node, Slot, Evaluated, Found, Answer}
+use Rattle.step.proofs.EachMember.{room-same, all-through}
+use Rattle.step.specs.Types.{Place, Group, Tuple, Process, Node, Slot, Evaluated, Found, Answer}
 use Rattle.step.specs.declared.machine.Picked.{Picked}
 use Rattle.tenant.proofs.Fence.{choose-both}
 use Rattle.order.specs.Types.{Locality, Net, Request}
 use Rattle.order.specs.OrderRule.{processOf, meets, asks, opens}
 use Rattle.order.proofs.Edits.{Edit, done, openings, format-kept, code-kept, count-is, node-kept, grow-through, put-through}
-use Rattle.order.proofs.Concerns.{Concern, is-host, Covered, covered, first-among}
+use Rattle.order.proofs.Concerns.{Concern, is-host, Covered, covered, first-among, member-in}
 
 -- an answer and its net, edited
 unfoldable pub through : {A : Locality → Type 0} → Edit A → Picked → Picked
@@ -64,6 +67,14 @@ module _ {A B : Locality → Type 0} (away : (l : Locality) → A l → B l → 
   added-through : (s : Net) (l : Locality) (t : Tuple) → B l → done e (added s l t) ≡ added (done e s) l t
   unfolding added
   added-through s l t h = simp (same-put, same-node)
+
+  -- at each member of a set of addresses in B
+  module _ (g : Group) (each : (l : Locality) → member g l ≡ true → B l) where
+    room-through : (s : Net) → roomAtAll (done e s) g ≡ roomAtAll s g
+    room-through s = room-same g (done e s) s (λ l m. ap (λ (x : Node). x .stored) (same-node s l (each l m)))
+
+    added-all-through : (s : Net) (t : Tuple) → done e (addedAll s g t) ≡ addedAll (done e s) g t
+    added-all-through s t = all-through g t (done e) (λ s′ l m. added-through s′ l t (each l m)) s
 
   taken-through : (s : Net) (l : Locality) (i : ℕ) → B l → done e (taken s l i) ≡ taken (done e s) l i
   unfolding taken
@@ -113,6 +124,12 @@ module _ {A B : Locality → Type 0} (away : (l : Locality) → A l → B l → 
     unfolding stopped through
     stopped-through = simp passing
 
+    all-passing :
+        (g : Group) (p : Process) (q : Place) (t : Tuple) → ((l : Locality) → member g l ≡ true → B l)
+        → through e (outAll s a k p g q t) ≡ outAll (done e s) a k p g q t
+    unfolding outAll
+    all-passing g p q t each = simp (passing, room-through g each, added-all-through g each)
+
     done-through :
         (p : Process) (t : Evaluated) (r : Request) → Covered B s r → (isNew r ≡ true → openings e ≡ 0)
         → through e (carriedOut s a k p t r) ≡ carriedOut (done e s) a k p t r
@@ -126,6 +143,7 @@ module _ {A B : Locality → Type 0} (away : (l : Locality) → A l → B l → 
     done-through p t (Request.New v q) h n =
         let g : B (unused s) = h .next refl in let m : openings e ≡ 0 = n refl in simp passing
     done-through p t (Request.Fork q r) h n = simp (passing, started-through)
+    done-through p t (Request.OutAll g q) h n = all-passing g p q _ (λ l m. h .each l (member-in l g m))
 
     acting-through :
         (p : Process) (t : Evaluated) (r : Request) → Covered B s r → (isNew r ≡ true → openings e ≡ 0)

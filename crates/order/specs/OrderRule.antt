@@ -27,7 +27,8 @@ meets s b = both (eqb (spareOf b) 0) (processOf s b .busy)
 unfoldable pub asks : Net → ℕ → Request
 asks s b = requestOf (hostOf b) (processOf s b) (instructionAt (s .code) (processOf s b .at))
 
--- "its target, where it has one": none where it meets no instruction or lacks a variable, nor of a stop, a fork and a new
+-- "its target, where it has one": none where it meets no instruction or lacks a variable, nor of a stop, a fork and a new; of an
+-- out to a set "all members" (slip 11)
 unfoldable pub targetsOf : Net → ℕ → List Locality
 targetsOf s b = choose (meets s b) (targets (asks s b)) []
 

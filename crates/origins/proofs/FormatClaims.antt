@@ -4,9 +4,10 @@ use mathlib.Core.Path.{_≡_, refl, _∙_}
 use mathlib.Core.List.{List, [], _∷_}
 use Rattle.net.specs.Records.{withNode, withCounts}
 use Rattle.net.proofs.Every.{chosen}
-use Rattle.step.specs.Pick.{unchanged, performed, withHost, stopped, added, out, taken, inFound, input, readFound, read}
+use Rattle.step.specs.Pick.{unchanged, performed, withHost, stopped, added, out, outAll, taken, inFound, input, readFound, read}
 use Rattle.step.specs.Pick.{startedIn, eval, fork, opened, createdAt, created, create, carriedOut, acting, processStep}
 use Rattle.step.specs.Pick.{slotStep, stepOf, pickOf}
+use Rattle.step.proofs.EachMember.{all-kept}
 use Rattle.step.specs.Types.{Place, Slot, Evaluated, Found, Request, Answer}
 use Rattle.step.specs.declared.machine.Picked.{Picked}
 use Rattle.run.specs.Run.{answered, ranFrom}
@@ -42,7 +43,7 @@ module _ (s : Net) where
     started-stays l p copy q Slot.Full = refused-stays _
 
     done-stays : (p : Process) (e : Evaluated) (r : Request) → Stays s (carriedOut s a k p e r)
-    unfolding carriedOut stopped out added input read eval create created createdAt opened fork withHost withNode withCounts
+    unfolding carriedOut stopped out outAll added input read eval create created createdAt opened fork withHost withNode withCounts
     done-stays p e Request.Lack = refused-stays _
     done-stays p e Request.Stop = record { same = refl }
     done-stays p e (Request.Out l q) = chosen (Stays s) _ _ _ (λ _. performed-stays _ refl) (λ _. refused-stays _)
@@ -51,6 +52,9 @@ module _ (s : Net) where
     done-stays p e (Request.Eval l sent q) = chosen (Stays s) _ _ _ (λ _. started-stays l p _ q _) (λ _. refused-stays _)
     done-stays p e (Request.New v q) = chosen (Stays s) _ _ _ (λ _. performed-stays _ refl) (λ _. refused-stays _)
     done-stays p e (Request.Fork q r) = started-stays a p _ q _
+    done-stays p e (Request.OutAll g q) =
+        chosen (Stays s) _ _ _ (λ _. performed-stays _ (all-kept g _ (λ t. t .format ≡ s .format) _ refl (λ t l _ h. h)))
+        (λ _. refused-stays _)
 
   pick-stays : (b : ℕ) → Stays s (pickOf s b)
   unfolding pickOf stepOf slotStep processStep acting

@@ -60,6 +60,7 @@ module _ (a : Locality) (p : Process) where
   asked-same e (Action.Eval t sent q) = ap (λ (m : Aim). at m (λ l. Request.Eval l sent q)) (target-same t)
   asked-same e (Action.New v q) = refl
   asked-same e (Action.Fork q r) = refl
+  asked-same e (Action.OutAll g q) = refl
 
   pub request-same : (c : Instruction) → requestOf a (forgetProcess p) c ≡ requestOf a p c
   unfolding requestOf

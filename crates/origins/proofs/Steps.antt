@@ -8,12 +8,14 @@ use lib.Dec.{eqb}
 use borrow.Author.Tests.{ltb-true}
 use Rattle.net.specs.Choice.{choose}
 use Rattle.net.specs.Records.{nodeAt, processAt}
-use Rattle.step.specs.Pick.{hostOf, slotOf, spareOf, unchanged, withHost, stopped, added, out, taken, inFound, input}
+use Rattle.step.specs.Pick.{hostOf, slotOf, spareOf, unchanged, withHost, stopped, added, out, roomAtAll, addedAll, outAll, taken}
+use Rattle.step.specs.Pick.{inFound, input}
 use Rattle.step.specs.Pick.{readFound, read, startedIn, eval, fork, unused, createdAt, created, create, carriedOut, acting}
 use Rattle.step.specs.Pick.{processStep, slotStep, stepOf}
-use Rattle.step.specs.Types.{Place, Tuple, Slot, Evaluated, Found, Request, Answer}
+use Rattle.step.proofs.EachMember.{room-same, all-through}
+use Rattle.step.specs.Types.{Place, Group, Tuple, Slot, Evaluated, Found, Request, Answer}
 use Rattle.step.specs.declared.machine.Picked.{Picked}
-use Rattle.origins.specs.Types.{Locality, Process, Net}
+use Rattle.origins.specs.Types.{Locality, Process, Node, Net}
 use Rattle.origins.proofs.Forgetting.{forgetProcess, forget, process-twice, forget-twice, forget-busy}
 use Rattle.origins.proofs.Forgetting.{forget-place, forget-moved, forget-variable, forget-copied, forget-sent}
 use Rattle.origins.proofs.Forgetting.{forget-free, forget-row-for, forget-stored, process-at, forget-slot}
@@ -32,6 +34,12 @@ host-forget s a k p = simp (forget-with-node, forget-with-process, node-at)
 added-forget : (s : Net) (l : Locality) (t : Tuple) → forget (added s l t) ≡ added (forget s) l t
 unfolding added
 added-forget s l t = simp (forget-with-node, forget-with-tuple, node-at)
+
+room-forget : (s : Net) (g : Group) → roomAtAll (forget s) g ≡ roomAtAll s g
+room-forget s g = room-same g (forget s) s (λ l _. ap (λ (x : Node). x .stored) (node-at s l) ∙ forget-stored (nodeAt s l))
+
+added-all-forget : (s : Net) (g : Group) (t : Tuple) → forget (addedAll s g t) ≡ addedAll (forget s) g t
+added-all-forget s g t = all-through g t forget (λ s′ l _. added-forget s′ l t) s
 
 taken-forget : (s : Net) (l : Locality) (i : ℕ) → forget (taken s l i) ≡ taken (forget s) l i
 unfolding taken
@@ -75,6 +83,8 @@ ruleset inward = (
   seen-performed,
   host-forget,
   added-forget,
+  room-forget,
+  added-all-forget,
   taken-forget,
   created-forget,
   created-twice,
@@ -133,7 +143,7 @@ module _ (s : Net) (a : Locality) (k : ℕ) where
 module _ (s : Net) (one : OneRow s) (a : Locality) (here : a .0 < 16) (k : ℕ) where
   module _ (p : Process) (low : p .origin .0 < 16) (e : Evaluated) where
     done-forget : (r : Request) → seen (carriedOut (forget s) a k (forgetProcess p) e r) ≡ seen (carriedOut s a k p e r)
-    unfolding carriedOut out input read eval create fork
+    unfolding carriedOut out outAll input read eval create fork
     done-forget Request.Lack = simp inward
     done-forget Request.Stop = stopped-forget s a k
     done-forget (Request.Out l q) = simp inward
@@ -142,6 +152,7 @@ module _ (s : Net) (one : OneRow s) (a : Locality) (here : a .0 < 16) (k : ℕ) 
     done-forget (Request.Eval l sent q) = simp (inward, started-forget)
     done-forget (Request.New v q) = simp inward
     done-forget (Request.Fork q r) = simp (inward, started-forget)
+    done-forget (Request.OutAll g q) = simp inward
 
     acting-forget : (r : Request) → seen (acting (forget s) a k (forgetProcess p) e r) ≡ seen (acting s a k p e r)
     unfolding acting

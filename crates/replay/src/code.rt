@@ -9,6 +9,7 @@ use net::instruction::Instruction;
 use net::instruction::Pattern;
 use net::instruction::Target;
 use net::instruction::TemplateField;
+use net::locality::Group;
 use net::locality::Locality;
 use net::locality::Place;
 
@@ -25,6 +26,7 @@ fn target_at(s: &[u8], at: usize) -> Target {
 fn action_at(s: &[u8], at: usize) -> Action {
     let kind = byte_at(s, at);
     let target = target_at(s, past(at, 1));
+    let group = Group(two_at(s, past(at, 1)));
     let first = Place(two_at(s, past(at, 3)));
     let second = Place(two_at(s, past(at, 5)));
     let variable = byte_at(s, past(at, 7));
@@ -35,7 +37,8 @@ fn action_at(s: &[u8], at: usize) -> Action {
         3 => Action::Read(target, first),
         4 => Action::Eval(target, first, second),
         5 => Action::New(variable, first),
-        _ => Action::Fork(first, second),
+        6 => Action::Fork(first, second),
+        _ => Action::OutAll(group, first),
     }
 }
 

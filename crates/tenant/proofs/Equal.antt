@@ -174,11 +174,13 @@ module _ (n k : ℕ) (c : Instruction) where
   acting-templated (suc (suc (suc zero))) (t, _, (b, ok, (p, _, e))) = templated-with b c _ e (spoken-templated _ n b ok)
   acting-templated (suc (suc (suc (suc zero)))) a = templated-with zeroInstruction c _ (a .2 .2 .2) zero-templated
   acting-templated (suc (suc (suc (suc (suc zero))))) a = templated-with zeroInstruction c _ (a .2 .2) zero-templated
-  acting-templated (suc (suc (suc (suc (suc (suc v)))))) a = templated-with zeroInstruction c _ (a .2 .2) zero-templated
+  acting-templated (suc (suc (suc (suc (suc (suc zero)))))) a = templated-with zeroInstruction c _ (a .2 .2) zero-templated
+  acting-templated (suc (suc (suc (suc (suc (suc (suc v))))))) (g, _, (b, ok, (p, _, e))) =
+      templated-with b c _ e (spoken-templated _ n b ok)
 
-  templated : InstructionOk n k c → Templated c
+  templated : (f : ℕ) → InstructionOk f n k c → Templated c
   unfolding InstructionOk
-  templated a = acting-templated (a .0) (a .2)
+  templated f a = acting-templated (a .0) (a .2)
 
 instruction-same : (c c′ : Instruction) → Templated c → Templated c′ → SameInstruction c c′ → c ≡ c′
 unfolding patternAt
@@ -194,7 +196,7 @@ module _ (s t : Net) (ok : NetOk s) (ok′ : NetOk t) where
   code-same same =
       filled-same pastInstruction 512 (s .length) (t .length) (s .code) (t .code) (same .length) (ok .code-ok)
       (ok′ .code-ok)
-      (λ p h a b. instruction-same _ _ (templated _ _ _ a) (templated _ _ _ b) (same .instructions (placeOf p) h))
+      (λ p h a b. instruction-same _ _ (templated _ _ _ _ a) (templated _ _ _ _ b) (same .instructions (placeOf p) h))
 
   pub nodes-same :
       (tenant : Locality → Bool) → s .format ≡ t .format → s .addresses ≡ t .addresses

@@ -6,14 +6,18 @@ use mathlib.Core.Path.{_≡_, refl, ap, _∙_}
 use mathlib.Core.Bool.{Bool, true, false}
 use Rattle.net.specs.Choice.{choose}
 use Rattle.net.specs.Records.{nodeAt, rightsAt, rowFor, noRights}
-use Rattle.keeping.specs.Keeping.{mayTake, mayRead, mayPut, maySend, mayCreate}
+use Rattle.net.specs.declared.locality.Group.{Group}
+use Rattle.net.specs.Groups.{member}
+use Rattle.net.proofs.GroupLaws.{members-at}
+use Rattle.keeping.specs.Keeping.{mayTake, mayRead, mayPut, mayPutAll, maySend, mayCreate}
 use Rattle.net.proofs.Every.{chosen}
 use Rattle.plans.specs.Request.{granted}
-use Rattle.step.specs.Pick.{hostOf, unchanged, performed, withHost, stopped, added, out, taken, inFound, input}
+use Rattle.step.specs.Pick.{hostOf, unchanged, performed, withHost, stopped, added, out, roomAtAll, addedAll, outAll, taken, inFound, input}
 use Rattle.step.specs.Pick.{readFound, read, startedIn, eval, fork, unused, createdAt, created, create, carriedOut, acting}
 use Rattle.step.specs.Pick.{processStep, slotStep, stepOf}
+use Rattle.step.proofs.EachMember.{room-same, all-kept, all-through}
 use Rattle.tenant.specs.Types.{Locality, Place, Tuple, Process, Slot, Net, Evaluated, Found, Request, Answer}
-use Rattle.tenant.specs.Types.{Rights, Picked}
+use Rattle.tenant.specs.Types.{Rights, Node, Picked}
 use Rattle.tenant.proofs.View.{view, view-format, view-addresses, view-code, view-node, view-out, view-in, view-opened}
 use Rattle.tenant.proofs.View.{seen, seen-choose, seen-unchanged, seen-performed}
 use Rattle.tenant.proofs.Fence.{Fence, tested, never, choose-both, for-fenced, new-outside}
@@ -40,6 +44,14 @@ module _ (tenant : Locality → Bool) where
       → view tenant (created s a k p v q) ≡ created (view tenant s) a k p v q
   unfolding created createdAt unused
   created-out s a k p v q h g = simp (view-out, view-node, view-opened, view-format, view-addresses)
+
+  -- to each member of a set of outside addresses
+  module _ (g : Group) (outside : (l : Locality) → member g l ≡ true → tenant l ≡ false) where
+    room-out : (s : Net) → roomAtAll (view tenant s) g ≡ roomAtAll s g
+    room-out s = room-same g (view tenant s) s (λ l m. ap (λ (x : Node). x .stored) (view-node tenant s l (outside l m)))
+
+    added-all-out : (s : Net) (t : Tuple) → view tenant (addedAll s g t) ≡ addedAll (view tenant s) g t
+    added-all-out s t = all-through g t (view tenant) (λ s′ l m. added-out s′ l t (outside l m)) s
 
   ruleset outward = (
     seen-choose,
@@ -92,10 +104,16 @@ module _ (tenant : Locality → Bool) where
     unfolding stopped seen
     stopped-out = simp outward
 
+    all-out :
+        (g : Group) (p : Process) (q : Place) (t : Tuple) → ((l : Locality) → member g l ≡ true → tenant l ≡ false)
+        → seen tenant (outAll s a k p g q t) ≡ outAll (view tenant s) a k p g q t
+    unfolding outAll
+    all-out g p q t outside = simp (outward, room-out g outside, added-all-out g outside)
+
     done-out :
         (p : Process) (e : Evaluated) (r : Request) → granted (rowFor (nodeAt s a) p) r ≡ true
         → seen tenant (carriedOut s a k p e r) ≡ carriedOut (view tenant s) a k p e r
-    unfolding carriedOut granted out input read eval create fork mayTake mayRead mayPut maySend noRights
+    unfolding carriedOut granted out input read eval create fork mayTake mayRead mayPut mayPutAll maySend noRights
     done-out p e Request.Lack h = simp outward
     done-out p e Request.Stop h = stopped-out
     done-out p e (Request.Out l q) h =
@@ -108,6 +126,8 @@ module _ (tenant : Locality → Bool) where
         let t : tenant l ≡ false = target-out p l (λ x. x .send) refl h in simp (outward, started-out)
     done-out p e (Request.New v q) h = let t = new-outside tenant s f in simp outward
     done-out p e (Request.Fork q r) h = simp (outward, started-out)
+    done-out p e (Request.OutAll g q) h =
+        all-out g p q _ (λ l m. target-out p l (λ x. x .put) refl (members-at g _ h l m))
 
     acting-out :
         (p : Process) (e : Evaluated) (r : Request)
@@ -150,6 +170,13 @@ module _ (tenant : Locality → Bool) where
   unfolding performed
   unseen-performed s t e = record { same = e }
 
+  -- to each member of a set of the tenant's addresses
+  added-all-in :
+      (s : Net) (g : Group) (t : Tuple) → ((l : Locality) → member g l ≡ true → tenant l ≡ true)
+      → view tenant (addedAll s g t) ≡ view tenant s
+  added-all-in s g t inside =
+      all-kept g t (λ s′. view tenant s′ ≡ view tenant s) s refl (λ s′ l m e. added-in s′ l t (inside l m) ∙ e)
+
   ruleset inward = (host-in, added-in, taken-in)
 
   module _ (s : Net) (f : Fence tenant s) (a : Locality) (k : ℕ) (o : tenant a ≡ true) where
@@ -175,7 +202,7 @@ module _ (tenant : Locality → Bool) where
 
     done-in :
         (p : Process) (e : Evaluated) (r : Request) → granted (rowFor (nodeAt s a) p) r ≡ true → Unseen s (carriedOut s a k p e r)
-    unfolding carriedOut granted stopped out input read eval create fork mayTake mayRead mayPut maySend mayCreate
+    unfolding carriedOut granted stopped out outAll input read eval create fork mayTake mayRead mayPut mayPutAll maySend mayCreate
     done-in p e Request.Lack h = unseen-unchanged s _
     done-in p e Request.Stop h = record { same = host-in s a k _ o }
     done-in p e (Request.Out l q) h =
@@ -189,6 +216,10 @@ module _ (tenant : Locality → Bool) where
         (λ _. unseen-unchanged s _)
     done-in p e (Request.New v q) h = never _ h (for-fenced tenant s a p f .no-creation o)
     done-in p e (Request.Fork q r) h = started-in a p _ q _ o
+    done-in p e (Request.OutAll g q) h =
+        let inside : (l : Locality) → member g l ≡ true → tenant l ≡ true =
+        λ l m. target-in l _ (members-at g _ h l m) (for-fenced tenant s a p f .no-put l o) in
+        chosen (Unseen s) _ _ _ (λ _. unseen-performed s _ (added-all-in _ g _ inside ∙ host-in s a k _ o)) (λ _. unseen-unchanged s _)
 
   step-unseen : (s : Net) (b : ℕ) → Fence tenant s → tenant (hostOf b) ≡ true → Unseen s (stepOf s b)
   unfolding stepOf slotStep processStep acting

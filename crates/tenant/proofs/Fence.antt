@@ -15,10 +15,11 @@ use Rattle.keeping.specs.Keeping.{mayCreate}
 use Rattle.net.proofs.Every.{chosen}
 use Rattle.net.proofs.Past.{pastRow}
 use Rattle.plans.specs.Request.{granted}
-use Rattle.step.specs.Pick.{unchanged, performed, withHost, stopped, added, out, taken, inFound, input}
+use Rattle.step.specs.Pick.{unchanged, performed, withHost, stopped, added, out, outAll, taken, inFound, input}
 use Rattle.plans.specs.Additions.{gaining, ownRow, openedRows, creatorRows}
 use Rattle.step.specs.Pick.{readFound, read, startedIn, eval, fork, opened, unused, createdAt, created, create, carriedOut, acting}
 use Rattle.step.specs.Pick.{processStep, slotStep, stepOf}
+use Rattle.step.proofs.EachMember.{all-kept}
 use Rattle.tenant.specs.Types.{Locality, Place, Tuple, Rights, Row, Process, Node, Slot, Net, Evaluated, Found, Request}
 use Rattle.tenant.specs.Types.{Answer, Picked}
 
@@ -227,7 +228,7 @@ module _ (tenant : Locality → Bool) where
 
     done-kept :
         (p : Process) (e : Evaluated) (r : Request) → granted (rowFor (nodeAt s a) p) r ≡ true → Kept (carriedOut s a k p e r)
-    unfolding carriedOut granted stopped out input read eval create fork mayCreate
+    unfolding carriedOut granted stopped out outAll input read eval create fork mayCreate
     done-kept p e Request.Lack h = same-kept s _ f
     done-kept p e Request.Stop h = record { fenced = with-host s a k _ f }
     done-kept p e (Request.Out l q) h =
@@ -241,6 +242,10 @@ module _ (tenant : Locality → Bool) where
         (λ _. performed-kept _ (created-kept s a k p v q f
         (tested (tenant a) (λ t. never _ h (for-fenced s a p f .no-creation t)) (λ t. t)))) (λ _. same-kept s _ f)
     done-kept p e (Request.Fork q r) h = started-kept a p _ q _
+    done-kept p e (Request.OutAll g q) h =
+        chosen Kept _ _ _
+        (λ _. performed-kept _
+        (all-kept g _ (Fence tenant) _ (with-host s a k _ f) (λ s′ l _ f′. added-kept s′ l _ f′))) (λ _. same-kept s _ f)
 
   step-kept : (s : Net) (b : ℕ) → Fence tenant s → Kept (stepOf s b)
   unfolding stepOf slotStep processStep acting

@@ -12,7 +12,8 @@ use Rattle.net.specs.Records.{zeroInstruction, withAction}
 use Rattle.net.proofs.ReadingLaws.{never}
 use Rattle.sound.proofs.CodeFacts.{Acts}
 use Rattle.sound.proofs.Drafts.{stop-ok, Communicates, out-ok, in-ok, read-ok}
-use Rattle.fresh.proofs.FitLaws.{action-fits, zero-instruction-fits}
+use Rattle.fresh.specs.Fresh.{actionFits}
+use Rattle.fresh.proofs.FitLaws.{zero-instruction-fits}
 use Rattle.terms.specs.Terms.{Process, Action, nil, name, fork, act, out, input, read, eval, newloc}
 use Rattle.terms.specs.Numbering.{size, sizeIn, Start, here, called, startOf, instructionOf, forkOf, codeOf, codeIn, uses, usesIn}
 use Rattle.texts.specs.Types.{Place, Instruction}
@@ -79,16 +80,16 @@ module _ (n k : ℕ) (place : Start → Place) (Right : ℕ → Type 0)
   instruction-good :
       (m : ℕ) (a : Action) (q : Start) → suc m + sizeIn a ≤ k → FitIn n a → UsesIn a → place q .0 < k
       → InstructionFresh n k (instructionOf place m a q)
-  unfolding instructionOf sizeIn FitIn usesIn Acts withAction zeroInstruction Communicates
-  instruction-good m (out c t) q h f u l = (out-ok n k t (place q) c (f .1) l (f .0 .sound _), action-fits c _ (f .0 .fits))
-  instruction-good m (input c t) q h f u l = (in-ok n k t (place q) c (f .1) l (f .0 .sound _), action-fits c _ (f .0 .fits))
-  instruction-good m (read c t) q h f u l = (read-ok n k t (place q) c (f .1) l (f .0 .sound _), action-fits c _ (f .0 .fits))
-  instruction-good m (eval p t) q h f u l = ((f .1, start-below (suc m) p h u, l, refl), bare-fits _)
-  instruction-good m (newloc v) q h f u l = ((f, l, refl), bare-fits _)
+  unfolding instructionOf sizeIn FitIn usesIn Acts withAction zeroInstruction Communicates actionFits
+  instruction-good m (out c t) q h f u l = (out-ok 1 n k t (place q) c (f .1) l (f .0 .sound _), f .0 .fits _ refl)
+  instruction-good m (input c t) q h f u l = (in-ok 1 n k t (place q) c (f .1) l (f .0 .sound _), f .0 .fits _ refl)
+  instruction-good m (read c t) q h f u l = (read-ok 1 n k t (place q) c (f .1) l (f .0 .sound _), f .0 .fits _ refl)
+  instruction-good m (eval p t) q h f u l = ((f .1, start-below (suc m) p h u, l, refl), bare-fits _ refl)
+  instruction-good m (newloc v) q h f u l = ((f, l, refl), bare-fits _ refl)
 
   fork-good : (p q : Start) → place p .0 < k → place q .0 < k → InstructionFresh n k (forkOf place p q)
-  unfolding forkOf Acts withAction zeroInstruction
-  fork-good p q h g = ((h, g, refl), bare-fits _)
+  unfolding forkOf Acts withAction zeroInstruction actionFits
+  fork-good p q h g = ((h, g, refl), bare-fits _ refl)
 
   abbrev pub Good : List Instruction → Type 0
   Good = Each (InstructionFresh n k)
@@ -97,7 +98,7 @@ module _ (n k : ℕ) (place : Start → Place) (Right : ℕ → Type 0)
     unfolding codeOf size Fit uses
 
     pub code-good : (m : ℕ) (p : Process) → m + size p ≤ k → Fit n p → Uses p → Good (codeOf place m p)
-    code-good m nil h f u = more (stop-ok n k, zero-instruction-fits) none
+    code-good m nil h f u = more (stop-ok 1 n k, zero-instruction-fits) none
     code-good m (name j) h f u = none
     code-good m (fork p q) h f u =
         let up : Uses p = λ j e. u j (in-first (uses j p) (uses j q) e) in

@@ -16,7 +16,7 @@ use Rattle.net.proofs.ReadingLaws.{never}
 use Rattle.sound.proofs.NodeFacts.{TupleOk}
 use Rattle.sound.proofs.NodeChanges.{Filling, no-field, next-field, all-fields}
 use Rattle.sound.proofs.Drafts.{SuitsNext, suited, Fresh, suits-reading, suits-address, Drafted, no-pattern, next-pattern, Whole, whole}
-use Rattle.fresh.specs.Fresh.{readingFits, itemFits, patternFits, tupleFits, instructionFits}
+use Rattle.fresh.specs.Fresh.{readingFits, itemFits, patternFits, tupleFits, actionFits, instructionFits}
 use Rattle.texts.specs.Types.{Locality, Tuple, Pattern, Action, Instruction}
 use Rattle.texts.specs.TextClaims.{count, formal-in-out, formal-twice, astray}
 use Rattle.texts.specs.TextClaims as Number
@@ -124,10 +124,10 @@ module _ (formals : Bool) (n : ℕ) (c : Instruction) where
       (gives-then gives-held (λ v g. gives-pure _ _ (suited formals n c _ (lt-ltb v 8 g) (λ _. refl) refl, refl)))
       (gives-then gives-reading (λ x h. gives-pure _ _ (suited formals n c _ refl (λ _. refl) refl, h)))))))
 
--- a template as it will stand in an instruction, whatever the action
+-- a template as it will stand in an instruction, whatever the action that fits
 pub record TemplateRead (formals : Bool) (n : ℕ) (c : Instruction) : Type 0 where
   pub sound : (a : Action) → Whole formals n (withAction c a)
-  pub fits : instructionFits c ≡ true
+  pub fits : (a : Action) → actionFits a ≡ true → instructionFits (withAction c a) ≡ true
 
 pub gives-template : (formals : Bool) (n : ℕ) → Gives (template formals n) (TemplateRead formals n)
 unfolding template templateField

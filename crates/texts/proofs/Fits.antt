@@ -3,11 +3,13 @@
 use mathlib.Core.Path.{_≡_, refl}
 use mathlib.Core.Bool.{true}
 use Rattle.net.specs.Records.{zeroField, zeroTuple, zeroTemplateField, zeroInstruction, fieldAt, patternAt, marked, withField, withPattern}
+use Rattle.net.specs.Records.{withAction}
+use Rattle.net.proofs.Laws.{both-i}
 use Rattle.net.proofs.Every.{Every, chosen-lt, every-replicate, every-set}
 use Rattle.net.proofs.Past.{pastField, pastTemplate}
-use Rattle.fresh.specs.Fresh.{readingFits, itemFits, patternFits, tupleFits, instructionFits}
+use Rattle.fresh.specs.Fresh.{readingFits, itemFits, patternFits, tupleFits, actionFits, instructionFits}
 use Rattle.fresh.proofs.FitLaws.{array-fits}
-use Rattle.texts.specs.Types.{Locality, Field, Tuple, TemplateField, Instruction}
+use Rattle.texts.specs.Types.{Locality, Field, Tuple, TemplateField, Action, Instruction}
 
 -- ---- tuples
 abbrev pub ItemsFit : Tuple → Type 0
@@ -44,6 +46,7 @@ unfolding withPattern
 next-pattern c f ok e =
     chosen-lt PatternsFit (c .count) 4 _ _ (λ _. every-set (c .count) f ok (λ i g d h. h) e) (λ _. ok)
 
-pub template-fits : (c : Instruction) → PatternsFit c → instructionFits c ≡ true
-unfolding instructionFits patternAt
-template-fits c ok = array-fits (λ f. patternFits (f .pattern)) ok
+pub template-fits :
+    (c : Instruction) → PatternsFit c → (a : Action) → actionFits a ≡ true → instructionFits (withAction c a) ≡ true
+unfolding instructionFits patternAt withAction
+template-fits c ok a e = both-i _ _ e (array-fits (λ f. patternFits (f .pattern)) ok)

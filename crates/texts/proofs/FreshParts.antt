@@ -18,7 +18,8 @@ use Rattle.sound.proofs.NodeFacts.{RowOk, NodeOk, node-shaped}
 use Rattle.sound.proofs.NodeChanges.{alike-rows, runs, starting, zero-node, with-rows, with-process, with-tuple}
 use Rattle.sound.proofs.CodeFacts.{InstructionOk}
 use Rattle.sound.proofs.NetChanges.{zero-instruction}
-use Rattle.fresh.specs.Fresh.{tupleFits, rowFits, processFits, nodeFits, instructionFits, ownOrigin, ownOrigins, ownMark, ownMarks}
+use Rattle.fresh.specs.Fresh.{tupleFits, rowFits, processFits, nodeFits, actionFits, instructionFits}
+use Rattle.fresh.specs.Fresh.{ownOrigin, ownOrigins, ownMark, ownMarks}
 use Rattle.fresh.proofs.FitLaws.{array-fits, action-fits, zero-instruction-fits}
 use Rattle.fresh.proofs.StartLaws.{free-unset, starting-unset}
 use Rattle.linking.specs.Compiled.{unruled}
@@ -26,12 +27,12 @@ use Rattle.texts.specs.Types.{Locality, Place, Row, Tuple, Node, Action,
 use Rattle.texts.proofs.Fields.{TupleRead}
 use Rattle.texts.proofs.Fits.{no-item, tuple-fits}
 
--- ---- instructions
+-- ---- instructions: sound in format 1, so that none is an out to a set
 abbrev pub InstructionFresh : ℕ → ℕ → Instruction → Type 0
-InstructionFresh n k c = InstructionOk n k c × (instructionFits c ≡ true)
+InstructionFresh n k c = InstructionOk 1 n k c × (instructionFits c ≡ true)
 
-pub bare-fits : (a : Action) → instructionFits (withAction zeroInstruction a) ≡ true
-bare-fits a = action-fits zeroInstruction a zero-instruction-fits
+pub bare-fits : (a : Action) → actionFits a ≡ true → instructionFits (withAction zeroInstruction a) ≡ true
+bare-fits a e = action-fits zeroInstruction a e zero-instruction-fits
 
 -- ---- nodes
 abbrev pub AllUnset : Node → Type 0
@@ -154,7 +155,7 @@ empty-fresh n k = record {
   owned = every-replicate _ pastNode 16 zeroNode (λ a _. zero-owned a);
   code =
       every-replicate _ pastInstruction 512 zeroInstruction
-      (λ p _. record { used = λ _. (zero-instruction n k, zero-instruction-fits); unused = λ _. refl });
+      (λ p _. record { used = λ _. (zero-instruction 1 n k, zero-instruction-fits); unused = λ _. refl });
 }
 
 module _ {n k : ℕ} (few : n ≤ 16) (s : Net) (ok : NetFresh n k s) (a : Locality) (h : a .0 < n) where

@@ -7,27 +7,31 @@ use mathlib.Core.Bool.{true, false}
 use mathlib.Core.List.{List, [], _∷_, map}
 use native.Mathlib.Omega.{arith}
 use native.Mathlib.Numerals.{add-one}
-use lib.ListN.{length, getD, set, length-map, length-set, List·getD-map}
+use lib.ListN.{length, getD, set, length-map, length-set, length-append, List·getD-map}
 use lib.Seq.{map-set-same, getD-set-same, getD-set-other}
 use lib.Dec.{eqb}
-use borrow.Author.Tests.{lt-ltb}
+use borrow.Author.Tests.{lt-ltb, ltb-true}
 use Rattle.net.specs.Choice.{choose, fold}
 use Rattle.net.specs.Records.{processAt, nodeAt, withProcess, withTuple, withNode, withRows, withCounts, withoutTuple, zeroNode, movedTo}
 use Rattle.net.specs.Records.{addressOf}
+use Rattle.net.specs.Groups.{member, membersBelow, membersOf}
 use Rattle.net.specs.Shape.{Shaped}
 use Rattle.net.proofs.Laws.{choose-true, choose-false, split}
 use Rattle.net.proofs.Every.{chosen, chosen-lt}
+use Rattle.net.proofs.FoldLaws.{fold-keeps}
+use Rattle.net.proofs.GroupLaws.{members-at}
 use Rattle.matching.specs.Matching.{matchedOf}
 use Rattle.matching.proofs.MatchingPromise.{matchingPromise as matching}
-use Rattle.sound.specs.Soundness.{soundOf}
+use Rattle.sound.specs.Soundness.{groupSound, soundOf}
 use Rattle.sound.proofs.NetFacts.{NetOk, sound-apart}
 use Rattle.sound.proofs.NetChanges.{node-at, instruction-at}
 use Rattle.plans.specs.Answer.{numberOf}
 use Rattle.plans.specs.Request.{at, spoken, asked, requestOf}
-use Rattle.step.specs.Types.{Locality, Place, Tuple, Process, Slot, Node, Net, Target, Action, Evaluated, Found}
+use Rattle.step.specs.Types.{Locality, Place, Group, Tuple, Process, Slot, Node, Net, Target, Action, Evaluated, Found}
 use Rattle.step.specs.Types.{Answer, Aim, Request}
 use Rattle.step.specs.declared.machine.Picked.{Picked}
-use Rattle.step.specs.Pick.{hostOf, slotOf, unchanged, performed, withHost, stopped, added, out, taken, inFound, input, readFound}
+use Rattle.step.specs.Pick.{hostOf, slotOf, unchanged, performed, withHost, stopped, added, out, roomAtAll, addedAll, outAll, taken}
+use Rattle.step.specs.Pick.{inFound, input, readFound}
 use Rattle.step.specs.Pick.{read, startedIn, eval, fork, opened, unused, createdAt, created, create, carriedOut, acting}
 use Rattle.step.specs.Pick.{processStep, slotStep, stepOf, pickOf}
 use Rattle.step.specs.SoundKept.{SoundKept}
@@ -167,6 +171,67 @@ put-stored : (y : Node) (u : Tuple) → y .stored < 16 → withTuple y u .stored
 unfolding withTuple
 put-stored y u h = ap (λ (z : Node). z .stored) (choose-true _ _ _ (lt-ltb (y .stored) 16 h))
 
+-- ---- a tuple put at each member of a set, each in use and with room
+module _
+    (s : Net) (g : Group) (u : Tuple) (used : (l : Locality) → member g l ≡ true → l .0 < s .addresses)
+    (free : (l : Locality) → member g l ≡ true → nodeAt s l .stored < 16) (size : s .addresses ≤ length (s .nodes))
+  where
+    -- at the members below i
+    record Put (i : ℕ) (t : Net) : Type 0 where
+      tuples-are : tuplesOf t ≡ tuplesOf s + length (membersBelow i g)
+      addresses-are : t .addresses ≡ s .addresses
+      nodes-are : length (t .nodes) ≡ length (s .nodes)
+      ahead : (l : Locality) → i ≤ l .0 → nodeAt t l .stored ≡ nodeAt s l .stored
+
+    one-more : (i : ℕ) → member g (addressOf i) ≡ true → length (membersBelow (suc i) g) ≡ length (membersBelow i g) + 1
+    unfolding membersBelow
+    one-more i m =
+        length-append (membersBelow i g) _ ∙ ap (λ (ls : List Locality). length (membersBelow i g) + length ls) (choose-true _ _ _ m)
+
+    no-more : (i : ℕ) → member g (addressOf i) ≡ false → length (membersBelow (suc i) g) ≡ length (membersBelow i g)
+    unfolding membersBelow
+    no-more i m =
+        length-append (membersBelow i g) _ ∙ ap (λ (ls : List Locality). length (membersBelow i g) + length ls) (choose-false _ _ _ m)
+        ∙ omega arith
+
+    other-stored : (t : Net) (i : ℕ) (l : Locality) → suc i ≤ l .0 → nodeAt (added t (addressOf i) u) l .stored ≡ nodeAt t l .stored
+    unfolding added nodeAt withNode
+    other-stored t i l h = ap (λ (x : Node). x .stored) (getD-set-other (t .nodes) i (l .0) _ _ (λ e. omega arith))
+
+    put-next : (i : ℕ) (t : Net) → member g (addressOf i) ≡ true → Put i t → Put (suc i) (added t (addressOf i) u)
+    unfolding added withNode
+    put-next i t m h =
+        let l : Locality = addressOf i in
+        let y : Node = nodeAt t l in
+        let stored = h .ahead l (omega arith) in
+        let more = put-stored y u (omega (arith, stored, free l m)) in
+        let whole = node-sum t l (withTuple y u) (omega (arith, used l m, h .addresses-are)) (omega (arith, h .addresses-are, h .nodes-are)) in
+        record {
+          tuples-are = omega (arith, whole, more, h .tuples-are, one-more i m);
+          addresses-are = h .addresses-are;
+          nodes-are = length-set (t .nodes) i _ ∙ h .nodes-are;
+          ahead = λ c d. other-stored t i c d ∙ h .ahead c (omega arith);
+        }
+
+    put-past : (i : ℕ) (t : Net) → member g (addressOf i) ≡ false → Put i t → Put (suc i) t
+    put-past i t m h = record {
+      tuples-are = omega (arith, h .tuples-are, no-more i m);
+      addresses-are = h .addresses-are;
+      nodes-are = h .nodes-are;
+      ahead = λ c d. h .ahead c (omega arith);
+    }
+
+    put-none : Put 0 s
+    unfolding membersBelow
+    put-none = record { tuples-are = omega arith; addresses-are = refl; nodes-are = refl; ahead = λ l _. refl }
+
+    all-tuples : tuplesOf (addedAll s g u) ≡ tuplesOf s + length (membersOf g)
+    unfolding addedAll membersOf
+    all-tuples =
+        fold-keeps Put _ s 16 put-none
+        (λ i t _ h. chosen (Put (suc i)) (member g (addressOf i)) _ _ (λ m. put-next i t m h) (λ m. put-past i t m h))
+        .tuples-are
+
 -- ---- each request, of the process p at a in slot k
 module _ (s : Net) (ok : NetOk s) (a : Locality) (k : ℕ) (hosted : a .0 < s .addresses) (p : Process) where
   room : s .addresses ≤ length (s .nodes)
@@ -193,6 +258,23 @@ module _ (s : Net) (ok : NetOk s) (a : Locality) (k : ℕ) (hosted : a .0 < s .a
       let more : withTuple y u .stored ≡ y .stored + 1 = put-stored y u (omega (arith, stored)) in
       let whole = change l r (withTuple y u) h in
       performs s _ _ (omega (arith, whole, more, stored)))
+      (λ _. refuses s _ Answer.NoRoom refl)
+
+  -- whose set is one of addresses in use
+  out-all-moves :
+      (g : Group) (q : Place) (u : Tuple) → groupSound (s .addresses) g ≡ true
+      → Moves s (Action.OutAll g q) (outAll s a k p g q u)
+  unfolding outAll roomAtAll groupSound puts takes numberOf withHost withNode
+  out-all-moves g q u m =
+      chosen (Moves s (Action.OutAll g q)) _ _ _
+      (λ free.
+      let r = movedTo p q in
+      let size = length-set (s .nodes) (a .0) (withProcess (nodeAt s a) k r) in
+      let whole =
+      all-tuples (withHost s a k r) g u (λ l h. ltb-true _ _ (members-at g _ m l h))
+      (λ l h. omega (arith, host-stored s a k r l, ltb-true (nodeAt s l .stored) 16 (members-at g _ free l h)))
+      (omega (arith, size, room)) in
+      performs s _ _ (omega (arith, whole, host-tuples s a k r)))
       (λ _. refuses s _ Answer.NoRoom refl)
 
   in-moves :
@@ -287,6 +369,8 @@ module _ (s : Net) (ok : NetOk s) (a : Locality) (k : ℕ) (hosted : a .0 < s .a
       (λ _. refuses s _ Answer.NotWithin refl))) h
   asked-moves e (Action.New v q) h = acts e _ _ (create-moves v q)
   asked-moves e (Action.Fork q r) h = acts e _ _ (start-moves _ refl refl a _ q _)
+  asked-moves e (Action.OutAll g q) h =
+      chosen (Acts e (Action.OutAll g q)) (e .defined) _ _ (λ _ ok. acts e _ _ (out-all-moves g q _ (ok .0))) (λ _. lacks e _) h
 
 -- ---- a pick
 slot-below : (b : ℕ) → slotOf b < 4
@@ -304,7 +388,7 @@ step-moves s b ok =
     let node-ok = node-at s ok (hostOf b) hosted in
     let running = node-ok .processes-ok .holds (slotOf b) (slot-below b) .running busy in
     let fetched = instruction-at s ok _ (running .place) in
-    asked-moves s ok (hostOf b) (slotOf b) hosted _ _ _ (request-ok (s .addresses) (s .length) (hostOf b) _ _ hosted running fetched))
+    asked-moves s ok (hostOf b) (slotOf b) hosted _ _ _ (request-ok (s .format) (s .addresses) (s .length) (hostOf b) _ _ hosted running fetched))
     (λ _. refuses s x Answer.FreeSlot refl)) (λ _. refuses s x Answer.NotInUse refl)) (λ _. refuses s x Answer.Malformed refl)
 
 pick-moves : (s : Net) (b : ℕ) → NetOk s → Moves s (met s b .action) (pickOf s b)

@@ -3,10 +3,11 @@
 use Prim.Native.Nat.{ℕ, _+_, _-_, _≤_}
 use mathlib.Core.Path.{_≡_}
 use mathlib.Core.List.{List, [], _∷_, _++_}
-use lib.ListN.{take}
+use lib.ListN.{length, take}
 use lib.Dec.{eqb}
 use Rattle.net.specs.Choice.{choose, fold}
 use Rattle.net.specs.Records.{nodeAt, processAt, instructionAt, addressOf}
+use Rattle.net.specs.Groups.{membersOf}
 use Rattle.text.specs.Bytes.{bytes}
 use Rattle.text.specs.Decimal.{decimal}
 use Rattle.image.specs.Image.{openedOf}
@@ -35,7 +36,7 @@ tuplesOf s = fold (s .addresses) (λ a count. count + nodeAt s (addressOf a) .st
 unfoldable pub met : Net → ℕ → Instruction
 met s b = instructionAt (s .code) (processAt (nodeAt s (hostOf b)) (slotOf b) .at)
 
--- how many tuples an out puts, one for each address that it puts to
+-- how many tuples an out puts: "the total counts one for each member" of a set (slip 11)
 unfoldable pub puts : Action → ℕ
 puts Action.Stop = 0
 puts (Action.Out t q) = 1
@@ -44,6 +45,7 @@ puts (Action.Read t q) = 0
 puts (Action.Eval t sent q) = 0
 puts (Action.New v q) = 0
 puts (Action.Fork q r) = 0
+puts (Action.OutAll g q) = length (membersOf g)
 
 -- how many an in takes
 unfoldable pub takes : Action → ℕ
@@ -54,6 +56,7 @@ takes (Action.Read t q) = 0
 takes (Action.Eval t sent q) = 0
 takes (Action.New v q) = 0
 takes (Action.Fork q r) = 0
+takes (Action.OutAll g q) = 0
 
 -- a number that counts where the answer is 0
 unfoldable pub answered0 : Answer → ℕ → ℕ
