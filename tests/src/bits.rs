@@ -65,10 +65,12 @@ pub enum Sort {
     TargetKind,
     FieldKind,
     Variable,
+    /// The 16 bits of a set, together one field.
+    Members,
 }
 
 impl Sort {
-    pub const ALL: [Sort; 16] = [
+    pub const ALL: [Sort; 17] = [
         Sort::Format,
         Sort::AddressCount,
         Sort::CodeLength,
@@ -85,6 +87,7 @@ impl Sort {
         Sort::TargetKind,
         Sort::FieldKind,
         Sort::Variable,
+        Sort::Members,
     ];
 }
 

@@ -51,6 +51,13 @@ pub fn fork(first: u16, second: u16) -> Instruction {
     Instruction::plain(Action::Fork { first, second })
 }
 
+/// An out to the set of these addresses, which format 2 alone knows.
+pub fn out_to_set(members: &[u8], fields: &[TemplateField], next: u16) -> Instruction {
+    let members = Set::of(members.iter().copied().map(Locality));
+    let next = Place(next);
+    Instruction::with(Action::OutToSet { members, next }, fields)
+}
+
 // Fields and tuples.
 
 pub fn reading(reading: i32) -> Field {
@@ -173,8 +180,26 @@ pub fn longest() -> Net {
     net
 }
 
-/// The same in format 2, whose image is the longest of all.
+/// The same in format 2, with an out to a set in place of each instruction:
+/// its image is the longest of all. The first set is empty, the last one has
+/// all 16 members.
 pub fn longest_of_format_2() -> Net {
+    let mut random = Random::new(17_339);
+    let mut net = longest_without_sets();
+    for at in 0..512u16 {
+        let members = match at {
+            0 => Set::EMPTY,
+            511 => Set(0xFFFF),
+            _ => Set(random.number() as u16),
+        };
+        let next = Place((at + 1) % 512);
+        net.code[at as usize].action = Action::OutToSet { members, next };
+    }
+    net
+}
+
+/// The longest of format 1 in format 2.
+pub fn longest_without_sets() -> Net {
     in_format_2(longest())
 }
 

@@ -23,7 +23,7 @@ pub struct Stated {
 }
 
 impl Stated {
-    fn new(name: &str, net: Net, picks: &[u8], answers: &[u8]) -> Stated {
+    pub(crate) fn new(name: &str, net: Net, picks: &[u8], answers: &[u8]) -> Stated {
         let picks = picks.to_vec();
         Stated {
             name: name.to_string(),
@@ -33,7 +33,7 @@ impl Stated {
         }
     }
 
-    fn ending(self, after: Net) -> Stated {
+    pub(crate) fn ending(self, after: Net) -> Stated {
         let after = Some(after);
         Stated { after, ..self }
     }
@@ -56,14 +56,14 @@ const HELD: Target = Target::Variable(0);
 
 /// A net of format 2 with this code, one more stop, and neither rights nor
 /// processes.
-fn idle(addresses: u8, code: &[Instruction]) -> Net {
+pub(crate) fn idle(addresses: u8, code: &[Instruction]) -> Net {
     let mut net = in_format_2(by_hand::net(addresses, code));
     net.nodes[0].processes[0] = Process::FREE;
     net
 }
 
 /// Starts a process of this origin at a place of a node.
-fn start(net: &mut Net, at: usize, place: u16, origin: u8) {
+pub(crate) fn start(net: &mut Net, at: usize, place: u16, origin: u8) {
     let slot = net.nodes[at].free_slot().expect("at most four processes");
     net.nodes[at].processes[slot] = Process::starting(Place(place), Locality(origin));
 }
@@ -76,7 +76,7 @@ fn start_holding(net: &mut Net, at: usize, origin: u8, held: u8) {
 }
 
 /// Grants rights in each row of a node but that for one origin.
-fn grant_all_but(net: &mut Net, by: usize, origin: usize, over: usize, rights: Rights) {
+pub(crate) fn grant_all_but(net: &mut Net, by: usize, origin: usize, over: usize, rights: Rights) {
     let others = (0..net.row_count()).filter(|other| *other != origin);
     others.for_each(|other| grant_from(net, by, other, over, rights));
 }

@@ -139,28 +139,34 @@ fn put_instruction(out: &mut Vec<u8>, instruction: &Instruction) {
     }
 }
 
-// The action's number, its target, two places and the variable of a new.
+// The action's number, its target, two places and the variable of a new. A
+// set stands in the two bytes of the target.
 fn put_action(out: &mut Vec<u8>, action: &Action) {
     let none = Place(0);
     let (number, target, places, variable) = match *action {
-        Action::Stop => (0, None, [none, none], 0),
-        Action::Out { target, next } => (1, Some(target), [next, none], 0),
-        Action::In { target, next } => (2, Some(target), [next, none], 0),
-        Action::Read { target, next } => (3, Some(target), [next, none], 0),
-        Action::Eval { target, sent, next } => (4, Some(target), [sent, next], 0),
-        Action::New { variable, next } => (5, None, [next, none], variable),
-        Action::Fork { first, second } => (6, None, [first, second], 0),
+        Action::Stop => (0, [0, 0], [none, none], 0),
+        Action::Out { target, next } => (1, target_bytes(target), [next, none], 0),
+        Action::In { target, next } => (2, target_bytes(target), [next, none], 0),
+        Action::Read { target, next } => (3, target_bytes(target), [next, none], 0),
+        Action::Eval { target, sent, next } => (4, target_bytes(target), [sent, next], 0),
+        Action::New { variable, next } => (5, [0, 0], [next, none], variable),
+        Action::Fork { first, second } => (6, [0, 0], [first, second], 0),
+        Action::OutToSet { members, next } => (7, members.0.to_le_bytes(), [next, none], 0),
     };
     out.push(number);
-    out.extend(match target {
-        None => [0, 0],
-        Some(Target::Written(address)) => [0, address.0],
-        Some(Target::Own) => [1, 0],
-        Some(Target::Variable(variable)) => [2, variable],
-    });
+    out.extend(target);
     put_two(out, places[0].0);
     put_two(out, places[1].0);
     out.push(variable);
+}
+
+// The kind of a target, and its address or variable.
+fn target_bytes(target: Target) -> [u8; 2] {
+    match target {
+        Target::Written(address) => [0, address.0],
+        Target::Own => [1, 0],
+        Target::Variable(variable) => [2, variable],
+    }
 }
 
 /// The record that a byte of a dump is of.
@@ -269,7 +275,7 @@ fn read_bytes<const COUNT: usize>(output: &mut impl Read) -> [u8; COUNT] {
 #[cfg(test)]
 mod tests {
     use super::*;
-    use crate::by_hand::{PUT, SEND};
+    use crate::by_hand::{out_to_set, PUT, SEND};
 
     #[test]
     fn a_dump_has_its_length() {
@@ -407,5 +413,23 @@ mod tests {
         let code = &bytes[12_820..];
         assert_eq!(code[..9], [4, 2, 3, 1, 1, 5, 0, 0, 0]);
         assert_eq!(code[9..14], [5, 6, 0, 0, 0]);
+    }
+
+    /// The number of the 16 bits, its lower byte first, in place of a target;
+    /// a format that knows no sets is dumped alike.
+    #[test]
+    fn a_set_stands_in_the_two_bytes_of_the_target() {
+        for format in [0, 1, 2] {
+            let mut net = Net::of(format, 16, 1);
+            let fields = [TemplateField::Reading(1), TemplateField::Variable(7)];
+            net.code[0] = out_to_set(&[0, 2, 9], &fields, 258);
+            net.code[1] = out_to_set(&[8, 15], &fields[..1], 0);
+            let bytes = dump(&net);
+            let code = &bytes[STATE_BYTES..];
+            assert_eq!(code[..9], [7, 0x40, 0xA0, 2, 1, 0, 0, 0, 2]);
+            assert_eq!(code[9..19], [0, 1, 0, 0, 0, 3, 7, 0, 0, 0]);
+            assert_eq!(code[19..29], [0; 10]);
+            assert_eq!(code[29..38], [7, 0x81, 0, 0, 0, 0, 0, 0, 1]);
+        }
     }
 }

@@ -1,5 +1,5 @@
-//! Six small nets that a person can follow, with picks and register, one of
-//! them with a listing of the old program, one with names and one of format 2,
+//! Seven small nets that a person can follow, with picks and register, one of
+//! them with a listing of the old program, one with names and two of format 2,
 //! and an image that is refused. They are stored below `examples`.
 
 pub mod damaged;
@@ -7,6 +7,7 @@ mod listing;
 pub mod names;
 mod nets;
 mod origins;
+mod sets;
 
 use crate::image::{read_image, write_image};
 use crate::names::names_by;
@@ -46,6 +47,7 @@ pub fn examples() -> Vec<Example> {
         nets::tenant(),
         nets::named_stations(),
         origins::rows_by_origin(),
+        sets::flood_warning(),
     ]
 }
 
@@ -75,8 +77,8 @@ impl Example {
         write_image(&self.net)
     }
 
-    /// The text of the net. One of format 2 has none: texts know no rows by
-    /// origin.
+    /// The text of the net. One of format 2 has none: texts know neither rows
+    /// by origin nor sets.
     pub fn text(&self) -> Option<&'static str> {
         (self.net.format == SINGLE_ROW).then_some(self.notation)
     }

@@ -4,10 +4,12 @@ mod by_origin;
 mod code;
 mod damage;
 mod sending;
+mod sets;
 
 pub use by_origin::by_origin_net;
-pub use damage::{change_record, damaged_image, random_net};
+pub use damage::{change_record, damaged, damaged_image, random_net};
 pub use sending::sending_net;
+pub use sets::{set_image_net, set_net};
 
 use crate::image::write_image;
 use crate::net::*;
@@ -26,7 +28,7 @@ pub fn image_net(random: &mut Random) -> Net {
 /// The same of one format.
 pub fn image_net_of(random: &mut Random, format: u8) -> Net {
     let mut net = Net::of(format, address_count(random), code_length(random));
-    let style = Style::new(random, net.address_count, net.code_length);
+    let style = Style::new(random, &net);
     fill_rows(random, &mut net);
     fill_processes(random, &mut net);
     fill_tuples(random, &mut net, &style);
@@ -217,6 +219,24 @@ fn place(random: &mut Random, length: u16) -> Place {
     Place(random.below(length as usize) as u16)
 }
 
+// A set of addresses below the count: none, one, a few, any or all of them.
+fn set(random: &mut Random, count: u8) -> Set {
+    let mut some = |members| Set::of((0..members).map(|_| address(random, count)));
+    let (one, few) = (some(1), some(3));
+    match random.below(10) {
+        0 => Set::EMPTY,
+        1..=3 => one,
+        4..=6 => few,
+        7 | 8 => Set(random.number() as u16 & whole(count).0),
+        _ => whole(count),
+    }
+}
+
+// The set of all addresses below the count.
+fn whole(count: u8) -> Set {
+    Set::of((0..count).map(Locality))
+}
+
 fn variables(random: &mut Random, count: u8) -> [Value; VARIABLES] {
     let mut variables = Process::FREE.variables;
     for value in variables.iter_mut() {
@@ -373,6 +393,10 @@ fn grant(row: &mut Row, action: &Action, address: Locality) {
         Action::In { target, .. } => give(target, |rights| rights.take = true),
         Action::Read { target, .. } => give(target, |rights| rights.read |= !rights.take),
         Action::Eval { target, .. } => give(target, |rights| rights.send = true),
+        Action::OutToSet { members, .. } => {
+            let written = members.members().map(Target::Written);
+            written.for_each(|member| give(member, |rights| rights.put = true));
+        }
     }
 }
 

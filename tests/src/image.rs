@@ -1,6 +1,6 @@
 //! The image of a net, read and written (document 01, "The image" and
 //! "Numbers for an image"; document 02, slip 2: where an image went bad;
-//! slip 10: format 2, with a row for each origin).
+//! slip 10: format 2, with a row for each origin; slip 11: its outs to a set).
 
 mod fresh;
 mod reader;

@@ -21,6 +21,7 @@ pub mod random;
 pub mod register;
 pub mod replay;
 pub mod season;
+pub mod sets;
 pub mod sound;
 pub mod stack;
 pub mod starred;

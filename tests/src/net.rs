@@ -1,6 +1,6 @@
 //! The records of a net (document 01, "The net"; document 02, slip 8: the
 //! mark of a tuple; slip 10: the format, the origin of a process and a row
-//! for each origin).
+//! for each origin; slip 11: the set of an out to many stores).
 
 mod shown;
 
@@ -60,12 +60,22 @@ pub struct Tuple {
 
 /// The rights of a row over one address: i, r, o, e. What a row holds is kept
 /// as it is written; i grants reading whether or not r is held beside it.
-#[derive(Clone, Copy, PartialEq, Eq)]
+#[derive(Clone, Copy, Eq)]
 pub struct Rights {
     pub take: bool,
     pub read: bool,
     pub put: bool,
     pub send: bool,
+}
+
+/// All four at once, which is quicker than one after another: a net has 4,096
+/// of these records.
+impl PartialEq for Rights {
+    fn eq(&self, other: &Rights) -> bool {
+        let (take, read) = (self.take == other.take, self.read == other.read);
+        let (put, send) = (self.put == other.put, self.send == other.send);
+        take & read & put & send
+    }
 }
 
 /// A policy row: the right n and the rights over each address.
@@ -118,7 +128,12 @@ pub enum TemplateField {
     FormalAddress(u8),
 }
 
-/// What an instruction does, in the order of the image's actions 0 to 6.
+/// The members of an out to a set as the 16 bits of an image, the first of
+/// which, the most significant, is for address 0.
+#[derive(Clone, Copy, PartialEq, Eq)]
+pub struct Set(pub u16);
+
+/// What an instruction does, in the order of the image's actions 0 to 7.
 #[derive(Clone, Copy, PartialEq, Eq, Debug)]
 pub enum Action {
     Stop,
@@ -147,9 +162,15 @@ pub enum Action {
         first: Place,
         second: Place,
     },
+    /// An out to each member of a set, in format 2 alone.
+    OutToSet {
+        members: Set,
+        next: Place,
+    },
 }
 
-/// An action with its template. Only out, in and read have fields;
+/// An action with its template. Only out, in, read and an out to a set have
+/// fields;
 /// fields past the count are `Reading(0)`.
 #[derive(Clone, Copy, PartialEq, Eq, Debug)]
 pub struct Instruction {
@@ -263,6 +284,11 @@ impl Node {
         &self.rows[origin.0 as usize]
     }
 
+    /// Whether there is no room for a further tuple.
+    pub fn full(&self) -> bool {
+        self.tuple_count as usize == TUPLES
+    }
+
     /// The lowest free slot, if any.
     pub fn free_slot(&self) -> Option<usize> {
         self.processes.iter().position(|process| !process.busy)
@@ -271,6 +297,26 @@ impl Node {
     /// The number of busy slots.
     pub fn busy_slots(&self) -> usize {
         self.processes.iter().filter(|process| process.busy).count()
+    }
+}
+
+impl Set {
+    pub const EMPTY: Set = Set(0);
+
+    /// The set of these addresses.
+    pub fn of(members: impl IntoIterator<Item = Locality>) -> Set {
+        let bits = members.into_iter().map(|member| Set::bit(member.0));
+        Set(bits.fold(0, |set, bit| set | bit))
+    }
+
+    /// The members, ascending.
+    pub fn members(self) -> impl Iterator<Item = Locality> {
+        let addresses = (0..ADDRESSES as u8).map(Locality);
+        addresses.filter(move |address| self.0 & Set::bit(address.0) != 0)
+    }
+
+    fn bit(address: u8) -> u16 {
+        0x8000 >> address
     }
 }
 
@@ -380,6 +426,21 @@ mod tests {
         assert_eq!(node.busy_slots(), 2);
         node.processes = [Process::starting(Place(0), Locality(0)); SLOTS];
         assert_eq!(node.free_slot(), None);
+    }
+
+    /// The first of the 16 bits is for address 0.
+    #[test]
+    fn a_set_has_a_bit_for_each_address() {
+        assert_eq!(Set::of([]), Set::EMPTY);
+        assert_eq!(Set::of([0, 2].map(Locality)), Set(0b1010_0000_0000_0000));
+        assert_eq!(Set::of([15].map(Locality)), Set(1));
+        assert_eq!(Set::of((0..16).map(Locality)), Set(0xFFFF));
+        for number in (0..=u16::MAX).step_by(97) {
+            let members: Vec<Locality> = Set(number).members().collect();
+            assert_eq!(members.len(), number.count_ones() as usize);
+            assert!(members.is_sorted_by(|one, other| one.0 < other.0));
+            assert_eq!(Set::of(members), Set(number));
+        }
     }
 
     #[test]

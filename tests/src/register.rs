@@ -273,6 +273,36 @@ mod tests {
         }
     }
 
+    /// One for each member, and none for a refused out or for the empty set.
+    #[test]
+    fn the_total_counts_each_member() {
+        let field = [TemplateField::Reading(5)];
+        let code = [
+            out_to_set(&[], &field, 1),
+            out_to_set(&[0, 1, 2], &field, 2),
+            out_to_set(&[1, 2], &field, 3),
+            take(OWN, &field, 4),
+            out_to_set(&[1], &field, 5),
+        ];
+        let mut net = in_format_2(net(3, &code));
+        (0..3).for_each(|over| grant(&mut net, 0, over, Rights::ALL));
+        fill(&mut net, 1, &[readings(&[3])]);
+        fill(&mut net, 2, &[readings(&[4]); 15]);
+        let image = write_image(&net);
+        assert_eq!(answers_in(&register(&image, &[0; 3])), [0, 0, 3]);
+        for (made, total) in [16, 16, 19, 19, 19].into_iter().enumerate() {
+            assert_total(&register(&image, &vec![0; made]), total);
+        }
+        fill(&mut net, 2, &[readings(&[4]); 14]);
+        let image = write_image(&net);
+        for (made, total) in [15, 15, 18, 20, 19, 20].into_iter().enumerate() {
+            assert_total(&register(&image, &vec![0; made]), total);
+        }
+        let text = register(&image, &[0; 5]);
+        let lines = "node 0 0 1\nnode 1 4 0\ntuple 1 3 from 1\ntuple 1 5 from 0\n";
+        assert!(text.contains(lines), "{text}");
+    }
+
     #[test]
     fn the_greatest_total() {
         assert_total(&register(&write_image(&longest()), &[]), 256);

@@ -1,7 +1,8 @@
 //! Soundness of a net (document 01, "One pick"), and what code reaches
 //! and whether it keeps within a row ("Reaching and rights"; document 02,
 //! slip 6: taking covers reading; slips 8 and 10: marks and origins are
-//! addresses of the net; slip 10: the rows in each format).
+//! addresses of the net; slip 10: the rows in each format; slip 11: outs to a
+//! set, in format 2 alone).
 
 use crate::net::*;
 
@@ -78,6 +79,7 @@ fn successors(action: &Action) -> [Option<Place>; 2] {
         Action::Eval { next, .. } => [Some(next), None],
         Action::New { next, .. } => [Some(next), None],
         Action::Fork { first, second } => [Some(first), Some(second)],
+        Action::OutToSet { next, .. } => [Some(next), None],
     }
 }
 
@@ -93,6 +95,7 @@ fn allowed(action: &Action, address: Locality, row: &Row) -> bool {
             known(target, address).is_none_or(|at| row.over(at).grants_read())
         }
         Action::Eval { target, .. } => known(target, address).is_none_or(|at| row.over(at).send),
+        Action::OutToSet { members, .. } => members.members().all(|member| row.over(member).put),
     }
 }
 
@@ -245,6 +248,13 @@ fn instruction_sound(net: &Net, instruction: &Instruction) -> bool {
         }
         Action::Fork { first, second } => {
             place_sound(net, first) && place_sound(net, second) && template_absent(instruction)
+        }
+        Action::OutToSet { members, next } => {
+            net.format == ROW_BY_ORIGIN
+                && members.members().all(|member| address_sound(net, member))
+                && place_sound(net, next)
+                && template_sound(net, instruction)
+                && no_formal(instruction)
         }
     }
 }

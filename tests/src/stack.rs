@@ -50,16 +50,11 @@ impl Load {
 }
 
 /// The longest image, and a net in which every action is performed; then both
-/// of format 2.
+/// of format 2, with outs to a set.
 pub fn loads() -> [Load; 4] {
     let mut random = Random::new(501);
     let mut picks = || (0..MOST_PICKS).map(|_| random.byte() & 0xFC).collect();
-    let nets = [
-        longest(),
-        busy(),
-        longest_of_format_2(),
-        in_format_2(busy()),
-    ];
+    let nets = [longest(), busy(), longest_of_format_2(), busy_of_format_2()];
     nets.map(|net| Load {
         net,
         picks: picks(),
@@ -82,6 +77,19 @@ pub fn busy() -> Net {
     }
     net.code[504] = new(7, 511);
     net.nodes[0].processes[3] = Process::starting(Place(504), Locality(0));
+    net
+}
+
+/// The same in format 2, where in one of four rounds the second out is one to
+/// a set of none, one or two members.
+pub fn busy_of_format_2() -> Net {
+    let mut net = in_format_2(busy());
+    for first in (0..504u16).step_by(32) {
+        let out = &mut net.code[first as usize + 2];
+        let members = (0..first / 32 % 3).map(|member| ((first / 8 + member) % 15) as u8);
+        let (members, next) = (Set::of(members.map(Locality)), Place(first + 3));
+        out.action = Action::OutToSet { members, next };
+    }
     net
 }
 
@@ -294,13 +302,14 @@ mod tests {
     use super::*;
     use crate::step::{pick_address, pick_slot, step};
 
-    /// Each action is performed in the busy nets, all seven.
+    /// Each action is performed in the busy nets: all seven, and in format 2
+    /// the eighth.
     #[test]
     fn every_action_is_performed() {
         let [_, one, _, two] = loads();
-        for busy in [one, two] {
+        for (busy, actions) in [(one, 7), (two, 8)] {
             let mut net = busy.net.clone();
-            let mut performed = [0; 7];
+            let mut performed = vec![0; actions];
             for pick in &busy.picks {
                 let node = &net.nodes[usize::from(pick_address(*pick).0)];
                 let process = node.processes[usize::from(pick_slot(*pick))];
@@ -323,6 +332,7 @@ mod tests {
             Action::Eval { .. } => 4,
             Action::New { .. } => 5,
             Action::Fork { .. } => 6,
+            Action::OutToSet { .. } => 7,
         }
     }
 }

@@ -1,6 +1,6 @@
 //! One pick (document 01, "One pick"; document 02, slip 6: taking covers
 //! reading; slip 10: the origin of sent and of forked code, by which the row
-//! is chosen, and the rows after a new).
+//! is chosen, and the rows after a new; slip 11: outs to a set).
 
 use crate::matching::{bind, evaluate, evaluate_tuple, oldest_fitting};
 use crate::net::*;
@@ -74,6 +74,7 @@ impl Run<'_> {
             Action::Eval { target, sent, next } => self.eval(target, sent, next),
             Action::New { variable, next } => self.new_address(variable, next),
             Action::Fork { first, second } => self.fork(first, second),
+            Action::OutToSet { members, next } => self.out_to_set(members, next),
         }
     }
 
@@ -127,11 +128,33 @@ impl Run<'_> {
 
     fn out(&mut self, target: Target, next: Place) -> Result<(), u8> {
         let target = self.resolve(target)?;
-        let variables = &self.process().variables;
-        let tuple = evaluate_tuple(self.instruction(), self.host, variables);
-        let tuple = tuple.ok_or(VARIABLE_UNFIT)?;
+        let tuple = self.tuple()?;
         require(self.rights(target).put)?;
         add_newest(self.node_mut(target), tuple)?;
+        self.process_mut().at = next;
+        Ok(())
+    }
+
+    // The tuple that is put, with the host's mark; 6 when a variable in it is
+    // unset.
+    fn tuple(&self) -> Result<Tuple, u8> {
+        let variables = &self.process().variables;
+        let tuple = evaluate_tuple(self.instruction(), self.host, variables);
+        tuple.ok_or(VARIABLE_UNFIT)
+    }
+
+    // All members receive the tuple or none does: the right at each of them is
+    // tested before the room at any, and the room at each before the first
+    // receives. An empty set passes both tests.
+    fn out_to_set(&mut self, set: Set, next: Place) -> Result<(), u8> {
+        let tuple = self.tuple()?;
+        require(set.members().all(|member| self.rights(member).put))?;
+        if set.members().any(|member| self.node(member).full()) {
+            return Err(NO_ROOM);
+        }
+        for member in set.members() {
+            add_newest(self.node_mut(member), tuple)?;
+        }
         self.process_mut().at = next;
         Ok(())
     }
@@ -267,11 +290,10 @@ fn require(right: bool) -> Result<(), u8> {
 }
 
 fn add_newest(node: &mut Node, tuple: Tuple) -> Result<(), u8> {
-    let count = node.tuple_count as usize;
-    if count == TUPLES {
+    if node.full() {
         return Err(NO_ROOM);
     }
-    node.tuples[count] = tuple;
+    node.tuples[node.tuple_count as usize] = tuple;
     node.tuple_count += 1;
     Ok(())
 }

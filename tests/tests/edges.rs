@@ -222,18 +222,21 @@ fn each_edge_has_the_stated_answer() {
     check_all(&of_format_2(), &STATED_OF_FORMAT_2);
 }
 
-/// The program `edges` with these in place of the stored ones.
+/// The program `edges` with each of these in place of the stored ones, and
+/// with an image of format 2 from which n is withdrawn.
 #[test]
 fn the_program_works_through_those_of_format_2() {
-    let edges = of_format_2();
     let (start, lines) = withdrawn_of_format_2();
-    let (packed, creation) = (pack(&edges), write_image(&start));
-    let files: [(&str, &[u8]); 2] = [("edges.bin", &packed), ("creation.bin", &creation)];
-    let here = TestDirectory::holding(files);
-    let found = printed_by("edges", &here.path);
-    let expected = [expected(&edges), lines.into_bytes()].concat();
-    let text = |bytes| String::from_utf8(bytes).expect("it is text");
-    assert_eq!(text(found), text(expected));
+    let creation = write_image(&start);
+    for edge in of_format_2() {
+        let packed = pack(&[edge.clone()]);
+        let files: [(&str, &[u8]); 2] = [("edges.bin", &packed), ("creation.bin", &creation)];
+        let here = TestDirectory::holding(files);
+        let found = printed_by("edges", &here.path);
+        let expected = [expected(&[edge]), lines.clone().into_bytes()].concat();
+        let text = |bytes| String::from_utf8(bytes).expect("it is text");
+        assert_eq!(text(found), text(expected));
+    }
 }
 
 fn check_all(edges: &[Edge], all: &[(&str, Stated)]) {

@@ -1,6 +1,6 @@
 //! The examples: that the stored files are the model's, that the programs
 //! print the stored registers, write the stored images and check the stored
-//! listing, that they read the image of format 2, and that the tenant's fence
+//! listing, that they read the images of format 2, and that the tenant's fence
 //! holds.
 
 use cavindorum_tests::examples::{examples, stored_files, Example};
@@ -112,12 +112,17 @@ fn the_stored_listing_is_an_old_one() {
     }
 }
 
-/// The other programs that read images read that of format 2 as well.
+/// The other programs that read images read those of format 2 as well.
 #[test]
-fn the_programs_read_the_rows_by_origin() {
-    let stored = repository().join("examples/rows_by_origin");
-    let (image, picks) = (file(&stored, "net.bin"), file(&stored, "picks.bin"));
-    let register = file(&stored, "register.txt");
+fn the_programs_read_format_2() {
+    for name in ["rows_by_origin", "flood_warning"] {
+        read_by_other_programs(&repository().join("examples").join(name));
+    }
+}
+
+fn read_by_other_programs(stored: &Path) {
+    let (image, picks) = (file(stored, "net.bin"), file(stored, "picks.bin"));
+    let register = file(stored, "register.txt");
     let files: [(&str, &[u8]); 3] = [
         ("net.bin", &image),
         ("picks.bin", &picks),

@@ -7,7 +7,7 @@ use cavindorum_tests::bits::Sort;
 use cavindorum_tests::by_hand::*;
 use cavindorum_tests::dump::{dump, inspect, record_at, OpenedImage};
 use cavindorum_tests::faulty::faulty_images;
-use cavindorum_tests::generate::{damaged_image, image_net, valid_image};
+use cavindorum_tests::generate::{damaged, damaged_image, image_net, set_image_net, valid_image};
 use cavindorum_tests::image::{read_image, write_image, write_with_fields};
 use cavindorum_tests::net::*;
 use cavindorum_tests::random::Random;
@@ -117,17 +117,29 @@ fn the_longest_image_has_14_749_bytes() {
     assert_eq!(answer(&image), (29, 117_987));
 }
 
-/// Of format 2; it has 15 * 16 rows of 65 bits more.
+/// Of format 2; it has 15 * 16 rows of 65 bits more, and in place of each
+/// written target 10 bits more of a set.
 #[test]
-fn the_longest_image_of_format_2_has_16_699_bytes() {
+fn the_longest_image_of_format_2_has_17_339_bytes() {
     let net = longest_of_format_2();
+    let mut image = write_image(&net);
+    assert_eq!(image.len(), 17_339);
+    assert_accepted(&image, &net);
+    assert_eq!(answer(&image[..17_338]), (28, 138_698));
+    image.push(0);
+    assert_eq!(answer(&image), (29, 138_707));
+    image.resize(32_767, 0);
+    assert_eq!(answer(&image), (29, 138_707));
+}
+
+#[test]
+fn the_longest_image_without_sets_has_16_699_bytes() {
+    let net = longest_without_sets();
     let mut image = write_image(&net);
     assert_eq!(image.len(), 16_699);
     assert_accepted(&image, &net);
     assert_eq!(answer(&image[..16_698]), (28, 133_578));
     image.push(0);
-    assert_eq!(answer(&image), (29, 133_587));
-    image.resize(32_767, 0);
     assert_eq!(answer(&image), (29, 133_587));
 }
 
@@ -141,12 +153,12 @@ fn images_around_what_the_reader_looks_at() {
     // Each with the first bit after its code.
     let heads: [(&[u8], usize); 4] = [
         (&longest, 117_987),
-        (&other, 133_587),
+        (&other, 138_707),
         (&PAPER_IMAGE, 95),
         (&ONE_STOP, 35),
     ];
     let (mut images, mut expected) = (Vec::new(), Vec::new());
-    for length in [16_700, 32_767, 32_768, 32_769, 32_770, 40_000, 65_535] {
+    for length in [17_340, 32_767, 32_768, 32_769, 32_770, 40_000, 65_535] {
         for (head, end) in heads {
             expected.extend([(29, end); 3]);
             let mut image = head.to_vec();
@@ -326,6 +338,89 @@ fn starts_are_judged_by_the_row_for_the_node_itself() {
     }
 }
 
+// Outs to a set.
+
+/// One address in this format, and one instruction, of these bits.
+fn one_instruction(format: u8, code: &str) -> Vec<u8> {
+    let head = format!("{format:04b} 00001 0000000001 0 0000 000 00000");
+    bits(&format!("{head} {code}"))
+}
+
+/// With any members, and where the bits end after it or go on.
+#[test]
+fn action_7_is_25_in_format_1_alone() {
+    let (mut images, mut expected) = (Vec::new(), Vec::new());
+    for set in ["0000000000000000", "1000000000000000"] {
+        for format in FORMATS {
+            images.push(one_instruction(
+                format,
+                &format!("111 {set} 00 010 000000000"),
+            ));
+            expected.push(if format == SINGLE_ROW {
+                (25, 32)
+            } else {
+                ACCEPTED
+            });
+        }
+    }
+    images.push(one_instruction(1, "111"));
+    expected.push((25, 32));
+    images.push(one_instruction(2, "111"));
+    expected.push((28, 35));
+    assert_eq!(answers(&images), expected);
+}
+
+/// Each address alone and beside those below the count, at each count: 23 at
+/// the first of the 16 bits.
+#[test]
+fn members_lie_below_the_count() {
+    let (mut images, mut expected) = (Vec::new(), Vec::new());
+    for count in 1..=16u8 {
+        for member in 0..16 {
+            let below = (0..count).chain([member]).collect::<Vec<_>>();
+            for members in [&[member][..], &below] {
+                let mut net = in_format_2(stops(count, 1));
+                net.code[0] = out_to_set(members, &[TemplateField::Own], 0);
+                let (image, fields) = write_with_fields(&net);
+                let set = fields.iter().find(|field| field.sort == Sort::Members);
+                let bit = set.expect("there is a set").first_bit;
+                images.push(image);
+                expected.push(if member < count { ACCEPTED } else { (23, bit) });
+            }
+        }
+    }
+    assert_eq!(answers(&images), expected);
+}
+
+/// A start needs o at each member in its node's row for itself.
+#[test]
+fn starts_are_judged_at_each_member() {
+    let code = [out_to_set(
+        &(0..16).collect::<Vec<_>>(),
+        &[TemplateField::Own],
+        1,
+    )];
+    let mut all = in_format_2(net(16, &code));
+    (0..16).for_each(|over| grant_from(&mut all, 0, 0, over, PUT));
+    assert_accepted(&write_image(&all), &all);
+    let without = |over: usize| {
+        let mut net = all.clone();
+        (0..16).for_each(|origin| grant_from(&mut net, 0, origin, over, PUT));
+        let others = Rights {
+            put: false,
+            ..Rights::ALL
+        };
+        grant_from(&mut net, 0, 0, over, others);
+        write_image(&net)
+    };
+    let found = answers(&(0..16).map(without).collect::<Vec<_>>());
+    assert_eq!(found, [(30, 19 + 256 * 65 + 3); 16]);
+    let mut none = in_format_2(net(16, &[out_to_set(&[], &[TemplateField::Own], 1)]));
+    assert_accepted(&write_image(&none), &none);
+    none.code[1] = new(0, 1);
+    assert_eq!(answer(&write_image(&none)), (30, 19 + 256 * 65 + 3));
+}
+
 // Neighbours of accepted images.
 
 #[test]
@@ -440,6 +535,31 @@ fn images_with_barred_starts() {
     let met = compare_many(106, 2_000, |random| write_image(&image_net(random)));
     let (count, bits) = (met.counts[30], met.bits[30].len());
     assert!(count > 1_000 && bits > 100, "{count} at {bits} bits");
+}
+
+/// Of nets with many outs to a set, accepted.
+#[test]
+fn images_with_sets() {
+    let met = compare_many(107, 1_000, |random| write_image(&set_image_net(random)));
+    assert_eq!(met.counts[0], 1_000);
+}
+
+/// The same damaged: 23 is met often, where one of these is cut so is 28, and
+/// in format 1 an action 7 is 25.
+#[test]
+fn damaged_images_with_sets() {
+    let met = compare_many(108, 4_000, |random| {
+        let net = set_image_net(random);
+        damaged(random, net)
+    });
+    let counts = met.counts;
+    assert!(met.formats[0] > 100, "{:?}", met.formats);
+    assert!(
+        [22, 23, 24, 25, 26, 28, 29]
+            .iter()
+            .all(|number| counts[*number] > 30),
+        "{counts:?}"
+    );
 }
 
 /// More than 20,000 of each format, most of them refused. Every number is met

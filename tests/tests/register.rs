@@ -1,10 +1,14 @@
 //! The program `register` beside the model: its whole output in many
 //! directories, byte for byte, with images of both formats.
 
-use cavindorum_tests::by_hand::{longest, longest_of_format_2, PAPER_IMAGE};
+use cavindorum_tests::by_hand::{
+    fill, grant_from, in_format_2, longest, longest_of_format_2, net, out_to_set, readings,
+    PAPER_IMAGE, PUT,
+};
 use cavindorum_tests::faulty::faulty_images;
-use cavindorum_tests::generate::{by_origin_net, damaged_image, picks, valid_image};
+use cavindorum_tests::generate::{by_origin_net, damaged_image, picks, set_image_net, valid_image};
 use cavindorum_tests::image::{read_image, write_image};
+use cavindorum_tests::net::TemplateField;
 use cavindorum_tests::program::{on_two_threads, print_register, TestDirectory};
 use cavindorum_tests::random::Random;
 use cavindorum_tests::register::{answers_in, register, MOST_PICKS};
@@ -137,7 +141,7 @@ fn long_images() {
     let run = picks(&mut random, &longest[0], 500);
     let longest = longest.map(|net| write_image(&net));
     // Each with the first bit after its code.
-    let ends = [117_987, 133_587];
+    let ends = [117_987, 138_707];
     for (image, end) in longest.iter().zip(ends) {
         let cut = &image[..image.len() - 1];
         let registers = compare_all(&[files(image, &run), files(cut, &run)]);
@@ -148,7 +152,7 @@ fn long_images() {
     let paper = PAPER_IMAGE.to_vec();
     for (image, end) in longest.iter().zip(ends).chain([(&paper, 95)]) {
         let longer = [
-            14_750, 16_384, 16_385, 16_700, 20_000, 32_768, 70_000, 1_000_000,
+            14_750, 16_384, 16_385, 17_340, 20_000, 32_768, 70_000, 1_000_000,
         ];
         let lengths = longer.into_iter().filter(|length| *length > image.len());
         let all = lengths.map(|length| {
@@ -255,6 +259,44 @@ fn accepted_images_in_which_origins_matter() {
         .collect();
     let met = answers_met(&compare_all(&all));
     assert!([0, 4, 5].iter().all(|answer| met[*answer] > 500), "{met:?}");
+}
+
+/// Tuples are put to sets: all of it shows in the tuple lines and the total.
+#[test]
+fn accepted_images_with_sets() {
+    let mut random = Random::new(307);
+    let all: Vec<_> = (0..300)
+        .map(|_| {
+            let net = set_image_net(&mut random);
+            let picks = picks(&mut random, &net, 100);
+            files(&write_image(&net), &picks)
+        })
+        .collect();
+    let met = answers_met(&compare_all(&all));
+    assert!([0, 3, 6].iter().all(|answer| met[*answer] > 500), "{met:?}");
+}
+
+/// An out to the set of both addresses is counted twice, the empty set not at
+/// all; with one store full nothing is put.
+#[test]
+fn the_total_counts_each_member() {
+    let field = [TemplateField::Reading(5)];
+    let code = [out_to_set(&[], &field, 1), out_to_set(&[0, 1], &field, 0)];
+    let mut net = in_format_2(net(2, &code));
+    (0..2).for_each(|over| grant_from(&mut net, 0, 0, over, PUT));
+    fill(&mut net, 1, &[readings(&[7]); 15]);
+    let image = write_image(&net);
+    let all: Vec<_> = (0..5).map(|made| files(&image, &vec![0; made])).collect();
+    let registers = compare_all(&all);
+    for (register, total) in registers.iter().zip([15, 15, 17, 17, 17]) {
+        assert!(
+            register.ends_with(&format!("\ntotal {total}\n")),
+            "{register}"
+        );
+    }
+    assert_eq!(answers_in(&registers[4]), [0, 0, 0, 3]);
+    let tuples = "tuple 0 5 from 0\nnode 1 16 0\n";
+    assert!(registers[4].contains(tuples), "{}", registers[4]);
 }
 
 #[test]

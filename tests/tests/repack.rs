@@ -1,9 +1,9 @@
 //! The proved writer beside the model's: `repack` reads an image of either
 //! format and writes its net as an image again.
 
-use cavindorum_tests::by_hand::{longest, longest_of_format_2};
+use cavindorum_tests::by_hand::{longest, longest_of_format_2, longest_without_sets};
 use cavindorum_tests::examples::examples;
-use cavindorum_tests::generate::{damaged_image, valid_image};
+use cavindorum_tests::generate::{damaged, damaged_image, set_image_net, valid_image};
 use cavindorum_tests::image::{read_image, write_image};
 use cavindorum_tests::program::{printed_by, TestDirectory};
 use cavindorum_tests::random::Random;
@@ -27,6 +27,16 @@ fn random_nets() {
     }
 }
 
+/// With outs to a set, of all members and of none.
+#[test]
+fn nets_with_sets() {
+    let mut random = Random::new(0x5EED_0206);
+    for _ in 0..300 {
+        let image = write_image(&set_image_net(&mut random));
+        assert!(repacked(&image) == image, "{image:02X?}");
+    }
+}
+
 /// The examples' images are those that the proved writer makes.
 #[test]
 fn the_examples() {
@@ -39,7 +49,11 @@ fn the_examples() {
 /// The longest image there is of each format.
 #[test]
 fn the_longest_images() {
-    for (net, length) in [(longest(), 14_749), (longest_of_format_2(), 16_699)] {
+    for (net, length) in [
+        (longest(), 14_749),
+        (longest_without_sets(), 16_699),
+        (longest_of_format_2(), 17_339),
+    ] {
         let image = write_image(&net);
         assert_eq!(image.len(), length);
         assert!(repacked(&image) == image);
@@ -50,8 +64,14 @@ fn the_longest_images() {
 #[test]
 fn refused_images() {
     let mut random = Random::new(0x5EED_0106);
-    for _ in 0..300 {
-        let image = damaged_image(&mut random);
+    for index in 0..400 {
+        let image = match index % 4 {
+            0 => {
+                let net = set_image_net(&mut random);
+                damaged(&mut random, net)
+            }
+            _ => damaged_image(&mut random),
+        };
         let expected = if read_image(&image).is_ok() {
             image.clone()
         } else {

@@ -14,11 +14,13 @@ pub struct Work {
     pub picks: Vec<u8>,
 }
 
-/// What is timed: each in format 1, and three of them in format 2 as well.
-pub fn all() -> [Work; 7] {
+/// What is timed: each in format 1, three of them in format 2 as well, and
+/// outs to a set, which format 2 alone knows.
+pub fn all() -> [Work; 8] {
     [
         communication(),
         in_2("communication, format 2", communication()),
+        communication_by_sets(),
         refused(),
         in_2("refused, format 2", refused()),
         evals(),
@@ -97,6 +99,36 @@ pub fn communication() -> Work {
         fill(&mut net, at, &[readings(&[1, 2, 3]); 6]);
     }
     work("communication", &net, performing(&net))
+}
+
+/// In format 2 four processes at each of four addresses put a tuple to the
+/// next two addresses at once, read it at the first and take it again at both,
+/// beside six tuples that do not fit. Every pick performs.
+pub fn communication_by_sets() -> Work {
+    let mut net = in_format_2(stops(ADDRESS_COUNT as u8, 4 * ADDRESS_COUNT as u16));
+    for at in 0..ADDRESS_COUNT {
+        let members = [1, 2].map(|further| ((at + further) % ADDRESS_COUNT) as u8);
+        let [first, second] = members.map(written);
+        let place = 4 * at as u16;
+        let put = [TemplateField::Reading(at as i32), TemplateField::Own];
+        let code = [
+            out_to_set(&members, &put, place + 1),
+            read(first, &[READING, ADDRESS], place + 2),
+            take(first, &put, place + 3),
+            take(second, &put, place),
+        ];
+        net.code[4 * at..4 * at + 4].copy_from_slice(&code);
+        net.nodes[at].processes = [starting(4 * at, at); SLOTS];
+        let rights = Rights {
+            send: false,
+            ..Rights::ALL
+        };
+        members
+            .iter()
+            .for_each(|member| grant(&mut net, at, (*member).into(), rights));
+        fill(&mut net, at, &[readings(&[1, 2, 3]); 6]);
+    }
+    work("communication, sets", &net, performing(&net))
 }
 
 /// Full nodes, where an in finds nothing that fits (2), an out no room (3),

@@ -8,7 +8,9 @@ use cavindorum_tests::by_hand::{longest, longest_of_format_2, PAPER_IMAGE};
 use cavindorum_tests::edges::edges;
 use cavindorum_tests::examples::{damaged, examples};
 use cavindorum_tests::faulty::faulty_images;
-use cavindorum_tests::generate::{by_origin_net, damaged_image, picks, valid_image};
+use cavindorum_tests::generate::{
+    by_origin_net, damaged, damaged_image, picks, set_image_net, valid_image,
+};
 use cavindorum_tests::image::{answer, read_image, write_image};
 use cavindorum_tests::net::{Net, Row};
 use cavindorum_tests::notation::edges::{chain, edges as text_edges};
@@ -150,7 +152,7 @@ fn the_examples() {
 fn long_images_and_long_lists() {
     let [longest, other] = [longest(), longest_of_format_2()].map(|net| write_image(&net));
     for length in [
-        14_749, 14_750, 16_384, 16_698, 16_699, 16_700, 40_000, 1_000_000,
+        14_749, 14_750, 16_384, 17_338, 17_339, 17_340, 40_000, 1_000_000,
     ] {
         for head in [&longest[..], &other, &PAPER_IMAGE] {
             let mut image = head.to_vec();
@@ -190,6 +192,20 @@ fn random_images_in_which_origins_matter() {
         let net = by_origin_net(&mut random);
         let list = picks(&mut random, &net, 100);
         IMAGE.compare(&write_image(&net), &list);
+    }
+}
+
+/// Of format 2, with outs to a set.
+#[test]
+fn random_images_with_sets() {
+    let mut random = Random::new(606);
+    for _ in 0..300 {
+        let net = set_image_net(&mut random);
+        let list = picks(&mut random, &net, 100);
+        IMAGE.compare(&write_image(&net), &list);
+        let image = damaged(&mut random, net);
+        IMAGE.compare(&image, &list);
+        compare_place(&image);
     }
 }
 

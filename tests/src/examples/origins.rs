@@ -102,19 +102,29 @@ impl Example {
     // The rows of a net of format 2 and its other lines, for the README.
     pub(super) fn about_rows(&self) -> String {
         let (rows, notation) = (table_of_rows(&self.net, 0), self.notation);
+        let sets = match notation.contains("@{") {
+            true => {
+                ", where braces hold the members of a set, which the notation does not know yet"
+            }
+            false => "",
+        };
         format!(
             "`net.bin` holds it as an image of format 2. The planners' notation has no rows by origin yet, so \
              there is no `net.txt`. The rows, where a row that is not here holds nothing:\n\n\
              {rows}\n\
-             The rest in the planners' notation:\n\n\
+             The rest in the planners' notation{sets}:\n\n\
              ```\n{notation}```\n\n"
         )
     }
 
-    // The rows of the creator and of the address that it opened.
+    // The rows of the creator and of the address that it opened, if it opened
+    // one.
     pub(super) fn about_rows_after(&self) -> String {
         let after = self.net_after();
         let created = self.net.address_count;
+        if after.address_count == created {
+            return String::new();
+        }
         let rows = table_of_rows(&after, created as usize - 1);
         format!(
             "## The rows at the end\n\n\

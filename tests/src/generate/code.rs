@@ -2,7 +2,7 @@
 //! another, templates mostly have one of a few shapes, and variables are
 //! mostly used after instructions that set them.
 
-use super::{address, field_count, place, reading};
+use super::{address, field_count, place, reading, set};
 use crate::net::*;
 use crate::random::Random;
 
@@ -20,6 +20,7 @@ pub struct Shape(Vec<Kind>);
 /// What the code and tuples of one net have in common.
 #[derive(Clone, Debug)]
 pub struct Style {
+    format: u8,
     pub count: u8,
     pub length: u16,
     shapes: Vec<Shape>,
@@ -39,12 +40,14 @@ fn shape(random: &mut Random) -> Shape {
 }
 
 impl Style {
-    pub fn new(random: &mut Random, count: u8, length: u16) -> Style {
+    /// For a net with this format and these counts.
+    pub fn new(random: &mut Random, net: &Net) -> Style {
         let mut shapes = vec![Shape(vec![Kind::Address]), Shape(vec![Kind::Reading])];
         shapes.extend((0..random.below(3)).map(|_| shape(random)));
         Style {
-            count,
-            length,
+            format: net.format,
+            count: net.address_count,
+            length: net.code_length,
             shapes,
         }
     }
@@ -92,7 +95,7 @@ impl CodeWriter<'_> {
     pub fn instruction(&mut self, at: u16) -> Instruction {
         match self.random.below(26) {
             0 | 1 => Instruction::STOP,
-            2..=9 => self.out(at),
+            2..=9 => self.put(at),
             10..=18 => self.in_or_read(at),
             19..=21 => self.eval(at),
             22 | 23 => self.new_address(at),
@@ -100,13 +103,28 @@ impl CodeWriter<'_> {
         }
     }
 
-    /// An out, without formals.
-    pub fn out(&mut self, at: u16) -> Instruction {
+    /// An out, in format 2 often one to a set, without formals.
+    pub fn put(&mut self, at: u16) -> Instruction {
+        if self.style.format == ROW_BY_ORIGIN && self.random.percent(40) {
+            return self.out_to_set(at);
+        }
         let target = self.target();
-        let shape = self.style.shape(self.random);
-        let fields: Vec<TemplateField> = shape.0.iter().map(|kind| self.actual(*kind)).collect();
+        let fields = self.actuals();
         let next = self.follow(at);
         Instruction::with(Action::Out { target, next }, &fields)
+    }
+
+    fn out_to_set(&mut self, at: u16) -> Instruction {
+        let members = set(self.random, self.style.count);
+        let fields = self.actuals();
+        let next = self.follow(at);
+        Instruction::with(Action::OutToSet { members, next }, &fields)
+    }
+
+    // The fields of an out.
+    fn actuals(&mut self) -> Vec<TemplateField> {
+        let shape = self.style.shape(self.random);
+        shape.0.iter().map(|kind| self.actual(*kind)).collect()
     }
 
     /// An in or a read, no variable formal twice.

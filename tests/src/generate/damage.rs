@@ -1,7 +1,7 @@
 //! Damaged images and damaged nets.
 
 use super::code::{CodeWriter, Style};
-use super::{image_net, net_after_picks, rows_for, sound_net, valid_net};
+use super::{image_net, net_after_picks, rows_for, set, sound_net, valid_net, whole};
 use crate::bits::{patch, FieldAt, Sort};
 use crate::image::write_with_fields;
 use crate::net::*;
@@ -9,7 +9,12 @@ use crate::random::Random;
 
 /// An image damaged in one or two ways; now and then it is still accepted.
 pub fn damaged_image(random: &mut Random) -> Vec<u8> {
-    let mut net = valid_net(random);
+    let net = valid_net(random);
+    damaged(random, net)
+}
+
+/// The image of this net, damaged so.
+pub fn damaged(random: &mut Random, mut net: Net) -> Vec<u8> {
     if random.percent(25) {
         damage_records(random, &mut net);
         if random.percent(70) {
@@ -58,8 +63,8 @@ fn formal_of(random: &mut Random, variable: u8) -> TemplateField {
 }
 
 fn out_with_formal(random: &mut Random, net: &Net, at: u16) -> Instruction {
-    let style = Style::new(random, net.address_count, net.code_length);
-    let mut instruction = CodeWriter::new(random, &style).out(at);
+    let style = Style::new(random, net);
+    let mut instruction = CodeWriter::new(random, &style).put(at);
     let index = random.below(instruction.count as usize);
     let variable = random.below(VARIABLES) as u8;
     instruction.fields[index] = formal_of(random, variable);
@@ -67,7 +72,7 @@ fn out_with_formal(random: &mut Random, net: &Net, at: u16) -> Instruction {
 }
 
 fn formal_twice(random: &mut Random, net: &Net, at: u16) -> Instruction {
-    let style = Style::new(random, net.address_count, net.code_length);
+    let style = Style::new(random, net);
     let mut instruction = CodeWriter::new(random, &style).in_or_read(at);
     let fields = instruction.count.max(2);
     instruction.count = fields;
@@ -152,7 +157,9 @@ pub(super) fn bad_number(random: &mut Random, net: &Net, field: FieldAt) -> u32 
         Sort::TupleCount => random.between(17, 31) as u32,
         Sort::Address => past(random, any, net.address_count as usize, 16),
         Sort::Place => past(random, any, net.code_length as usize, 512),
-        Sort::Action => 7,
+        Sort::Action if net.format == SINGLE_ROW => 7,
+        Sort::Action => random.choose(&[7, any]),
+        Sort::Members => past_members(random, any, net.address_count),
         Sort::TargetKind => 3,
         Sort::FieldKind => random.choose(&[4, 5, 6, 7]),
         _ => any,
@@ -166,6 +173,18 @@ fn past(random: &mut Random, otherwise: u32, count: usize, bound: usize) -> u32 
         0 => count as u32,
         _ => random.between(count, bound - 1) as u32,
     }
+}
+
+// A set with a member from the count on, if there is one: mostly alone or
+// beside members below the count.
+fn past_members(random: &mut Random, otherwise: u32, count: u8) -> u32 {
+    if count as usize >= ADDRESSES {
+        return otherwise;
+    }
+    let past = Locality(random.between(count.into(), ADDRESSES - 1) as u8);
+    let below = whole(count).0;
+    let others = random.choose(&[0, 0, below, otherwise as u16 & below, otherwise as u16]);
+    u32::from(Set::of([past]).0 | others)
 }
 
 /// A net for testing soundness: a sound one, then possibly one record
@@ -186,7 +205,7 @@ pub fn random_net(random: &mut Random) -> Net {
 
 /// Changes one record of a net at random; it may stay sound.
 pub fn change_record(random: &mut Random, net: &mut Net) {
-    match random.below(22) {
+    match random.below(24) {
         0 => net.address_count = wild_count(random, net.address_count as usize, 16) as u8,
         1 => net.code_length = wild_count(random, net.code_length as usize, 512) as u16,
         2..=4 => change_row(random, net),
@@ -194,6 +213,7 @@ pub fn change_record(random: &mut Random, net: &mut Net) {
         9..=12 => change_tuples(random, net),
         13 => net.format = wild_format(random),
         14 => change_row(random, net),
+        15 | 16 => change_set(random, net),
         _ => change_code(random, net),
     }
 }
@@ -300,6 +320,24 @@ fn change_code(random: &mut Random, net: &mut Net) {
     }
 }
 
+// Makes an instruction one to a set, or gives it another; an out keeps its
+// template.
+fn change_set(random: &mut Random, net: &mut Net) {
+    let members = wild_set(random, net);
+    let index = any_instruction(random, net);
+    let instruction = &mut net.code[index];
+    match instruction.action {
+        Action::Out { next, .. } | Action::OutToSet { next, .. } => {
+            instruction.action = Action::OutToSet { members, next };
+        }
+        _ => {
+            let next = Place(0);
+            let action = Action::OutToSet { members, next };
+            *instruction = Instruction::with(action, &[TemplateField::Own]);
+        }
+    }
+}
+
 // Numbers in range, just out of it, or far out.
 
 fn wild_number(random: &mut Random, count: u16, bound: u16) -> u16 {
@@ -361,11 +399,22 @@ fn wild_target(random: &mut Random, net: &Net) -> Target {
     }
 }
 
+// Members in range, one of them out of it, or any.
+fn wild_set(random: &mut Random, net: &Net) -> Set {
+    let count = net.address_count.clamp(1, ADDRESSES as u8);
+    let any = random.number() as u32;
+    match random.below(10) {
+        0..=4 => set(random, count),
+        5..=8 => Set(past_members(random, any, count) as u16),
+        _ => Set(any as u16),
+    }
+}
+
 fn wild_action(random: &mut Random, net: &Net) -> Action {
     let target = wild_target(random, net);
     let next = wild_place(random, net);
     let other = wild_place(random, net);
-    match random.below(7) {
+    match random.below(8) {
         0 => Action::Stop,
         1 => Action::Out { target, next },
         2 => Action::In { target, next },
@@ -377,6 +426,10 @@ fn wild_action(random: &mut Random, net: &Net) -> Action {
         },
         5 => Action::New {
             variable: wild_variable(random),
+            next,
+        },
+        6 => Action::OutToSet {
+            members: wild_set(random, net),
             next,
         },
         _ => Action::Fork {

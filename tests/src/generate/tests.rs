@@ -96,7 +96,7 @@ fn expected(sort: Sort) -> Option<u8> {
         Sort::Format => Some(21),
         Sort::AddressCount | Sort::CodeLength => Some(22),
         Sort::ProcessCount | Sort::TupleCount => Some(22),
-        Sort::Address => Some(23),
+        Sort::Address | Sort::Members => Some(23),
         Sort::Place => Some(24),
         Sort::Action | Sort::TargetKind | Sort::FieldKind => Some(25),
         _ => None,
@@ -106,7 +106,8 @@ fn expected(sort: Sort) -> Option<u8> {
 // Whether the sort has numbers out of range in this net.
 fn has_bad(net: &Net, sort: Sort) -> bool {
     match sort {
-        Sort::Address => net.address_count < 16,
+        Sort::Address | Sort::Members => net.address_count < 16,
+        Sort::Action => net.format == SINGLE_ROW,
         Sort::Place => net.code_length < 512,
         _ => expected(sort).is_some(),
     }
@@ -246,6 +247,67 @@ fn random_nets_are_not_sound_by_their_rows() {
         }
     }
     assert!(met.iter().all(|count| *count > 40), "{met:?}");
+}
+
+// The outs to a set in the code of a net.
+fn sets(net: &Net) -> impl Iterator<Item = Set> + '_ {
+    net.code.iter().filter_map(|one| match one.action {
+        Action::OutToSet { members, .. } => Some(members),
+        _ => None,
+    })
+}
+
+/// In format 2 alone; empty, of all addresses, and others.
+#[test]
+fn image_nets_have_sets_of_all_sizes() {
+    let mut random = Random::new(37);
+    let mut met = [0; 3];
+    for _ in 0..1000 {
+        assert_eq!(sets(&image_net_of(&mut random, SINGLE_ROW)).count(), 0);
+        let net = image_net_of(&mut random, ROW_BY_ORIGIN);
+        for set in sets(&net) {
+            let all = set == whole(net.address_count);
+            let kind = if set == Set::EMPTY {
+                0
+            } else {
+                1 + all as usize
+            };
+            met[kind] += 1;
+        }
+    }
+    assert!(met.iter().all(|count| *count > 200), "{met:?}");
+}
+
+// The same net without what is wrong in its sets: in format 2 their members
+// below the count alone, otherwise outs at self.
+fn with_right_sets(net: &Net) -> Net {
+    let (mut net, target) = (net.clone(), Target::Own);
+    let below = whole(net.address_count.min(16)).0;
+    for instruction in net.code.iter_mut() {
+        if let Action::OutToSet { members, next } = instruction.action {
+            let members = Set(members.0 & below);
+            instruction.action = match net.format {
+                ROW_BY_ORIGIN => Action::OutToSet { members, next },
+                _ => Action::Out { target, next },
+            };
+        }
+    }
+    net
+}
+
+/// Some nets are not sound by this alone: a set in format 1, a member not
+/// below the count in format 2.
+#[test]
+fn random_nets_are_not_sound_by_their_sets() {
+    let mut random = Random::new(38);
+    let mut met = [0; 2];
+    for _ in 0..6000 {
+        let net = random_net(&mut random);
+        if !sound(&net) && sound(&with_right_sets(&net)) {
+            met[net.format as usize - 1] += 1;
+        }
+    }
+    assert!(met.iter().all(|count| *count > 30), "{met:?}");
 }
 
 /// Those of format 1 and those of format 2 are damaged alike.
@@ -403,13 +465,14 @@ fn action_name(net: &Net, byte: u8) -> usize {
         Action::Eval { .. } => 4,
         Action::New { .. } => 5,
         Action::Fork { .. } => 6,
+        Action::OutToSet { .. } => 7,
     }
 }
 
 #[test]
 fn runs_from_images_perform_every_action() {
     let mut random = Random::new(13);
-    let mut performed = [0; 7];
+    let mut performed = [0; 8];
     for _ in 0..2000 {
         let mut net = valid_net(&mut random);
         for byte in picks(&mut random, &net, 60) {

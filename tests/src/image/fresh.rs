@@ -1,6 +1,7 @@
 //! Which nets an accepted image gives, so that they can be written as one
 //! (document 02, slip 13 for the number; slip 8 for the marks;
-//! slip 10 for the origins).
+//! slip 10 for the origins; slip 11 for the sets, of which it knows as soundness
+//! does).
 
 use super::starts_keep_within;
 use crate::net::*;
@@ -137,6 +138,25 @@ mod tests {
         let mut net = in_format_2(small());
         net.nodes[0].rows[2].create = true;
         assert_eq!(image_of(&net), REFUSED);
+    }
+
+    /// A net with sets has an image in format 2, and what they put leaves
+    /// foreign marks but at the host itself.
+    #[test]
+    fn a_net_with_sets() {
+        for (members, own) in [(&[][..], true), (&[0], true), (&[0, 1], false)] {
+            let code = [out_to_set(members, &[TemplateField::Own], 1)];
+            let mut net = in_format_2(net(2, &code));
+            (0..2).for_each(|over| grant_from(&mut net, 0, 0, over, PUT));
+            let image = image_of(&net).expect("it is fresh");
+            assert_eq!(read_image(&image).as_ref(), Ok(&net));
+            let mut single = net.clone();
+            single.format = SINGLE_ROW;
+            single.each_row(0, |row| *row = Row::ALL);
+            assert_eq!(image_of(&single), REFUSED);
+            assert_eq!(pick(&mut net, 0), 0);
+            assert_eq!(image_of(&net).is_ok(), own);
+        }
     }
 
     #[test]

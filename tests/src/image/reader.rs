@@ -1,6 +1,6 @@
 //! Reading an image field by field (document 01, "The image" and "Numbers for
-//! an image"; document 02, slips 2 and 10). Each field knows the bit at which
-//! it begins, and a fault carries that of the field at fault.
+//! an image"; document 02, slips 2, 10 and 11). Each field knows the bit at
+//! which it begins, and a fault carries that of the field at fault.
 
 use super::*;
 use crate::bits::BitReader;
@@ -237,6 +237,7 @@ impl ImageReader<'_> {
             4 => self.eval()?,
             5 => self.new_address()?,
             6 => self.fork()?,
+            7 if self.net.format == ROW_BY_ORIGIN => return self.out_to_set(),
             _ => return Err(opening.fault(UNKNOWN_KIND)),
         };
         Ok(Instruction::plain(action))
@@ -249,13 +250,37 @@ impl ImageReader<'_> {
         action: fn(Target, Place) -> Action,
     ) -> Result<Instruction, Fault> {
         let target = self.target()?;
-        let count = self.field_count()? as usize;
-        let mut fields = [TemplateField::Reading(0); FIELDS];
-        for index in 0..count {
-            fields[index] = self.template_field(is_out, &fields[..index])?;
-        }
+        let fields = self.template(is_out)?;
         let next = self.place()?;
-        Ok(Instruction::with(action(target, next), &fields[..count]))
+        Ok(Instruction::with(action(target, next), &fields))
+    }
+
+    // Members, field count, fields, next place.
+    fn out_to_set(&mut self) -> Result<Instruction, Fault> {
+        let members = self.members()?;
+        let fields = self.template(true)?;
+        let next = self.place()?;
+        let action = Action::OutToSet { members, next };
+        Ok(Instruction::with(action, &fields))
+    }
+
+    // The 16 bits are one field, at fault for any member not below the count.
+    fn members(&mut self) -> Result<Set, Fault> {
+        let members = self.field(16)?;
+        let set = Set(members.number as u16);
+        let count = self.net.address_count;
+        let right = set.members().all(|member| member.0 < count);
+        members.judged(right, ADDRESS_OUT_OF_RANGE)?;
+        Ok(set)
+    }
+
+    // Field count and fields.
+    fn template(&mut self, is_out: bool) -> Result<Vec<TemplateField>, Fault> {
+        let mut fields = Vec::new();
+        for _ in 0..self.field_count()? {
+            fields.push(self.template_field(is_out, &fields)?);
+        }
+        Ok(fields)
     }
 
     fn target(&mut self) -> Result<Target, Fault> {

@@ -1,5 +1,5 @@
 //! Writing an image field by field (document 01, "The image"; document 02,
-//! slip 10).
+//! slips 10 and 11).
 
 use crate::bits::{BitWriter, FieldAt, Sort};
 use crate::net::*;
@@ -126,6 +126,7 @@ impl ImageWriter {
             Action::Eval { target, sent, next } => self.eval(target, sent, next),
             Action::New { variable, next } => self.new_address(variable, next),
             Action::Fork { first, second } => self.fork(first, second),
+            Action::OutToSet { members, next } => self.out_to_set(members, instruction, next),
         }
     }
 
@@ -136,11 +137,22 @@ impl ImageWriter {
     fn with_template(&mut self, action: u32, target: Target, template: &Instruction, next: Place) {
         self.action(action);
         self.target(target);
+        self.template(template);
+        self.place(next);
+    }
+
+    fn out_to_set(&mut self, members: Set, template: &Instruction, next: Place) {
+        self.action(7);
+        self.bits.put(Sort::Members, 16, members.0.into());
+        self.template(template);
+        self.place(next);
+    }
+
+    fn template(&mut self, template: &Instruction) {
         self.field_count(template.count);
         for field in &template.fields[..template.count as usize] {
             self.template_field(field);
         }
-        self.place(next);
     }
 
     fn eval(&mut self, target: Target, sent: Place, next: Place) {

@@ -1,5 +1,5 @@
-//! Nets as failures show them: rights by their letters, and no record that is
-//! zero.
+//! Nets as failures show them: rights by their letters, sets by their members,
+//! and no record that is zero.
 
 use super::*;
 use std::fmt::{Debug, Formatter, Result};
@@ -28,6 +28,14 @@ impl Debug for Row {
             write!(out, " {over}:{rights:?}")?;
         }
         Ok(())
+    }
+}
+
+/// As document 02, slip 13, writes it.
+impl Debug for Set {
+    fn fmt(&self, out: &mut Formatter) -> Result {
+        let members: Vec<String> = self.members().map(|member| member.0.to_string()).collect();
+        write!(out, "{{{}}}", members.join(","))
     }
 }
 
@@ -84,6 +92,12 @@ mod tests {
         row.rights[0] = Rights { take: true, ..PUT };
         row.rights[15] = Rights::ALL;
         assert_eq!(format!("{row:?}"), "has n 0:io 15:iroe");
+    }
+
+    #[test]
+    fn sets_are_shown_by_their_members() {
+        assert_eq!(format!("{:?}", Set::EMPTY), "{}");
+        assert_eq!(format!("{:?}", Set(0xA001)), "{0,2,15}");
     }
 
     #[test]

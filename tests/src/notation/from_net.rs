@@ -39,6 +39,7 @@ fn process(instruction: &Instruction) -> Process {
         net::Action::Read { target, next } => (Action::Template(Verb::Read, fields, target), next),
         net::Action::Eval { target, sent, next } => (Action::Eval(named(sent), target), next),
         net::Action::New { variable, next } => (Action::New(variable), next),
+        net::Action::OutToSet { .. } => unreachable!("format 1 and texts know no sets"),
     };
     Process {
         actions: vec![action],

@@ -1,6 +1,7 @@
 //! Reaching, keeping within a row, and soundness.
 
 mod rows;
+mod sets;
 
 use super::*;
 use crate::by_hand::{self, eval, fork, new, read, take, PUT, READ, SEND, TAKE};

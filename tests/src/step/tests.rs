@@ -3,6 +3,7 @@
 mod marks;
 mod origins;
 mod rows;
+mod sets;
 
 use super::*;
 use crate::by_hand::*;

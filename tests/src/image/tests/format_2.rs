@@ -1,10 +1,12 @@
-//! Images of format 2: each node has a row for each address as origin.
+//! Images of format 2: each node has a row for each address as origin, and
+//! there are outs to a set.
 //!
 //! Of an image with two addresses the bits are: 19 the row of node 0 for
 //! origin 0, 28 that for origin 1, 37 and 46 those of node 1, 55 the process
 //! count of node 0.
 
 use super::*;
+use crate::bits::Sort;
 
 /// Two addresses, no process, no tuple and one stop, with these four rows.
 fn two(rows: [&str; 4]) -> Vec<u8> {
@@ -142,14 +144,22 @@ fn sixteen_addresses_have_256_rows() {
 }
 
 #[test]
-fn the_longest_image_has_16699_bytes() {
+fn the_longest_image_has_17339_bytes() {
     let net = longest_of_format_2();
     let mut bytes = write_image(&net);
+    assert_eq!(bytes.len(), 17_339);
+    assert_eq!(read_image(&bytes), Ok(net));
+    assert_eq!(answer(&bytes[..17_338]), (28, 117_978 + 15_600 + 5_120));
+    bytes.push(0);
+    assert_eq!(answer(&bytes), (29, 117_987 + 15_600 + 5_120));
+}
+
+#[test]
+fn the_longest_image_without_sets_has_16699_bytes() {
+    let net = longest_without_sets();
+    let bytes = write_image(&net);
     assert_eq!(bytes.len(), 16_699);
     assert_eq!(read_image(&bytes), Ok(net));
-    assert_eq!(answer(&bytes[..16_698]), (28, 117_978 + 15_600));
-    bytes.push(0);
-    assert_eq!(answer(&bytes), (29, 117_987 + 15_600));
 }
 
 /// As many bits in each part as an accepted image can have, added up.
@@ -158,9 +168,111 @@ fn no_image_is_longer() {
     let rows = 16 * 16 * (1 + 16 * 4);
     let processes = 16 * (3 + 4 * 9);
     let tuples = 16 * (5 + 16 * (2 + 4 * (1 + 32)));
-    let instruction = 3 + (2 + 4) + 2 + 4 * (3 + 32) + 9;
-    let bits: usize = 4 + 5 + 10 + rows + processes + tuples + 512 * instruction;
-    assert_eq!(bits.div_ceil(8), 16_699);
-    let of_format_1 = bits - 15 * 16 * (1 + 16 * 4);
+    let to_a_set = 3 + 16 + 2 + 4 * (3 + 32) + 9;
+    let bits: usize = 4 + 5 + 10 + rows + processes + tuples + 512 * to_a_set;
+    assert_eq!(bits.div_ceil(8), 17_339);
+    let of_format_1 = bits - 15 * 16 * (1 + 16 * 4) - 512 * 10;
     assert_eq!(of_format_1.div_ceil(8), 14_749);
+}
+
+// Outs to a set.
+
+/// One address and one instruction, of these bits, in this format.
+fn one(format: u8, code: &str) -> Vec<u8> {
+    bits(&format!(
+        "{format:04b} 00001 0000000001 0 0000 000 00000 {code}"
+    ))
+}
+
+/// The members, then what an out has after its target.
+#[test]
+fn an_out_to_a_set_is_read() {
+    let head = "0010 00011 0000000001 0 0010 0010 0010";
+    let none = "0 0000 0000 0000 ".repeat(8);
+    let rest = "001 000000000 000 000 00000 00000 00000";
+    let code = "111 1010000000000000 10 010 001 0010 011 111 000000000";
+    let image = bits(&format!("{head} {none} {rest} {code}"));
+    let mut net = in_format_2(stops(3, 1));
+    (0..3).for_each(|over| grant_from(&mut net, 0, 0, over, PUT));
+    net.nodes[0].processes[0] = Process::starting(Place(0), Locality(0));
+    let fields = [
+        TemplateField::Own,
+        TemplateField::Address(Locality(2)),
+        TemplateField::Variable(7),
+    ];
+    net.code[0] = out_to_set(&[0, 2], &fields, 0);
+    assert_eq!(read_image(&image), Ok(net.clone()));
+    assert_eq!(write_image(&net), image);
+}
+
+/// Whatever its members and what follows.
+#[test]
+fn action_7_in_format_1_is_25() {
+    for set in ["0000000000000000", "1000000000000000", "0100000000000000"] {
+        let code = format!("111 {set} 00 010 000000000");
+        assert_eq!(answer(&one(1, &code)), (25, 32));
+    }
+    assert_eq!(
+        answer(&one(2, "111 1000000000000000 00 010 000000000")),
+        ACCEPTED
+    );
+    assert_eq!(
+        answer(&one(2, "111 0000000000000000 00 010 000000000")),
+        ACCEPTED
+    );
+}
+
+/// Each set of one member, and all of them, at each count: the 16 bits are
+/// at fault together, from their first one on.
+#[test]
+fn a_member_not_below_the_count_is_23() {
+    for count in 1..=16u8 {
+        let mut net = in_format_2(stops(count, 1));
+        for member in 0..16 {
+            net.code[0] = out_to_set(&[member], &[TemplateField::Own], 0);
+            let (bytes, fields) = write_with_fields(&net);
+            let members = fields.iter().find(|field| field.sort == Sort::Members);
+            let bit = members.expect("there is a set").first_bit;
+            let expected = if member < count { ACCEPTED } else { (23, bit) };
+            assert_eq!(answer(&bytes), expected, "{member} of {count}");
+        }
+        let all: Vec<u8> = (0..count).collect();
+        net.code[0] = out_to_set(&all, &[TemplateField::Own], 0);
+        assert_eq!(read_image(&write_image(&net)), Ok(net));
+    }
+}
+
+/// The set is judged once its last bit is read.
+#[test]
+fn a_cut_set_is_28() {
+    let image = one(2, "111 0111111111111111 00 010 000000000");
+    assert_eq!(answer(&image[..6]), (28, 35));
+    assert_eq!(answer(&image[..7]), (23, 35));
+}
+
+/// Each member needs o in the node's row for itself, and none does where
+/// there is none.
+#[test]
+fn a_start_without_o_at_a_member_is_30() {
+    let mut net = in_format_2(net(3, &[out_to_set(&[0, 2], &[TemplateField::Own], 1)]));
+    (0..3).for_each(|origin| grant_from(&mut net, 0, origin, 2, PUT));
+    let bit = 19 + 9 * 13 + 3;
+    assert_eq!(answer(&write_image(&net)), (30, bit));
+    grant_from(&mut net, 0, 1, 0, PUT);
+    grant_from(&mut net, 0, 2, 0, PUT);
+    assert_eq!(answer(&write_image(&net)), (30, bit));
+    grant_from(&mut net, 0, 0, 0, PUT);
+    assert_eq!(answer(&write_image(&net)), ACCEPTED);
+    let others = Rights {
+        put: false,
+        ..Rights::ALL
+    };
+    grant_from(&mut net, 0, 0, 2, others);
+    assert_eq!(answer(&write_image(&net)), (30, bit));
+    net.code[0] = out_to_set(&[], &[TemplateField::Own], 1);
+    net.nodes[0].rows = Node::ZERO.rows;
+    assert_eq!(answer(&write_image(&net)), ACCEPTED);
+    // What comes after it is reached.
+    net.code[1] = new(0, 1);
+    assert_eq!(answer(&write_image(&net)), (30, bit));
 }
