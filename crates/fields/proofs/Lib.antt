@@ -1,4 +1,5 @@
 pub mod FieldLaws
 pub mod Long
+pub mod SetLaws
 pub mod TemplateLaws
 pub mod TupleLaws

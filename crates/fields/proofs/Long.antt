@@ -1,7 +1,8 @@
--- The readers of fields, targets and tuples do not go back, nor past the end of the text (`Long.antt` of the crate
+-- The readers of fields, targets, sets and tuples do not go back, nor past the end of the text (`Long.antt` of the crate
 -- `readers`). Assumes nothing.
 use Prim.Native.Nat.{ℕ, zero, suc}
 use mathlib.Core.Bool.{Bool}
+use mathlib.Core.List.{List}
 use Rattle.readers.specs.Reader.{Reader}
 use Rattle.readers.proofs.Long.{Long, Any}
 use Rattle.lexemes.proofs.Long.{goes-fail, onward}
@@ -11,6 +12,7 @@ use Rattle.fields.specs.Fields.{addressItem, readingItem, item, tupleFie
 use Rattle.fields.specs.Fields.{addressPattern, ownPattern, heldPattern, readingPattern, fresh, formalReading}
 use Rattle.fields.specs.Fields.{formalAddress, bound, formal, pattern, templateField, template}
 use Rattle.fields.specs.Fields.{ownTarget, heldTarget, writtenTarget, target}
+use Rattle.fields.specs.Sets.{memberFrom, members, listed, group}
 
 pub goes-address : (n : ℕ) → Long (address n) Any
 unfolding address
@@ -49,3 +51,12 @@ goes-pattern formals n c = search (onward, goes-address, goes-variable, goes-rea
 pub goes-template : (formals : Bool) (n : ℕ) → Long (template formals n) Any
 unfolding template
 goes-template formals n = search (onward, goes-fields, goes-pattern)
+
+goes-members : (k n low : ℕ) (marks : List Bool) → Long (members k n low marks) Any
+unfolding members memberFrom
+goes-members zero n low marks = goes-fail 31
+goes-members (suc k) n low marks = search (onward, goes-address, goes-members k) depth 8
+
+pub goes-group : (n : ℕ) → Long (group n) Any
+unfolding group listed
+goes-group n = search (onward, goes-members) depth 8

@@ -1,4 +1,4 @@
--- Fields, targets and tuples of the planners' notation (document 01, "The planners' notation"): n is the number of rows.
+-- Fields, targets and tuples of the planners' notation (document 01, "The planners' notation"): n is the number of addresses.
 use Prim.Native.Nat.{ℕ, zero, suc, _-_}
 use mathlib.Core.Bool.{Bool}
 use lib.Dec.{eqb, leb, ltb}

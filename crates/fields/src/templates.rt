@@ -1,4 +1,4 @@
-// Templates and targets of the planners' notation: n is the number of rows.
+// Templates and targets of the planners' notation: n is the number of addresses.
 use crate::values::VariableRead;
 use crate::values::read_address;
 use crate::values::read_at_address;

@@ -1,4 +1,4 @@
-// Tuples of the planners' notation: n is the number of rows.
+// Tuples of the planners' notation: n is the number of addresses.
 use crate::values::read_at_address;
 use crate::values::read_reading;
 use lexemes::words::byte_here;

@@ -1,4 +1,4 @@
-// Addresses, variables and readings of the planners' notation: n is the number of rows.
+// Addresses, variables and readings of the planners' notation: n is the number of addresses.
 use lexemes::numbers::read_number;
 use lexemes::words::byte_here;
 use lexemes::words::read_byte;
