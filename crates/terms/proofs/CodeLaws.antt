@@ -9,7 +9,7 @@ use Rattle.text.specs.Buffer.{over}
 use Rattle.text.specs.Joined.{joined}
 use Rattle.text.proofs.WritingLaws.{over-both}
 use Rattle.terms.specs.Types.{Instruction}
-use Rattle.terms.specs.Terms.{Process, Action, nil, name, fork, act, out, input, read, eval, newloc}
+use Rattle.terms.specs.Terms.{Process, Action, nil, name, fork, act, out, input, read, eval, newloc, outAll}
 use Rattle.terms.specs.Numbering.{size, sizeIn, startOf}
 use Rattle.terms.specs.Table.{startWord, templateWords, instructionWords, stopWords, actionWords, wordsOf, wordsIn}
 
@@ -25,6 +25,7 @@ length-action n (input c t) w = length-instruction _ _ c w 0
 length-action n (read c t) w = length-instruction _ _ c w 0
 length-action n (eval p t) w = length-instruction _ _ _ w _
 length-action n (newloc v) w = length-instruction _ _ _ w 0
+length-action n (outAll c g) w = length-instruction _ _ c w 0
 
 mutual
   unfolding wordsOf size stopWords wordsIn sizeIn
@@ -54,6 +55,7 @@ mutual
   length-in n (read c t) = refl
   length-in n (eval p t) = length-words n p
   length-in n (newloc v) = refl
+  length-in n (outAll c g) = refl
 
 pub length-action-in : (n : ℕ) (a : Action) (w : ℕ) → length (actionWords n a w ++ wordsIn (suc n) a) ≡ 9 * suc (sizeIn a)
 length-action-in n a w =

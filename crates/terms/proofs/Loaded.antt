@@ -12,12 +12,12 @@ use Rattle.net.specs.Records.{patternAt, zeroInstruction, zeroTemplateField, wi
 use Rattle.net.proofs.Laws.{choose-true, choose-false}
 use Rattle.text.specs.Joined.{joined}
 use Rattle.text.specs.Signed.{complementOf, signed}
-use Rattle.terms.specs.Types.{Place, Target, Pattern, TemplateField, Instruction}
+use Rattle.terms.specs.Types.{Place, Group, Target, Pattern, TemplateField, Instruction}
 use Rattle.terms.specs.Types as Types
-use Rattle.terms.specs.Terms.{Process, Action, nil, name, fork, act, out, input, read, eval, newloc}
+use Rattle.terms.specs.Terms.{Process, Action, nil, name, fork, act, out, input, read, eval, newloc, outAll}
 use Rattle.terms.specs.Numbering.{Start, startOf, size, sizeIn, instructionOf, forkOf, codeOf, codeIn}
 use Rattle.terms.specs.Table.{startWord, targetWord, patternWord, templateWords, instructionWords, stopWords, actionWords, wordsOf, wordsIn}
-use Rattle.terms.specs.Loading.{targetOf, patternOf, fieldOf, actionOf, loaded, fitsTarget, fitsReading, fitsPattern, FitsTemplate}
+use Rattle.terms.specs.Loading.{targetOf, patternOf, fieldOf, groupIn, actionOf, loaded, fitsTarget, fitsReading, fitsPattern, FitsTemplate}
 use Rattle.terms.specs.Loading.{loadedAll, fits, fitsIn, Resolves}
 use Rattle.terms.proofs.LoadingLaws.{target-written, target-own, target-held, pattern-reading, pattern-address, pattern-own, pattern-held}
 use Rattle.terms.proofs.LoadingLaws.{pattern-formal-reading, pattern-formal-address}
@@ -28,6 +28,10 @@ unfolding fitsTarget targetWord
 target-back (Target.Written l) h = sym (target-written (l .0) l h (omega arith))
 target-back Target.Own h = sym (target-own 256 (omega arith) (omega arith))
 target-back (Target.Held v) h = sym (target-held (512 + v) v (omega arith) (omega arith) (omega arith))
+
+pub group-back : (g : Group) → g .0 < 65536 → groupIn (g .0) ≡ g
+unfolding groupIn
+group-back g h = let low : g .0 % 65536 ≡ g .0 = omega arith in ap (λ (v : ℕ). record { 0 = v }) low
 
 signed-back : (x : ℤ) → fitsReading x → (complementOf x < 4294967296) × (x ≡ signed (complementOf x))
 unfolding fitsReading complementOf signed
@@ -113,6 +117,7 @@ module _ (resolve : ℕ → Place) (place : Start → Place) (r : Resolves resol
       ∙ rw (target-back t (h .1), e, start-back (suc n) p (h .0) b) refl
   action-back m n (newloc v) w q rest h b e =
       let low : v % 256 ≡ v = omega arith in step-back m 5 v zeroInstruction w 0 rest zero-fits ∙ rw (low, e) refl
+  action-back m n (outAll c g) w q rest h b e = step-back m 7 (g .0) c w 0 rest (h .0) ∙ rw (group-back g (h .1), e) refl
 
   stop-back : (m : ℕ) (rest : List ℕ) → loadedAll resolve (suc m) (stopWords ++ rest) ≡ zeroInstruction ∷ loadedAll resolve m rest
   unfolding stopWords withAction actionOf choose zeroInstruction
@@ -178,3 +183,4 @@ module _ (resolve : ℕ → Place) (place : Start → Place) (r : Resolves resol
     code-in-back n k (read c t) rest h b = ap (λ (m : ℕ). loadedAll resolve m rest) (none-and k)
     code-in-back n k (eval p t) rest h b = code-back n k p rest (h .0) b
     code-in-back n k (newloc v) rest h b = ap (λ (m : ℕ). loadedAll resolve m rest) (none-and k)
+    code-in-back n k (outAll c g) rest h b = ap (λ (m : ℕ). loadedAll resolve m rest) (none-and k)

@@ -10,8 +10,8 @@ use Rattle.net.specs.Choice.{choose}
 use Rattle.net.specs.Records.{addressOf}
 use Rattle.net.proofs.Laws.{choose-true, choose-false}
 use Rattle.text.specs.Signed.{signed}
-use Rattle.terms.specs.Types.{Locality, Place, Target, Pattern, TemplateField, Action, Instruction}
-use Rattle.terms.specs.Loading.{targetOf, patternOf, fieldOf, actionOf, Other, templated, loaded, loadedAt}
+use Rattle.terms.specs.Types.{Locality, Place, Group, Target, Pattern, TemplateField, Action, Instruction}
+use Rattle.terms.specs.Loading.{targetOf, patternOf, fieldOf, groupIn, actionOf, Other, templated, loaded, loadedAt}
 
 -- ---- past the end of a table
 pub past-table : {A : Type 0} (xs : List A) (k : ℕ) (d : A) → length xs ≤ k → d ≡ getD xs k d
@@ -103,10 +103,15 @@ module _ (kind w : ℕ) (p q : Place) where
   unfolding actionOf choose
   action-fork e = rw e refl
 
-  pub action-stop : Other kind → (kind ≡ 5 → ⊥) → (kind ≡ 6 → ⊥) → Action.Stop ≡ actionOf kind w p q
+  pub action-out-all : (g : Group) → g .0 ≡ w % 65536 → kind ≡ 7 → Action.OutAll g p ≡ actionOf kind w p q
+  unfolding actionOf choose groupIn
+  action-out-all g d e = rw e (ap (λ (v : ℕ). Action.OutAll (record { 0 = v }) p) d)
+
+  pub action-stop : Other kind → (kind ≡ 5 → ⊥) → (kind ≡ 6 → ⊥) → (kind ≡ 7 → ⊥) → Action.Stop ≡ actionOf kind w p q
   unfolding actionOf choose
-  action-stop o e f =
-      rw (ne-eqb kind 1 (o .out), ne-eqb kind 2 (o .input), ne-eqb kind 3 (o .read), ne-eqb kind 4 (o .eval), ne-eqb kind 5 e, ne-eqb kind 6 f) refl
+  action-stop o e f g =
+      rw (ne-eqb kind 1 (o .out), ne-eqb kind 2 (o .input), ne-eqb kind 3 (o .read), ne-eqb kind 4 (o .eval), ne-eqb kind 5 e, ne-eqb kind 6 f, ne-eqb kind 7 g)
+      refl
 
 pub action-loaded :
     (xs : List ℕ) (at kind w : ℕ) (p q : Place) (a : Action) → kind ≡ getD xs at 0 → w ≡ getD xs (at + 1) 0 → a ≡ actionOf kind w p q

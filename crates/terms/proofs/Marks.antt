@@ -11,7 +11,7 @@ use lib.Seq.{getD-set-same, getD-set-other}
 use lib.Dec.{eqb}
 use Rattle.net.specs.Choice.{choose}
 use Rattle.net.proofs.Laws.{if-eq, if-ne}
-use Rattle.terms.specs.Terms.{Process, Action, nil, name, fork, act, out, input, read, eval, newloc}
+use Rattle.terms.specs.Terms.{Process, Action, nil, name, fork, act, out, input, read, eval, newloc, outAll}
 use Rattle.terms.specs.Numbering.{uses, usesIn}
 use Rattle.terms.specs.Table.{marked, markedIn}
 
@@ -31,6 +31,7 @@ mutual
   marked-in-length (read c t) used = refl
   marked-in-length (eval p t) used = marked-length p used
   marked-in-length (newloc v) used = refl
+  marked-in-length (outAll c g) used = refl
 
 -- ---- which are marked
 
@@ -73,3 +74,4 @@ mutual
   marked-in-uses (read c t) k used h = refl
   marked-in-uses (eval p t) k used h = marked-uses p k used h
   marked-in-uses (newloc v) k used h = refl
+  marked-in-uses (outAll c g) k used h = refl

@@ -9,10 +9,10 @@ use lib.IntN.{ℤ}
 use Rattle.net.specs.Choice.{choose}
 use Rattle.text.specs.Signed.{signed}
 use Rattle.net.specs.Records.{addressOf, patternAt, zeroInstruction}
-use Rattle.terms.specs.Terms.{Process, nil, name, fork, act, out, input, read, eval, newloc}
+use Rattle.terms.specs.Terms.{Process, nil, name, fork, act, out, input, read, eval, newloc, outAll}
 use Rattle.terms.specs.Terms as Terms
 use Rattle.terms.specs.Numbering.{Start, here, called}
-use Rattle.terms.specs.Types.{Place, Target, Pattern, TemplateField, Action, Instruction}
+use Rattle.terms.specs.Types.{Place, Group, Target, Pattern, TemplateField, Action, Instruction}
 
 -- ---- one word each: past the greatest word of a kind only its last eight binary digits count
 unfoldable pub targetOf : ℕ → Target
@@ -28,6 +28,10 @@ patternOf w =
     (choose (ltb w 4294968064) (Pattern.Held (w % 256))
     (choose (ltb w 4294968320) (Pattern.FormalReading (w % 256)) (Pattern.FormalAddress (w % 256))))))
 
+-- the set of a word: of 16 binary digits
+unfoldable pub groupIn : ℕ → Group
+groupIn w = record { 0 = w % 65536 }
+
 -- ---- an action by its number and its target's word, with the places of what follows and of the second start
 unfoldable pub actionOf : ℕ → ℕ → Place → Place → Action
 actionOf kind w p q =
@@ -36,7 +40,8 @@ actionOf kind w p q =
     (choose (eqb kind 3) (Action.Read (targetOf w) p)
     (choose (eqb kind 4) (Action.Eval (targetOf w) q p)
     (choose (eqb kind 5) (Action.New (w % 256) p)
-    (choose (eqb kind 6) (Action.Fork p q) Action.Stop)))))
+    (choose (eqb kind 6) (Action.Fork p q)
+    (choose (eqb kind 7) (Action.OutAll (groupIn w) p) Action.Stop))))))
 
 -- a number of an action that has no target
 pub record Other (kind : ℕ) : Type 0 where
@@ -115,6 +120,7 @@ unfoldable mutual
   fitsIn (read c t) = FitsTemplate c × fitsTarget t
   fitsIn (eval p t) = fits p × fitsTarget t
   fitsIn (newloc v) = v < 256
+  fitsIn (outAll c g) = FitsTemplate c × (g .0 < 65536)
 
 -- the words of starts that a process of at most 512 instructions can have are resolved to their places
 pub record Resolves (resolve : ℕ → Place) (place : Start → Place) : Type 0 where

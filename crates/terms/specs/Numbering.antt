@@ -8,7 +8,7 @@ use Rattle.net.specs.Choice.{choose}
 use Rattle.net.specs.Records.{zeroInstruction, withAction}
 use Rattle.terms.specs.Types.{Place, Instruction}
 use Rattle.terms.specs.Types as Types
-use Rattle.terms.specs.Terms.{Process, Action, nil, name, fork, act, out, input, read, eval, newloc}
+use Rattle.terms.specs.Terms.{Process, Action, nil, name, fork, act, out, input, read, eval, newloc, outAll}
 
 -- ---- how many instructions a process has
 unfoldable mutual
@@ -24,6 +24,7 @@ unfoldable mutual
   sizeIn (read c t) = 0
   sizeIn (eval p t) = size p
   sizeIn (newloc v) = 0
+  sizeIn (outAll c g) = 0
 
 -- ---- what a process stands for where its first instruction has the number n
 pub data Start : Type 0 where
@@ -45,6 +46,7 @@ module _ (place : Start → Place) where
   instructionOf n (read c t) q = withAction c (Types.Action.Read t (place q))
   instructionOf n (eval p t) q = withAction zeroInstruction (Types.Action.Eval t (place (startOf (suc n) p)) (place q))
   instructionOf n (newloc v) q = withAction zeroInstruction (Types.Action.New v (place q))
+  instructionOf n (outAll c g) q = withAction c (Types.Action.OutAll g (place q))
 
   -- the instruction of a fork
   unfoldable pub forkOf : Start → Start → Instruction
@@ -67,6 +69,7 @@ module _ (place : Start → Place) where
     codeIn n (read c t) = []
     codeIn n (eval p t) = codeOf n p
     codeIn n (newloc v) = []
+    codeIn n (outAll c g) = []
 
 -- ---- whether a process uses the name k
 unfoldable mutual
@@ -82,3 +85,4 @@ unfoldable mutual
   usesIn k (read c t) = false
   usesIn k (eval p t) = uses k p
   usesIn k (newloc v) = false
+  usesIn k (outAll c g) = false

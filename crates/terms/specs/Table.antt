@@ -8,7 +8,7 @@ use Rattle.net.specs.Records.{zeroInstruction, patternAt}
 use Rattle.text.specs.Joined.{joined}
 use Rattle.text.specs.Signed.{complementOf}
 use Rattle.terms.specs.Types.{Target, Pattern, Instruction}
-use Rattle.terms.specs.Terms.{Process, Action, nil, name, fork, act, out, input, read, eval, newloc}
+use Rattle.terms.specs.Terms.{Process, Action, nil, name, fork, act, out, input, read, eval, newloc, outAll}
 use Rattle.terms.specs.Numbering.{Start, here, called, startOf, size, sizeIn}
 
 -- ---- one word each: a name's number is below 512, an address and a variable below 256, a two's complement below 2^32
@@ -47,6 +47,7 @@ actionWords n (input c t) next = instructionWords 2 (targetWord t) c next 0
 actionWords n (read c t) next = instructionWords 3 (targetWord t) c next 0
 actionWords n (eval p t) next = instructionWords 4 (targetWord t) zeroInstruction next (startWord (startOf (suc n) p))
 actionWords n (newloc v) next = instructionWords 5 v zeroInstruction next 0
+actionWords n (outAll c g) next = instructionWords 7 (g .0) c next 0
 
 unfoldable mutual
   -- those of a process whose first instruction has the number n
@@ -66,6 +67,7 @@ unfoldable mutual
   wordsIn n (read c t) = []
   wordsIn n (eval p t) = wordsOf n p
   wordsIn n (newloc v) = []
+  wordsIn n (outAll c g) = []
 
 -- ---- marks of names, with those that a process uses
 unfoldable mutual
@@ -81,3 +83,4 @@ unfoldable mutual
   markedIn (read c t) used = used
   markedIn (eval p t) used = marked p used
   markedIn (newloc v) used = used
+  markedIn (outAll c g) used = used

@@ -1,7 +1,8 @@
--- Processes and actions as a planner writes them, as trees (document 01, "The planners' notation"; document 004, table 1):
+-- Processes and actions as a planner writes them, as trees (document 01, "The planners' notation"; document 004, table 1; for
+-- sets document 02, slip 13):
 -- beside each constructor stands its piece of the notation. A template is an instruction's, with no action yet.
 use Prim.Native.Nat.{ℕ}
-use Rattle.terms.specs.Types.{Target, Instruction}
+use Rattle.terms.specs.Types.{Target, Group, Instruction}
 
 mutual
   -- P
@@ -18,3 +19,4 @@ mutual
     read : Instruction → Target → Action  -- read(!x0)@v2
     eval : Process → Target → Action  -- eval(P)@0
     newloc : ℕ → Action  -- newloc(u2)
+    outAll : Instruction → Group → Action  -- out(5)@{0,2}

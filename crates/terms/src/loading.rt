@@ -4,6 +4,7 @@ use net::instruction::Instruction;
 use net::instruction::Pattern;
 use net::instruction::Target;
 use net::instruction::TemplateField;
+use net::locality::Group;
 use net::locality::Locality;
 use net::locality::Place;
 use text::signed::signed_of;
@@ -91,6 +92,15 @@ fn field_at(table: &[usize], at: usize) -> TemplateField
     TemplateField { pattern }
 }
 
+// The set of a word: its last 16 binary digits.
+fn group_of(w: usize) -> Group
+    ensures { λ r. ⌜ r .0 ≡ w % 65536 ⌝ }
+{
+    let low = w % 65536;
+    let bits = low as u16;
+    Group(bits)
+}
+
 // An action that has no target.
 fn other_action(kind: usize, w: usize, next: Place, second: Place) -> Action
     requires { ⌜ Other kind ⌝ }
@@ -101,6 +111,9 @@ fn other_action(kind: usize, w: usize, next: Place, second: Place) -> Action
         Action::New(v, next)
     } else if kind == 6 {
         Action::Fork(next, second)
+    } else if kind == 7 {
+        let g = group_of(w);
+        Action::OutAll(g, next)
     } else {
         Action::Stop
     }

@@ -2,6 +2,7 @@
 use net::instruction::Instruction;
 use net::instruction::Pattern;
 use net::instruction::Target;
+use net::locality::Group;
 use text::signed::complement;
 ghost use Prim.Native.Nat.{_*_};
 ghost use mathlib.Core.List.{[], _∷_};
@@ -42,6 +43,14 @@ pub fn target_word(t: Target) -> usize
         Target::Own => 256,
         Target::Held(v) => 512 + v as usize,
     }
+}
+
+// The word of a set.
+pub fn group_word(g: Group) -> usize
+    ensures { λ r. ⌜ r ≡ g .0 ⌝ }
+{
+    let bits = g.0;
+    bits as usize
 }
 
 // The word of a reading.

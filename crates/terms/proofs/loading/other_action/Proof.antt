@@ -1,5 +1,5 @@
 -- `terms::loading::other_action` meets its contract. Assumes nothing.
-use Rattle.terms.proofs.LoadingLaws.{action-new, action-fork, action-stop}
+use Rattle.terms.proofs.LoadingLaws.{action-new, action-fork, action-out-all, action-stop}
 use borrow.Author.Needs.{needs}
 use Rattle.terms.proofs.loading.other_action.Statement.{statement}
 use Rattle.terms.proofs.loading.other_action.Tie as tie
@@ -9,6 +9,8 @@ other-action-spec =
     tie.close
     (tie.spec
     (λ c κs. search needs)
+    (λ c κs. search needs)
     (λ c. search (needs, action-new))
     (λ c. search (needs, action-fork))
+    (λ c. search (needs, action-out-all))
     (λ c. search (needs, action-stop)))
