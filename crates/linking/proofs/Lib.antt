@@ -1,5 +1,6 @@
 pub mod Bounded
 pub mod EachPlace
+pub mod Governed
 pub mod Held
 pub mod Linked
 pub mod Moved

@@ -18,11 +18,12 @@ use Rattle.net.proofs.SlotLaws.{FirstBusy, slot-busy, slots-counted}
 use Rattle.terms.specs.Terms.{Process}
 use Rattle.terms.specs.Numbering.{Start}
 use Rattle.linking.specs.Types.{Locality, Place, Tuple, Row, Node, Net}
-use Rattle.linking.specs.Source.{Line, definition, process, tuple}
+use Rattle.linking.specs.Source.{Line, definition, process, tuple, Policy}
 use Rattle.linking.specs.NodeCounts.{Holds, Counts, HasRoom}
 use Rattle.linking.specs.Counts.{processesIn, tuplesIn, counted}
-use Rattle.linking.specs.Compiled.{total, ruled, placed, peopled, unruled}
+use Rattle.linking.specs.Compiled.{total, addressesOf, rowsOf, formatOf, ruled, placed, peopled, unruled, governed}
 use Rattle.linking.proofs.Peopled.{peopled-more}
+use Rattle.linking.proofs.Governed.{length-rows}
 
 -- ---- a node
 
@@ -181,16 +182,24 @@ holds-rows c m x ok rs = record {
   few-tuples = ok .few-tuples;
 }
 
-pub counts-ruled : (ls : List Line) (i : ℕ) (rs : List Row) (s : Net) → i + length rs ≤ 16 → Counts ls s → Counts ls (ruled i rs s)
+pub counts-ruled : (ls : List Line) (i : ℕ) (rss : List (List Row)) (s : Net) → i + length rss ≤ 16 → Counts ls s → Counts ls (ruled i rss s)
 unfolding ruled withNode
 counts-ruled ls i [] s h ok = ok
-counts-ruled ls i (r ∷ rs) s h ok =
+counts-ruled ls i (rs ∷ rss) s h ok =
     let here = ok .at (addressOf i) (omega arith) in
-    counts-ruled ls (suc i) rs _ (omega arith)
+    counts-ruled ls (suc i) rss _ (omega arith)
     (nodes-count _ _ (every-set i _ (nodes ls s ok) (λ j y d e. e) (holds-rows _ _ _ here _)))
 
-pub counts-rows : (rs : List Row) (n k : ℕ) → length rs ≤ 16 → Counts [] (ruled 0 rs (unruled n k))
-unfolding unruled withCounts withFormat emptyNet counted
-counts-rows rs n k h =
-    counts-ruled [] 0 rs (unruled n k) (omega arith)
-    (nodes-count _ _ (every-replicate _ pastNode 16 zeroNode (λ i _. holds-zero)))
+module _ (x : Policy) (k : ℕ) (few : addressesOf x ≤ 16) where
+  pub counts-governed : Counts [] (governed x k)
+  unfolding governed unruled withCounts withFormat emptyNet counted
+  counts-governed =
+      counts-ruled [] 0 (rowsOf x) (unruled (formatOf x) (addressesOf x) k) (omega (arith, length-rows x))
+      (nodes-count _ _ (every-replicate _ pastNode 16 zeroNode (λ i _. holds-zero)))
+
+  pub none-busy : (a : Locality) (j : ℕ) → a .0 < 16 → j < 4 → processAt (nodeAt (governed x k) a) j .busy ≡ false
+  unfolding counted
+  none-busy a j h l = counts-governed .at a h .slots j l ∙ le-ltb j 0 (omega arith)
+
+  pub start-counts : (s : Net) → s ≡ governed x k → Counts [] s
+  start-counts s e = subst (Counts []) (sym e) counts-governed

@@ -1,17 +1,17 @@
--- The net of a source (document 01, "The planners' notation"): instructions numbered by the place of their first
--- character, and names resolved.
-use Prim.Native.Nat.{ℕ, zero, suc, _+_}
+-- The net of a source (document 01, "The planners' notation"; document 02, slip 13): instructions numbered by the place of their
+-- first character, and names resolved.
+use Prim.Native.Nat.{ℕ, zero, suc, _+_, _-_}
 use mathlib.Core.Bool.{Bool, true, false}
-use mathlib.Core.List.{List, [], _∷_, _++_}
-use lib.ListN.{length}
+use mathlib.Core.List.{List, [], _∷_, _++_, map}
+use lib.ListN.{length, replicate}
 use lib.Dec.{eqb}
 use Rattle.net.specs.Choice.{choose}
-use Rattle.net.specs.Records.{emptyNet, nodeAt, startingAt, processCount, addressOf, placeOf}
+use Rattle.net.specs.Records.{emptyNet, zeroRow, nodeAt, startingAt, processCount, addressOf, placeOf}
 use Rattle.net.specs.Records.{alike, marked, withNode, withRows, withProcess, withTuple, withCounts, withFormat}
 use Rattle.text.specs.Buffer.{over}
 use Rattle.terms.specs.Numbering.{size, Start, here, called, startOf, codeOf}
 use Rattle.linking.specs.Types.{Place, Row, Instruction, Net}
-use Rattle.linking.specs.Source.{Line, definition, process, tuple, Source}
+use Rattle.linking.specs.Source.{Line, definition, process, tuple, Policy, plain, by-origin, Source}
 
 unfoldable pub sizeOf : Line → ℕ
 sizeOf (definition k p) = size p
@@ -64,10 +64,28 @@ unfoldable pub codeFrom : (Start → Place) → ℕ → List Line → List Instr
 codeFrom place n [] = []
 codeFrom place n (l ∷ ls) = lineCode place n l ++ codeFrom place (n + sizeOf l) ls
 
--- ---- the net: its rows, each that of its node for every origin, its processes and tuples line after line, its code
-unfoldable pub ruled : ℕ → List Row → Net → Net
+-- ---- policies: a text with a row for each address is of format 1, one with rows by origin of format 2
+unfoldable pub formatOf : Policy → ℕ
+formatOf (plain rs) = 1
+formatOf (by-origin rss) = 2
+
+unfoldable pub addressesOf : Policy → ℕ
+addressesOf (plain rs) = length rs
+addressesOf (by-origin rss) = length rss
+
+-- the rows of a node by origin, empty past the last one
+unfoldable pub filled : List Row → List Row
+filled rs = rs ++ replicate (16 - length rs) zeroRow
+
+-- the 16 rows of each node
+unfoldable pub rowsOf : Policy → List (List Row)
+rowsOf (plain rs) = map alike rs
+rowsOf (by-origin rss) = map filled rss
+
+-- ---- the net: its rows, node after node, its processes and tuples, line after line, its code
+unfoldable pub ruled : ℕ → List (List Row) → Net → Net
 ruled i [] s = s
-ruled i (r ∷ rs) s = ruled (suc i) rs (withNode s (addressOf i) (withRows (nodeAt s (addressOf i)) (alike r)))
+ruled i (rs ∷ rss) s = ruled (suc i) rss (withNode s (addressOf i) (withRows (nodeAt s (addressOf i)) rs))
 
 -- what a line puts at its node; its first instruction has the number n. A tuple bears its own node's address (document 02, slip
 -- 8), and a process has it as its origin (slip 10)
@@ -90,12 +108,16 @@ withCode s code = record {
   code = over (s .code) 0 code;
 }
 
--- n addresses and k instructions, with nothing at any address yet; a text is of format 1 (document 02, slip 10)
-unfoldable pub unruled : ℕ → ℕ → Net
-unruled n k = withCounts (withFormat emptyNet 1) n k
+-- of format f, with n addresses and k instructions, and nothing at any address yet
+unfoldable pub unruled : ℕ → ℕ → ℕ → Net
+unruled f n k = withCounts (withFormat emptyNet f) n k
+
+-- with the rows of its policies
+unfoldable pub governed : Policy → ℕ → Net
+governed x k = ruled 0 (rowsOf x) (unruled (formatOf x) (addressesOf x) k)
 
 unfoldable pub compiled : Source → Net
 compiled x =
     withCode
-    (peopled (placeIn (x .lines)) 0 (x .lines) (ruled 0 (x .rows) (unruled (length (x .rows)) (total (x .lines)))))
+    (peopled (placeIn (x .lines)) 0 (x .lines) (governed (x .policy) (total (x .lines))))
     (codeFrom (placeIn (x .lines)) 0 (x .lines))
