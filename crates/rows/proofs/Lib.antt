@@ -1,4 +1,5 @@
 pub mod AllRowsLaws
+pub mod OriginLaws
+pub mod PolicyLaws
 pub mod RowLaws
 pub mod RuledLaws
-pub mod StartLaws

@@ -18,8 +18,9 @@ use Rattle.readers.proofs.ReaderLaws.{after, on, next, stop, no-fault}
 use Rattle.lexemes.specs.Lexemes.{byteAt, look, byte, word, optional, present, isDigit, number}
 use Rattle.lexemes.proofs.WordLaws.{past-text}
 use Rattle.rows.specs.Types.{Step, Fault, Rights, Row}
-use Rattle.rows.specs.Rows.{digitsFrom, isGot, standsAt, isRow, anyRight, rights, granted, grants, creates, opening, row}
-use Rattle.rows.specs.Progress.{GrantsRead, Digits, isRowHere, Granted, Granting}
+use Rattle.rows.specs.Rows.{digitsFrom, isGot, standsAt, opensWith, anyRight, rights, granted, grants, creates, opening, rowRest, row}
+use Rattle.rows.specs.OriginRows.{numbered}
+use Rattle.rows.specs.Progress.{GrantsRead, Digits, holdsAt, Granted, Granting}
 
 -- ---- digits, counted
 module _ (s : List ℕ) (p : ℕ) where
@@ -74,24 +75,25 @@ module _ (s w : List ℕ) where
   unfolding standsAt runFrom
   word-stands p q r v e = e ∙ got-place q ∙ ap isGot (v .went)
 
-module _ (s : List ℕ) (p b : ℕ) (digital : Bool) (e : b ≡ byteAt s p) (d : digital ≡ isDigit b) where
-  pub row-is :
-      (q : ℕ) (r : Bool) → digital ≡ true → q ≡ p + digitsFrom (length s) s p → r ≡ standsAt (bytes " has") s q
-      → r ≡ isRow s p
-  unfolding isRow both
-  row-is q r t a h = let one : isDigit (byteAt s p) ≡ true = ap isDigit (sym e) ∙ sym d ∙ t in rw (one, ← a) h
+module _ (w s : List ℕ) (p b : ℕ) (digital : Bool) (e : b ≡ byteAt s p) (d : digital ≡ isDigit b) where
+  pub opens-is :
+      (q : ℕ) (r : Bool) → digital ≡ true → q ≡ p + digitsFrom (length s) s p → r ≡ standsAt w s q → r ≡ opensWith w s p
+  unfolding opensWith both
+  opens-is q r t a h = let one : isDigit (byteAt s p) ≡ true = ap isDigit (sym e) ∙ sym d ∙ t in rw (one, ← a) h
 
-  pub row-none : digital ≡ false → false ≡ isRow s p
-  unfolding isRow both
-  row-none t = let no : isDigit (byteAt s p) ≡ false = ap isDigit (sym e) ∙ sym d ∙ t in rw no refl
+  pub opens-none : digital ≡ false → false ≡ opensWith w s p
+  unfolding opensWith both
+  opens-none t = let no : isDigit (byteAt s p) ≡ false = ap isDigit (sym e) ∙ sym d ∙ t in rw no refl
 
-pub row-here : (s : List ℕ) (p : Step) (k : ℕ) (r : Bool) → p ≡ Step.At k → r ≡ isRow s k → r ≡ isRowHere s p
-unfolding isRowHere
-row-here s p k r e d = rw e d
+-- ---- tests at a step
+module _ (test : List ℕ → ℕ → Bool) (s : List ℕ) (p : Step) where
+  pub holds-here : (k : ℕ) (r : Bool) → p ≡ Step.At k → r ≡ test s k → r ≡ holdsAt test s p
+  unfolding holdsAt
+  holds-here k r e d = rw e d
 
-pub row-nowhere : (s : List ℕ) (p : Step) (f : Fault) → p ≡ Step.Failed f → false ≡ isRowHere s p
-unfolding isRowHere
-row-nowhere s p f e = rw e refl
+  pub holds-nowhere : (f : Fault) → p ≡ Step.Failed f → false ≡ holdsAt test s p
+  unfolding holdsAt
+  holds-nowhere f e = rw e refl
 
 -- ---- ` n`
 module _ (s : List ℕ) where
@@ -210,18 +212,41 @@ module _ (s : List ℕ) (p₀ : Step) (row₀ : Row) where
       (p : Step) (i low : ℕ) (row : Row) → 16 ≤ i → Granting s p₀ row₀ p i low row → Went s p₀ (grants 16 0 row₀) p row
   granting-end p i low row h l = record { went = sym (l .rest ∙ no-more-grants p (16 - i) low row (omega arith)) }
 
--- ---- the row of an address
-pub opening-read :
-    (s : List ℕ) (p p₁ p₂ q : Step) (i l : ℕ) → Went s p (number 15) p₁ l → Went s p₁ (require (eqb l i) 31) p₂ tt
-    → Went s p₂ (word (bytes " has")) q tt → Went s p (opening i) q tt
-unfolding opening
-opening-read s p p₁ p₂ q i l a b c = on s p p₁ q _ _ l _ a (next s p₁ p₂ q _ _ tt _ b c)
+-- ---- a row
+module _ (s : List ℕ) where
+  pub rest-read :
+      (p p₁ p₂ q : Step) (c : Bool) (z r : Row) → Went s p creates p₁ c → z ≡ zeroRow
+      → Went s p₁ (grants 16 0 (record { create = c; rights = z .rights })) p₂ r → Went s p₂ (byte 10) q tt → Went s p rowRest q r
+  unfolding rowRest
+  rest-read p p₁ p₂ q c z r b e g h =
+      on s p p₁ q _ _ c _ b (on s p₁ p₂ q _ _ r _ (rw e at g) (next s p₂ q q _ _ tt _ h (stop s q r)))
 
-pub row-read :
-    (s : List ℕ) (p p₁ p₂ p₃ q : Step) (i : ℕ) (c : Bool) (z r : Row) → Went s p (opening i) p₁ tt → Went s p₁ creates p₂ c
-    → z ≡ zeroRow → Went s p₂ (grants 16 0 (record { create = c; rights = z .rights })) p₃ r → Went s p₃ (byte 10) q tt
-    → Went s p (row i) q r
-unfolding row
-row-read s p p₁ p₂ p₃ q i c z r a b e g h =
-    next s p p₁ q _ _ tt _ a
-    (on s p₁ p₂ q _ _ c _ b (on s p₂ p₃ q _ _ r _ (rw e at g) (next s p₃ q q _ _ tt _ h (stop s q r))))
+  pub numbered-read : (p p₁ q : Step) (i l : ℕ) → Went s p (number 15) p₁ l → Went s p₁ (require (eqb l i) 31) q tt → Went s p (numbered i) q tt
+  unfolding numbered
+  numbered-read p p₁ q i l a b = on s p p₁ q _ _ l _ a b
+
+  -- one after another, however they are bracketed
+  regrouped :
+      {A B C : Type 0} (o : Parsed A) (f : A → Reader B) (m : Reader C)
+      → andThen (andThen o s f) s (λ _. m) ≡ andThen o s (λ (a : A). f a >> m)
+  unfolding andThen _>>_ _>>=_
+  regrouped (got a q) f m = refl
+  regrouped (fault g) f m = refl
+
+  opening-is : (p : ℕ) (i : ℕ) → (numbered i >> word (bytes " has")) s p ≡ opening i s p
+  unfolding opening numbered _>>_ _>>=_
+  opening-is p i = regrouped (number 15 s p) (λ (v : ℕ). require (eqb v i) 31) (word (bytes " has"))
+
+  opening-from : (p : Step) (i : ℕ) → runFrom s p (numbered i >> word (bytes " has")) ≡ runFrom s p (opening i)
+  unfolding runFrom
+  opening-from (Step.At p) i = opening-is p i
+  opening-from (Step.Failed f) i = refl
+
+  pub row-read :
+      (p p₁ p₂ q : Step) (i : ℕ) (r : Row) → Went s p (numbered i) p₁ tt → Went s p₁ (word (bytes " has")) p₂ tt → Went s p₂ rowRest q r
+      → Went s p (row i) q r
+  unfolding row
+  row-read p p₁ p₂ q i r a b c =
+      let both-read = next s p p₁ p₂ (numbered i) (word (bytes " has")) tt tt a b in
+      let opened : Went s p (opening i) p₂ tt = record { went = both-read .went ∙ opening-from p i } in
+      next s p p₂ q _ _ tt _ opened c

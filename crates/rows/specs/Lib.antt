@@ -1,3 +1,5 @@
+pub mod OriginRows
+pub mod Policies
 pub mod Progress
 pub mod Rows
 pub mod Types

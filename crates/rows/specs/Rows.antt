@@ -1,4 +1,4 @@
--- The rows of a text (document 01, "The planners' notation"): `0 has n 0:io 1:r`, one for each address from 0 up.
+-- The rows of a text of format 1 (document 01, "The planners' notation"): `0 has n 0:io 1:r`, one for each address from 0 up.
 use Prim.Native.Nat.{ℕ, zero, suc, _+_}
 use mathlib.Core.Bool.{Bool, true, false, not}
 use mathlib.Core.List.{List, [], _∷_, _++_}
@@ -26,9 +26,13 @@ isGot (fault f) = false
 unfoldable pub standsAt : List ℕ → List ℕ → ℕ → Bool
 standsAt w s p = isGot (word w s p)
 
--- the line from place p on is a row: it opens with digits and ` has`
+-- the line from place p on opens with digits and a word
+unfoldable pub opensWith : List ℕ → List ℕ → ℕ → Bool
+opensWith w s p = both (isDigit (byteAt s p)) (standsAt w s (p + digitsFrom (length s) s p))
+
+-- it is a row: its word is ` has`
 unfoldable pub isRow : List ℕ → ℕ → Bool
-isRow s p = both (isDigit (byteAt s p)) (standsAt (bytes " has") s (p + digitsFrom (length s) s p))
+isRow s p = opensWith (bytes " has") s p
 
 -- ---- one row
 
@@ -76,14 +80,17 @@ opening i = do
   require (eqb l i) 31
   word (bytes " has")
 
--- the row of address i, and the line's end
-unfoldable pub row : ℕ → Reader Row
-row i = do
-  opening i
+-- what stands behind ` has`, and the line's end
+unfoldable pub rowRest : Reader Row
+rowRest = do
   c ← creates
   r ← grants 16 0 (record { create = c; rights = zeroRow .rights })
   byte 10
   pure r
+
+-- the row of address i
+unfoldable pub row : ℕ → Reader Row
+row i = opening i >> rowRest
 
 -- ---- all rows
 

@@ -1,2 +1,4 @@
-// The rows of a text in the planners' notation, read into a net.
+// The policies of a text in the planners' notation, read into a net.
+pub mod origin_rows;
+pub mod policies;
 pub mod rows;

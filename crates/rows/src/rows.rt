@@ -1,4 +1,4 @@
-// The rows of a text (document 01, "The planners' notation").
+// The rows of a text of format 1 (document 01, "The planners' notation"), and what rows of both formats have in common.
 use lexemes::numbers::NumberRead;
 use lexemes::numbers::is_digit;
 use lexemes::numbers::read_number;
@@ -13,27 +13,28 @@ use net::policy::Row;
 use readers::step::Step;
 use readers::step::is_place;
 use readers::step::require_that;
-ghost use Prim.Native.Nat.{_+_, _≤_};
+ghost use Prim.Native.Nat.{_+_, _<_, _≤_};
 ghost use mathlib.Core.Path.{_≡_};
 ghost use mathlib.Core.Bool.{not};
-ghost use mathlib.Core.List.{[]};
 ghost use lib.ListN.{length};
 ghost use lib.Dec.{leb, ltb};
 ghost use Rattle.net.specs.Choice.{both, all, implies};
-ghost use Rattle.net.specs.Records.{rowAt, nodeAt, addressOf};
+ghost use Rattle.net.specs.Records.{rowAt, nodeAt, addressOf, withNode, withRows};
 ghost use Rattle.readers.specs.Progress.{Went};
 ghost use Rattle.lexemes.specs.Progress.{Numbered};
-ghost use Rattle.rows.specs.Rows.{digitsFrom, standsAt, isRow, anyRight, rights, granted, grants, creates, opening, row, within, rowsAfter, rows};
-ghost use Rattle.rows.specs.Progress.{isRowHere, Granted, Ruled};
+ghost use Rattle.rows.specs.Rows.{digitsFrom, standsAt, opensWith, isRow, anyRight, rights, granted, grants, creates, rowRest, row, within};
+ghost use Rattle.rows.specs.OriginRows.{numbered};
+ghost use Rattle.rows.specs.Policies.{plainRows};
+ghost use Rattle.rows.specs.Progress.{holdsAt, Granted, Gathered, Ruled};
 
 struct RightsRead {
     rights: Rights,
     next: Step,
 }
 
-struct RowRead {
-    row: Row,
-    next: Step,
+pub(crate) struct RowRead {
+    pub(crate) row: Row,
+    pub(crate) next: Step,
 }
 
 // A row under construction: the least address that may come next, and the step.
@@ -75,27 +76,34 @@ fn stands_at(s: &[u8], p: usize, bytes: &[u8]) -> bool
     is_place(next)
 }
 
-// Whether the line from a place on is a row.
-fn is_row_at(s: &[u8], p: usize) -> bool
-    ensures { λ r. ⌜ r ≡ isRow (now (s .entry)) p ⌝ }
+// Whether the line from a place on opens with digits and a word.
+fn opens_with(s: &[u8], p: usize, bytes: &[u8]) -> bool
+    ensures { λ r. ⌜ r ≡ opensWith (now (bytes .entry)) (now (s .entry)) p ⌝ }
 {
     let b = byte_at(s, p);
     if is_digit(b) {
         let q = after_digits(s, p);
-        stands_at(s, q, b" has")
+        stands_at(s, q, bytes)
     } else {
         false
     }
 }
 
-// Whether a row stands at a step; none after a fault.
-fn is_row(s: &[u8], from: Step) -> bool
-    ensures { λ r. ⌜ r ≡ isRowHere (now (s .entry)) from ⌝ }
+// Whether the line at a step opens with digits and a word; none does after a fault.
+pub(crate) fn opens_here(s: &[u8], from: Step, bytes: &[u8]) -> bool
+    ensures { λ r. ⌜ r ≡ holdsAt (opensWith (now (bytes .entry))) (now (s .entry)) from ⌝ }
 {
     match from {
-        Step::At(p) => is_row_at(s, p),
+        Step::At(p) => opens_with(s, p, bytes),
         Step::Failed(_) => false,
     }
+}
+
+// Whether a row stands at a step; none after a fault.
+fn is_row(s: &[u8], from: Step) -> bool
+    ensures { λ r. ⌜ r ≡ holdsAt isRow (now (s .entry)) from ⌝ }
+{
+    opens_here(s, from, b" has")
 }
 
 // ---- one row
@@ -212,23 +220,11 @@ fn read_creates(s: &[u8], from: Step) -> Found
     }
 }
 
-// The number of a row's address i, and ` has`.
-fn read_opening(s: &[u8], from: Step, i: usize) -> Step
-    ensures { λ r. ⌜ Went (now (s .entry)) from (opening i) r tt ⌝ }
+// What stands behind ` has`, and the line's end.
+pub(crate) fn read_rest(s: &[u8], from: Step) -> RowRead
+    ensures { λ r. ⌜ Went (now (s .entry)) from rowRest (r .next) (r .row) ⌝ }
 {
-    let number = read_number(s, from, 15);
-    let numbered = number.next;
-    let own = number.value == i;
-    let named = require_that(numbered, own, 31);
-    read_word(s, named, b" has")
-}
-
-// The row of address i.
-fn read_row(s: &[u8], from: Step, i: usize) -> RowRead
-    ensures { λ r. ⌜ Went (now (s .entry)) from (row i) (r .next) (r .row) ⌝ }
-{
-    let opened = read_opening(s, from, i);
-    let creates = read_creates(s, opened);
+    let creates = read_creates(s, from);
     let created = creates.next;
     let mut start = Row::zero();
     start.create = creates.found;
@@ -239,19 +235,49 @@ fn read_row(s: &[u8], from: Step, i: usize) -> RowRead
     RowRead { row, next }
 }
 
+// The number i and no other.
+pub(crate) fn read_numbered(s: &[u8], from: Step, i: usize) -> Step
+    ensures { λ r. ⌜ Went (now (s .entry)) from (numbered i) r tt ⌝ }
+{
+    let number = read_number(s, from, 15);
+    let read = number.next;
+    let own = number.value == i;
+    require_that(read, own, 31)
+}
+
+// The row of address i.
+fn read_row(s: &[u8], from: Step, i: usize) -> RowRead
+    ensures { λ r. ⌜ Went (now (s .entry)) from (row i) (r .next) (r .row) ⌝ }
+{
+    let named = read_numbered(s, from, i);
+    let opened = read_word(s, named, b" has");
+    read_rest(s, opened)
+}
+
 // ---- all rows
+
+// The net with other rows at node i.
+pub(crate) fn with_rows(net: Net, i: usize, rows: [Row; 16]) -> Net
+    requires { ⌜ i < 16 ⌝ }
+    ensures { λ r. ⌜ r ≡ withNode net (addressOf i) (withRows (nodeAt net (addressOf i)) rows) ⌝ }
+{
+    let mut with = net;
+    let mut node = with.nodes[i];
+    node.rows = rows;
+    with.nodes[i] = node;
+    with
+}
 
 // Whether the row after n rows is one that is read.
 fn is_next_row(s: &[u8], from: Step, n: usize) -> bool
-    ensures { λ r. ⌜ r ≡ both (ltb n 16) (isRowHere (now (s .entry)) from) ⌝ }
+    ensures { λ r. ⌜ r ≡ both (ltb n 16) (holdsAt isRow (now (s .entry)) from) ⌝ }
 {
     if n < 16 { is_row(s, from) } else { false }
 }
 
-// The rows, up to the first line that is none; a seventeenth is 22. A text is of format 1: a node's row is that for every
-// origin.
+// The rows, up to the first line that is none; a seventeenth is 22. A node's row is that for every origin.
 fn gather_rows(s: &[u8]) -> RowsRead
-    ensures { λ r. ⌜ Ruled (now (s .entry)) (rowsAfter 16 []) r ⌝ }
+    ensures { λ r. ⌜ Gathered (now (s .entry)) r ⌝ }
 {
     let mut net = Net::empty();
     net.format = 1;
@@ -262,9 +288,7 @@ fn gather_rows(s: &[u8]) -> RowsRead
         let read = read_row(s, next, n);
         let row = read.row;
         let rows = row.alike();
-        let mut node = net.nodes[n];
-        node.rows = rows;
-        net.nodes[n] = node;
+        net = with_rows(net, n, rows);
         next = read.next;
         n += 1;
         more = is_next_row(s, next, n);
@@ -283,7 +307,7 @@ fn is_within_at(r: Rights, n: usize, l: usize) -> bool
 }
 
 // No right over an address from n on.
-fn is_within(row: Row, n: usize) -> bool
+pub(crate) fn is_within(row: Row, n: usize) -> bool
     ensures { λ r. ⌜ r ≡ within n row ⌝ }
 {
     let mut ok = true;
@@ -316,8 +340,8 @@ fn are_within(net: Net) -> bool
 }
 
 // The rows of a text: one at least (31), and no right over an address without a row (23).
-pub fn read_rows(s: &[u8]) -> RowsRead
-    ensures { λ r. ⌜ Ruled (now (s .entry)) rows r ⌝ }
+pub(crate) fn read_rows(s: &[u8]) -> RowsRead
+    ensures { λ r. ⌜ Ruled (now (s .entry)) plainRows r ⌝ }
 {
     let got = gather_rows(s);
     let net = got.net;

@@ -1,5 +1,5 @@
 -- `rows::rows::read_rows` meets its contract. Assumes nothing.
-use Rattle.rows.proofs.AllRowsLaws.{few-rows, judged-rows}
+use Rattle.rows.proofs.AllRowsLaws.{few-gathered, judged-rows}
 use borrow.Author.Needs.{needs}
 use Rattle.rows.proofs.rows.read_rows.Statement.{statement}
 use Rattle.rows.proofs.rows.read_rows.Tie as tie
@@ -10,6 +10,6 @@ read-rows-spec =
     (tie.spec
     (λ c κs. search needs)
     (λ c κs. search needs)
-    (λ c κs. search (needs, few-rows))
+    (λ c κs. search (needs, few-gathered))
     (λ c κs. search needs)
     (λ c. judged-rows _ _ _ _ _ (search needs) (c .before .before .require-that .ensures _) (search needs) (c .require-that2 .ensures _)))
