@@ -17,7 +17,7 @@ use Rattle.readers.proofs.Gives.{Fine, Gives, gives-pure, gives-then, gives-and
 use Rattle.lexemes.specs.Lexemes.{byteAt, look, fail, byte, number}
 use Rattle.lexemes.specs.declared.numbers.NumberRead.{NumberRead}
 use Rattle.lexemes.specs.Progress.{byteHere, Numbered}
-use Rattle.processes.specs.Types.{Step}
+use Rattle.processes.specs.Types.{Step, Scope}
 use Rattle.terms.specs.Terms.{Process, nil, name, fork, act}
 use Rattle.processes.specs.Reading.{named, called, forked, endsChain, ended, action, acting, chain}
 use Rattle.processes.specs.Reading as Reading
@@ -50,10 +50,10 @@ name-read s p q r w v = record { read = next s p q (r .next) (byte 65) (number 5
 
 -- ---- what a chain that begins with A stands for
 chain-named :
-    (s : List ℕ) (p k rows : ℕ) (inner : Reader Process) → byteAt s p ≡ 65 → chain (suc k) inner rows s p ≡ called s p
+    (s : List ℕ) (p k : ℕ) (scope : Scope) (inner : Reader Process) → byteAt s p ≡ 65 → chain (suc k) inner scope s p ≡ called s p
 unfolding chain ended look
-chain-named s p k rows inner e =
-    ap (λ (m : Reader Process). m s p) (choose-true _ (ended inner) (acting inner (chain k inner rows) rows) (sym (ends-name (byteAt s p) _ e)))
+chain-named s p k scope inner e =
+    ap (λ (m : Reader Process). m s p) (choose-true _ (ended inner) (acting inner (chain k inner scope) scope) (sym (ends-name (byteAt s p) _ e)))
     ∙ ap (λ (m : Reader Process). m s p)
     (choose-true _ called (choose (eqb (byteAt s p) 40) (forked inner) Reading.stopped) (eq-eqb (byteAt s p) 65 e))
 
@@ -62,23 +62,23 @@ unfolding called _>>=_ andThen pure outcome
 called-is s p v (Step.At q) e = rw (sym e) refl
 called-is s p v (Step.Failed f) e = rw (sym e) refl
 
-no-chain : (s : List ℕ) (p k rows : ℕ) (inner : Reader Process) (q : Step) (x : Process) → k ≡ 0
-    → outcome q x ≡ chain k inner rows s p → reached q ≡ true → ⊥
+no-chain : (s : List ℕ) (p k : ℕ) (scope : Scope) (inner : Reader Process) (q : Step) (x : Process) → k ≡ 0
+    → outcome q x ≡ chain k inner scope s p → reached q ≡ true → ⊥
 unfolding chain fail
-no-chain s p k rows inner q x e v h = no-outcome q x _ (rw e at v) h
+no-chain s p k scope inner q x e v h = no-outcome q x _ (rw e at v) h
 
 named-start :
-    (s : List ℕ) (n v : ℕ) (p r : Step) (k rows : ℕ) (inner : Reader Process) (q : Step) (x : Process) → byteHere s p ≡ 65
-    → outcome r v ≡ runFrom s p named → outcome q x ≡ runFrom s p (chain k inner rows) → reached q ≡ true → v ≡ startWord (startOf n x)
+    (s : List ℕ) (n v : ℕ) (p r : Step) (k : ℕ) (scope : Scope) (inner : Reader Process) (q : Step) (x : Process) → byteHere s p ≡ 65
+    → outcome r v ≡ runFrom s p named → outcome q x ≡ runFrom s p (chain k inner scope) → reached q ≡ true → v ≡ startWord (startOf n x)
 unfolding byteHere runFrom startOf startWord
-named-start s n v (Step.At p) r zero rows inner q x e w o h = absurd (no-chain s p 0 rows inner q x refl o h)
-named-start s n v (Step.At p) r (suc k) rows inner q x e w o h =
-    let is : x ≡ name v = one-outcome q r x (name v) (o ∙ chain-named s p k rows inner e ∙ sym (called-is s p v r w)) h in rw is refl
-named-start s n v (Step.Failed f) r k rows inner q x e w o h = absurd (no-outcome q x f o h)
+named-start s n v (Step.At p) r zero scope inner q x e w o h = absurd (no-chain s p 0 scope inner q x refl o h)
+named-start s n v (Step.At p) r (suc k) scope inner q x e w o h =
+    let is : x ≡ name v = one-outcome q r x (name v) (o ∙ chain-named s p k scope inner e ∙ sym (called-is s p v r w)) h in rw is refl
+named-start s n v (Step.Failed f) r k scope inner q x e w o h = absurd (no-outcome q x f o h)
 
 pub begins-name : (s : List ℕ) (p : Step) (n b : ℕ) (r : NumberRead) → b ≡ byteHere s p → b ≡ 65 → Numbered s p named 511 r → Begins s p n (r .value)
 begins-name s p n b r e d w = record {
-  begins = λ k rows inner q x v h. named-start s n (r .value) p (r .next) k rows inner q x (sym e ∙ d) (w .read .went) (v .went) h;
+  begins = λ k scope inner q x v h. named-start s n (r .value) p (r .next) k scope inner q x (sym e ∙ d) (w .read .went) (v .went) h;
 }
 
 -- ---- what any other chain stands for
@@ -96,10 +96,10 @@ module _ (n : ℕ) where
   unfolding Reading.stopped startOf
   stops-here = gives-and (any _) (λ _ _. gives-pure Here nil refl)
 
-  acts-here : (inner rest : Reader Process) (rows : ℕ) → Gives Any (acting inner rest rows) Here
+  acts-here : (inner rest : Reader Process) (scope : Scope) → Gives Any (acting inner rest scope) Here
   unfolding acting startOf
-  acts-here inner rest rows =
-      gives-then (any (action inner rows)) (λ a _. gives-and (any (byte 46)) (λ _ _. gives-then (any rest) (λ p _. gives-pure Here (act a p) refl)))
+  acts-here inner rest scope =
+      gives-then (any (action inner scope)) (λ a _. gives-and (any (byte 46)) (λ _ _. gives-then (any rest) (λ p _. gives-pure Here (act a p) refl)))
 
   pick :
       (b : Bool) (m m′ : Reader Process) (s : List ℕ) (p : ℕ) → Fine Any Here (m s p) → Fine Any Here (m′ s p)
@@ -114,24 +114,24 @@ module _ (n : ℕ) where
       rw (choose-false _ called (choose (eqb (byteAt s p) 40) (forked inner) Reading.stopped) e)
       (pick (eqb (byteAt s p) 40) _ _ s p (forks-here inner .run s p) (stops-here .run s p))
 
-  chain-here : (s : List ℕ) (p k rows : ℕ) (inner : Reader Process) → eqb (byteAt s p) 65 ≡ false → Fine Any Here (chain (suc k) inner rows s p)
+  chain-here : (s : List ℕ) (p k : ℕ) (scope : Scope) (inner : Reader Process) → eqb (byteAt s p) 65 ≡ false → Fine Any Here (chain (suc k) inner scope s p)
   unfolding chain
-  chain-here s p k rows inner e =
-      pick (endsChain (byteAt s p) (byteAt s (p + 1))) _ _ s p (ended-here s p inner e) (acts-here inner (chain k inner rows) rows .run s p)
+  chain-here s p k scope inner e =
+      pick (endsChain (byteAt s p) (byteAt s (p + 1))) _ _ s p (ended-here s p inner e) (acts-here inner (chain k inner scope) scope .run s p)
 
   here-start :
-      (s : List ℕ) (p : Step) (k rows : ℕ) (inner : Reader Process) (q : Step) (x : Process) → eqb (byteHere s p) 65 ≡ false
-      → outcome q x ≡ runFrom s p (chain k inner rows) → reached q ≡ true → startOf n x ≡ here n
+      (s : List ℕ) (p : Step) (k : ℕ) (scope : Scope) (inner : Reader Process) (q : Step) (x : Process) → eqb (byteHere s p) 65 ≡ false
+      → outcome q x ≡ runFrom s p (chain k inner scope) → reached q ≡ true → startOf n x ≡ here n
   unfolding byteHere runFrom
-  here-start s (Step.At p) zero rows inner q x e o h = absurd (no-chain s p 0 rows inner q x refl o h)
-  here-start s (Step.At p) (suc k) rows inner q x e o h = fine-at Here q x _ o (chain-here s p k rows inner e) h
-  here-start s (Step.Failed f) k rows inner q x e o h = absurd (no-outcome q x f o h)
+  here-start s (Step.At p) zero scope inner q x e o h = absurd (no-chain s p 0 scope inner q x refl o h)
+  here-start s (Step.At p) (suc k) scope inner q x e o h = fine-at Here q x _ o (chain-here s p k scope inner e) h
+  here-start s (Step.Failed f) k scope inner q x e o h = absurd (no-outcome q x f o h)
 
 pub begins-here : (s : List ℕ) (p : Step) (n b : ℕ) → b ≡ byteHere s p → (b ≡ 65 → ⊥) → Begins s p n (512 + n)
 unfolding startWord
 begins-here s p n b e d = record {
-  begins = λ k rows inner q x v h.
-      let t : startOf n x ≡ here n = here-start n s p k rows inner q x (ap (λ (y : ℕ). eqb y 65) (sym e) ∙ ne-eqb b 65 d) (v .went) h in rw t refl;
+  begins = λ k scope inner q x v h.
+      let t : startOf n x ≡ here n = here-start n s p k scope inner q x (ap (λ (y : ℕ). eqb y 65) (sym e) ∙ ne-eqb b 65 d) (v .went) h in rw t refl;
 }
 
 module _ (s : List ℕ) (p : ℕ) where
@@ -144,11 +144,11 @@ module _ (s : List ℕ) (p : ℕ) where
 
 pub ends-from : (s : List ℕ) (q : Step) (p : ℕ) (r : Bool) → q ≡ Step.At p → r ≡ endsChain (byteAt s p) (byteAt s (p + 1)) → Ends s q r
 unfolding runFrom chain
-ends-from s q p r e d = rw e (record { ends = λ k rows inner. rw d refl })
+ends-from s q p r e d = rw e (record { ends = λ k scope inner. rw d refl })
 
 pub ends-failed : (s : List ℕ) (q : Step) (f : _) → q ≡ Step.Failed f → Ends s q true
 unfolding runFrom
-ends-failed s q f e = rw e (record { ends = λ k rows inner. refl })
+ends-failed s q f e = rw e (record { ends = λ k scope inner. refl })
 
 module _ (s : List ℕ) (p : Step) (k : ℕ) where
   pub goes-none : k ≡ 0 → Goes s p k false

@@ -17,9 +17,12 @@ use Rattle.readers.specs.Reader.{Reader}
 use Rattle.readers.proofs.Gives.{stopped, Gives, gives-pure, gives-weaken, gives-then, gives-and, gives-choice, gives-each, gives-require, Any, any}
 use Rattle.lexemes.specs.Lexemes.{byteAt, look, fail, byte, word, digit, longer, another, rest, number}
 use Rattle.fields.specs.Fields as Fields
-use Rattle.processes.specs.Types.{Target, Pattern, TemplateField, Instruction}
-use Rattle.terms.specs.Terms.{Process, Action, nil, name, fork, act, out, input, read, eval, newloc}
-use Rattle.processes.specs.Reading.{named, called, atTarget, communication, evaluation, creation, simple, action, forked, endsChain, ended, acting, chain, processAt}
+use Rattle.fields.specs.Sets.{groupOf, listed, group}
+use Rattle.fields.proofs.SetLaws.{group-low}
+use Rattle.processes.specs.Types.{Target, Pattern, TemplateField, Instruction, Scope}
+use Rattle.terms.specs.Terms.{Process, Action, nil, name, fork, act, out, input, read, eval, newloc, outAll}
+use Rattle.processes.specs.Reading.{named, called, atTarget, communication, toOne, toAll, receiving, putting, evaluation, creation, simple, action}
+use Rattle.processes.specs.Reading.{forked, endsChain, ended, acting, chain, processAt}
 use Rattle.processes.specs.Reading as Reading
 use Rattle.terms.specs.Loading.{fitsTarget, fitsReading, fitsPattern, FitsTemplate, fits, fitsIn}
 use Rattle.terms.proofs.Loaded.{zero-fits}
@@ -139,21 +142,35 @@ target-after : (n : ℕ) → Gives Any (atTarget n) fitsTarget
 unfolding atTarget
 target-after n = gives-and (any _) (λ _ _. target-fits n)
 
-module _ (inner : Reader Process) (g : Gives Any inner fits) (n : ℕ) where
-  talk-fits :
-      (opening : List ℕ) (formals : Bool) (make : Instruction → Target → Action)
-      → ((c : Instruction) (t : Target) → FitsTemplate c → fitsTarget t → fitsIn (make c t)) → Gives Any (communication opening formals make n) fitsIn
-  unfolding communication
-  talk-fits opening formals make f =
-      gives-and (any (word opening)) (λ _ _. gives-then (template-fits formals n) (λ c h. gives-then (target-after n) (λ t k. gives-pure fitsIn (make c t) (f c t h k))))
+group-fits : (n : ℕ) → Gives Any (group n) (λ g. g .0 < 65536)
+unfolding group
+group-fits n =
+    gives-and (any (byte 123)) (λ _ _. gives-then (any (listed n))
+    (λ marks _. gives-and (any (byte 125)) (λ _ _. gives-pure (λ g. g .0 < 65536) (groupOf marks) (group-low marks))))
 
-  action-fits : Gives Any (action inner n) fitsIn
+module _ (inner : Reader Process) (g : Gives Any inner fits) (x : Scope) where
+  talk-fits :
+      (opening : List ℕ) (make : Instruction → Target → Action)
+      → ((c : Instruction) (t : Target) → FitsTemplate c → fitsTarget t → fitsIn (make c t)) → Gives Any (communication opening make x) fitsIn
+  unfolding communication
+  talk-fits opening make f =
+      gives-and (any (word opening)) (λ _ _. gives-then (template-fits true (x .addresses))
+      (λ c h. gives-then (target-after (x .addresses)) (λ t k. gives-pure fitsIn (make c t) (f c t h k))))
+
+  put-fits : Gives Any (putting x) fitsIn
+  unfolding putting receiving toOne toAll fitsIn
+  put-fits =
+      gives-and (any _) (λ _ _. gives-then (template-fits false (x .addresses)) (λ c h. gives-and (any _) (λ _ _. gives-look _ _ (λ b. gives-choice fitsIn _ _ _
+      (gives-then (group-fits (x .addresses)) (λ s k. gives-pure fitsIn (outAll c s) (h, k)))
+      (gives-then (target-fits (x .addresses)) (λ t k. gives-pure fitsIn (out c t) (h, k)))))))
+
+  action-fits : Gives Any (action inner x) fitsIn
   unfolding action simple evaluation creation fitsIn
   action-fits = gives-look _ _ (λ b. gives-choice fitsIn _ _ _
-      (gives-and (any _) (λ _ _. gives-then g (λ p h. gives-then (target-after n) (λ t k. gives-pure fitsIn (eval p t) (h, k)))))
-      (gives-look _ _ (λ b. gives-choice fitsIn _ _ _ (talk-fits _ false out (λ c t h k. (h, k)))
-      (gives-choice fitsIn _ _ _ (talk-fits _ true input (λ c t h k. (h, k)))
-      (gives-choice fitsIn _ _ _ (talk-fits _ true read (λ c t h k. (h, k)))
+      (gives-and (any _) (λ _ _. gives-then g (λ p h. gives-then (target-after (x .addresses)) (λ t k. gives-pure fitsIn (eval p t) (h, k)))))
+      (gives-look _ _ (λ b. gives-choice fitsIn _ _ _ put-fits
+      (gives-choice fitsIn _ _ _ (talk-fits _ input (λ c t h k. (h, k)))
+      (gives-choice fitsIn _ _ _ (talk-fits _ read (λ c t h k. (h, k)))
       (gives-and (any _) (λ _ _. gives-then variable-low (λ v h. gives-and (any (byte 41)) (λ _ _. gives-pure fitsIn (newloc v) h)))))))))
 
   ended-fits : Gives Any (ended inner) fits
@@ -164,16 +181,16 @@ module _ (inner : Reader Process) (g : Gives Any inner fits) (n : ℕ) where
       (gives-and (any (byte 40)) (λ _ _. gives-then g (λ p h. gives-and (any _) (λ _ _. gives-then g (λ q k. gives-and (any (byte 41)) (λ _ _. gives-pure fits (fork p q) (h, k)))))))
       (gives-and (any _) (λ _ _. gives-pure fits nil tt))))
 
-  chain-fits : (k : ℕ) → Gives Any (chain k inner n) fits
+  chain-fits : (k : ℕ) → Gives Any (chain k inner x) fits
   unfolding chain fail acting fits
   chain-fits zero = record { run = λ s p. stopped tt }
   chain-fits (suc k) = record {
     run = λ s p. gives-choice fits (endsChain (byteAt s p) (byteAt s (p + 1))) _ _ ended-fits
-        (gives-then action-fits (λ a h. gives-and (any (byte 46)) (λ _ _. gives-then (chain-fits k) (λ x l. gives-pure fits (act a x) (h, l))))) .run s p;
+        (gives-then action-fits (λ a h. gives-and (any (byte 46)) (λ _ _. gives-then (chain-fits k) (λ r l. gives-pure fits (act a r) (h, l))))) .run s p;
   }
 
 -- every process that is read fits its words
-pub process-fits : (d n : ℕ) → Gives Any (processAt d n) fits
+pub process-fits : (d : ℕ) (x : Scope) → Gives Any (processAt d x) fits
 unfolding processAt fail
-process-fits zero n = record { run = λ s p. stopped tt }
-process-fits (suc d) n = record { run = λ s p. chain-fits (processAt d n) (process-fits d n) n (length s) .run s p }
+process-fits zero x = record { run = λ s p. stopped tt }
+process-fits (suc d) x = record { run = λ s p. chain-fits (processAt d x) (process-fits d x) x (length s) .run s p }

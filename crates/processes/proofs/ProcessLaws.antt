@@ -18,7 +18,7 @@ use Rattle.lexemes.specs.Lexemes.{fail, byte, word}
 use Rattle.lexemes.specs.declared.numbers.NumberRead.{NumberRead}
 use Rattle.lexemes.specs.Progress.{byteHere, Numbered, failedFrom}
 use Rattle.lexemes.proofs.NumberLaws.{strayed}
-use Rattle.processes.specs.Types.{Step, Target}
+use Rattle.processes.specs.Types.{Step, Target, Scope}
 use Rattle.terms.specs.Terms.{Process, Action, nil, name, fork, act, eval}
 use Rattle.processes.specs.Reading.{named, called, stopped, forked, ended, evaluation, action, acting, chain, processAt}
 use Rattle.terms.specs.Numbering.{size, sizeIn, startOf}
@@ -82,25 +82,25 @@ nil-coded s p q n table used count table′ v e f g l = record {
 }
 
 -- ---- what a process stands for
-no-level : (s : List ℕ) (rows : ℕ) (p q : Step) (x : Process) → outcome q x ≡ runFrom s p (processAt 0 rows) → reached q ≡ true → ⊥
+no-level : (s : List ℕ) (scope : Scope) (p q : Step) (x : Process) → outcome q x ≡ runFrom s p (processAt 0 scope) → reached q ≡ true → ⊥
 unfolding processAt fail runFrom
-no-level s rows (Step.At p) q x e h = no-outcome q x _ e h
-no-level s rows (Step.Failed f) q x e h = no-outcome q x f e h
+no-level s scope (Step.At p) q x e h = no-outcome q x _ e h
+no-level s scope (Step.Failed f) q x e h = no-outcome q x f e h
 
-pub opened : (s : List ℕ) (p : Step) (d rows : ℕ) → runFrom s p (chain (length s) (processAt d rows) rows) ≡ runFrom s p (processAt (suc d) rows)
+pub opened : (s : List ℕ) (p : Step) (d : ℕ) (scope : Scope) → runFrom s p (chain (length s) (processAt d scope) scope) ≡ runFrom s p (processAt (suc d) scope)
 unfolding processAt runFrom
-opened s (Step.At p) d rows = refl
-opened s (Step.Failed f) d rows = refl
+opened s (Step.At p) d scope = refl
+opened s (Step.Failed f) d scope = refl
 
 pub begins-process :
-    (s : List ℕ) (p : Step) (n w d rows : ℕ) (q : Step) (x : Process) → Begins s p n w → Went s p (processAt d rows) q x → reached q ≡ true
+    (s : List ℕ) (p : Step) (n w d : ℕ) (scope : Scope) (q : Step) (x : Process) → Begins s p n w → Went s p (processAt d scope) q x → reached q ≡ true
     → w ≡ startWord (startOf n x)
-begins-process s p n w zero rows q x b v h = absurd (no-level s rows p q x (v .went) h)
-begins-process s p n w (suc d) rows q x b v h =
-    b .begins (length s) rows (processAt d rows) q x (record { went = v .went ∙ sym (opened s p d rows) }) h
+begins-process s p n w zero scope q x b v h = absurd (no-level s scope p q x (v .went) h)
+begins-process s p n w (suc d) scope q x b v h =
+    b .begins (length s) scope (processAt d scope) q x (record { went = v .went ∙ sym (opened s p d scope) }) h
 
 -- ---- forks
-module _ (s : List ℕ) (d rows : ℕ) where
+module _ (s : List ℕ) (d : ℕ) (scope : Scope) where
   module _ (p q : Step) (m w v c₁ c₂ : ℕ) (t t₁ t₂ : List ℕ) (u u₁ u₂ : List Bool) (a : Step) where
     both-kept :
         (x y : Process) → w ≡ startWord (startOf m x) → v ≡ startWord (startOf c₁ y) → Kept x m t u c₁ t₁ u₁ → Kept y c₁ t₁ u₁ c₂ t₂ u₂
@@ -117,11 +117,11 @@ module _ (s : List ℕ) (d rows : ℕ) where
     }
 
     pub barred :
-        (b : Step) → Went s p (word (bytes " | ")) b tt → Started s b (processAt d rows) m t u w q c₁ t₁ u₁ → Barred s p (processAt d rows) m t u w q c₁ t₁ u₁
+        (b : Step) → Went s p (word (bytes " | ")) b tt → Started s b (processAt d scope) m t u w q c₁ t₁ u₁ → Barred s p (processAt d scope) m t u w q c₁ t₁ u₁
     barred b o f = record { behind = b; bar = o; started = f }
 
     pub branched :
-        Started s p (processAt d rows) m t u w a c₁ t₁ u₁ → Barred s a (processAt d rows) c₁ t₁ u₁ v q c₂ t₂ u₂ → Branched s p (processAt d rows) m t u w v q c₂ t₂ u₂
+        Started s p (processAt d scope) m t u w a c₁ t₁ u₁ → Barred s a (processAt d scope) c₁ t₁ u₁ v q c₂ t₂ u₂ → Branched s p (processAt d scope) m t u w v q c₂ t₂ u₂
     branched e o =
         let b = o .behind in
         let f = o .started in
@@ -148,8 +148,8 @@ module _ (s : List ℕ) (d rows : ℕ) where
               let here = came s a b _ _ (o .bar) there in
               let first = k .kept here (omega arith) in
               let counted = first .counted in
-              both-kept (k .tree) (l .tree) (begins-process s p m w d rows a (k .tree) (e .start) (k .went) here)
-              (begins-process s b c₁ v d rows q (l .tree) (f .start) (l .went) h) first (l .kept h (omega (arith, counted)));
+              both-kept (k .tree) (l .tree) (begins-process s p m w d scope a (k .tree) (e .start) (k .went) here)
+              (begins-process s b c₁ v d scope q (l .tree) (f .start) (l .went) h) first (l .kept h (omega (arith, counted)));
         }
 
   module _ (p a b q : Step) (n m w v count : ℕ) (t t₁ t₂ : List ℕ) (u u₁ : List Bool) where
@@ -169,16 +169,16 @@ module _ (s : List ℕ) (d rows : ℕ) where
     }
 
     pub fork-coded :
-        Went s p (byte 40) a tt → (n < room → m ≡ n + 1) → (m < room → n < room) → Branched s a (processAt d rows) m t u w v b count t₁ u₁
-        → Shut s b n w v t₁ q t₂ → Coded s p (forked (processAt d rows)) n t u q count t₂ u₁
+        Went s p (byte 40) a tt → (n < room → m ≡ n + 1) → (m < room → n < room) → Branched s a (processAt d scope) m t u w v b count t₁ u₁
+        → Shut s b n w v t₁ q t₂ → Coded s p (forked (processAt d scope)) n t u q count t₂ u₁
     unfolding forked size
     fork-coded o e f k c = record {
       tree = fork (k .x) (k .y);
       went =
           next s p a q (byte 40) _ tt _ o
-          (on s a (k .before) q (processAt d rows) _ (k .x) _ (k .left)
+          (on s a (k .before) q (processAt d scope) _ (k .x) _ (k .left)
           (next s (k .before) (k .behind) q _ _ tt _ (k .bar)
-          (on s (k .behind) b q (processAt d rows) _ (k .y) _ (k .right)
+          (on s (k .behind) b q (processAt d scope) _ (k .y) _ (k .right)
           (next s b q q (byte 41) (pure (fork (k .x) (k .y))) tt _ (c .bracket) (stop s q (fork (k .x) (k .y)))))));
       small = k .small;
       most = λ h g.
@@ -211,7 +211,7 @@ module _ (s : List ℕ) (d rows : ℕ) where
 
     pub eval-acted :
         Went s p (word (bytes "eval(")) a tt → (n < room → m ≡ n + 1) → (m < room → n < room)
-        → Started s a (processAt d rows) m t u v b count t₁ u₁ → Sent s b rows n count v t₁ q t₂ → Acted s p (evaluation (processAt d rows) rows) n t u q count t₂ u₁
+        → Started s a (processAt d scope) m t u v b count t₁ u₁ → Sent s b scope n count v t₁ q t₂ → Acted s p (evaluation (processAt d scope) scope) n t u q count t₂ u₁
     unfolding evaluation sizeIn
     eval-acted o e y f g =
         let c = g .aimed in
@@ -223,7 +223,7 @@ module _ (s : List ℕ) (d rows : ℕ) where
           middle = c;
           went =
               next s p a c _ _ tt _ o
-              (on s a b c (processAt d rows) _ (k .tree) _ (k .went)
+              (on s a b c (processAt d scope) _ (k .tree) _ (k .went)
               (on s b c c _ _ (i .target) _ (i .went) (stop s c (eval (k .tree) (i .target)))));
           dot = z .dot;
           small = k .small;
@@ -240,7 +240,7 @@ module _ (s : List ℕ) (d rows : ℕ) where
               let shut = came s c q _ _ (z .dot) h in
               let there = came s b c _ _ (i .went) shut in
               eval-stored (k .tree) (i .target) (g .word) (z .word) (omega (arith, number))
-              (begins-process s a m v d rows b (k .tree) (f .start) (k .went) there) (i .word) (k .kept there (omega (arith, number))) (z .stored);
+              (begins-process s a m v d scope b (k .tree) (f .start) (k .went) there) (i .word) (k .kept there (omega (arith, number))) (z .stored);
         }
 
 -- ---- what ends a chain, by its first byte
@@ -261,7 +261,7 @@ module _ (s : List ℕ) (p : Step) (b n : ℕ) (table : List ℕ) (used : List B
       (run-else s p (eqb b 40) _ _ (ne-eqb b 40 d) ∙ run-else s p (eqb b 65) _ _ (ne-eqb b 65 c) ∙ look-run s p _ b e) k
 
 -- ---- chains
-module _ (s : List ℕ) (inner : Reader Process) (rows : ℕ) where
+module _ (s : List ℕ) (inner : Reader Process) (scope : Scope) where
   act-kept :
       (a : Action) (x : Process) (w n count c₂ : ℕ) (t t₁ t₂ : List ℕ) (u u₁ u₂ : List Bool) → w ≡ startWord (startOf count x)
       → KeptIn a w n t u count t₁ u₁ → Kept x count t₁ u₁ c₂ t₂ u₂ → Kept (act a x) n t u c₂ t₂ u₂
@@ -278,15 +278,15 @@ module _ (s : List ℕ) (inner : Reader Process) (rows : ℕ) where
   }
 
   act-coded :
-      (p q r : Step) (k n count c₂ : ℕ) (t t₁ t₂ : List ℕ) (u u₁ u₂ : List Bool) → Acted s p (action inner rows) n t u q count t₁ u₁
-      → Coded s q (chain k inner rows) count t₁ u₁ r c₂ t₂ u₂ → Coded s p (acting inner (chain k inner rows) rows) n t u r c₂ t₂ u₂
+      (p q r : Step) (k n count c₂ : ℕ) (t t₁ t₂ : List ℕ) (u u₁ u₂ : List Bool) → Acted s p (action inner scope) n t u q count t₁ u₁
+      → Coded s q (chain k inner scope) count t₁ u₁ r c₂ t₂ u₂ → Coded s p (acting inner (chain k inner scope) scope) n t u r c₂ t₂ u₂
   unfolding acting size
   act-coded p q r k n count c₂ t t₁ t₂ u u₁ u₂ a c = record {
     tree = act (a .tree) (c .tree);
     went =
-        on s p (a .middle) r (action inner rows) _ (a .tree) _ (a .went)
+        on s p (a .middle) r (action inner scope) _ (a .tree) _ (a .went)
         (next s (a .middle) q r (byte 46) _ tt _ (a .dot)
-        (on s q r r (chain k inner rows) _ (c .tree) _ (c .went) (stop s r (act (a .tree) (c .tree)))));
+        (on s q r r (chain k inner scope) _ (c .tree) _ (c .went) (stop s r (act (a .tree) (c .tree)))));
     small = c .small;
     most = λ h g.
         let second = c .most h g in
@@ -299,17 +299,17 @@ module _ (s : List ℕ) (inner : Reader Process) (rows : ℕ) where
         let first = a .kept (came s q r _ _ (c .went) h) (omega arith) in
         let counted = first .counted in
         act-kept (a .tree) (c .tree) (a .word) n count c₂ t t₁ t₂ u u₁ u₂
-        (a .follows .begins k rows inner r (c .tree) (c .went) h) first (c .kept h (omega (arith, counted)));
+        (a .follows .begins k scope inner r (c .tree) (c .went) h) first (c .kept h (omega (arith, counted)));
   }
 
   module _ (p₀ : Step) (k₀ n₀ : ℕ) (t₀ : List ℕ) (u₀ : List Bool) where
-    pub chained-begin : n₀ ≤ room → Chained s inner rows p₀ k₀ n₀ t₀ u₀ p₀ k₀ n₀ t₀ u₀
+    pub chained-begin : n₀ ≤ room → Chained s inner scope p₀ k₀ n₀ t₀ u₀ p₀ k₀ n₀ t₀ u₀
     chained-begin l = record { small = l; rest = λ q count t u c. c }
 
     module _ (p : Step) (k n : ℕ) (t : List ℕ) (u : List Bool) where
       pub chained-more :
-          (b : Bool) (q : Step) (count : ℕ) (t₁ : List ℕ) (u₁ : List Bool) → Chained s inner rows p₀ k₀ n₀ t₀ u₀ p k n t u → Goes s p k b → b ≡ true
-          → Acted s p (action inner rows) n t u q count t₁ u₁ → Chained s inner rows p₀ k₀ n₀ t₀ u₀ q (k - 1) count t₁ u₁
+          (b : Bool) (q : Step) (count : ℕ) (t₁ : List ℕ) (u₁ : List Bool) → Chained s inner scope p₀ k₀ n₀ t₀ u₀ p k n t u → Goes s p k b → b ≡ true
+          → Acted s p (action inner scope) n t u q count t₁ u₁ → Chained s inner scope p₀ k₀ n₀ t₀ u₀ q (k - 1) count t₁ u₁
       chained-more b q count t₁ u₁ l g e a =
           let more = g .more e in
           let one : suc (k - 1) ≡ k = omega (arith, more .0) in
@@ -317,33 +317,33 @@ module _ (s : List ℕ) (inner : Reader Process) (rows : ℕ) where
             small = a .small;
             rest = λ r c₂ t₂ u₂ c. l .rest r c₂ t₂ u₂
                 (coded-as s p _ _ n t u r c₂ t₂ u₂
-                (run-else s p false _ _ refl ∙ sym (more .1 .ends (k - 1) rows inner) ∙ ap (λ (i : ℕ). runFrom s p (chain i inner rows)) one)
+                (run-else s p false _ _ refl ∙ sym (more .1 .ends (k - 1) scope inner) ∙ ap (λ (i : ℕ). runFrom s p (chain i inner scope)) one)
                 (act-coded p q r (k - 1) n count c₂ t t₁ t₂ u u₁ u₂ a c));
           }
 
       pub chained-out :
-          (q : Step) (count : ℕ) (t₁ : List ℕ) (u₁ : List Bool) → Chained s inner rows p₀ k₀ n₀ t₀ u₀ p k n t u → k ≡ 0 → Coded s p (fail 31) n t u q count t₁ u₁
-          → Coded s p₀ (chain k₀ inner rows) n₀ t₀ u₀ q count t₁ u₁
+          (q : Step) (count : ℕ) (t₁ : List ℕ) (u₁ : List Bool) → Chained s inner scope p₀ k₀ n₀ t₀ u₀ p k n t u → k ≡ 0 → Coded s p (fail 31) n t u q count t₁ u₁
+          → Coded s p₀ (chain k₀ inner scope) n₀ t₀ u₀ q count t₁ u₁
       unfolding chain
       chained-out q count t₁ u₁ l e c = l .rest q count t₁ u₁ (rw e c)
 
       pub chained-end :
-          (b : Bool) (q : Step) (count : ℕ) (t₁ : List ℕ) (u₁ : List Bool) → Chained s inner rows p₀ k₀ n₀ t₀ u₀ p k n t u → Goes s p k b → b ≡ false
-          → (k ≡ 0 → ⊥) → Coded s p (ended inner) n t u q count t₁ u₁ → Coded s p₀ (chain k₀ inner rows) n₀ t₀ u₀ q count t₁ u₁
+          (b : Bool) (q : Step) (count : ℕ) (t₁ : List ℕ) (u₁ : List Bool) → Chained s inner scope p₀ k₀ n₀ t₀ u₀ p k n t u → Goes s p k b → b ≡ false
+          → (k ≡ 0 → ⊥) → Coded s p (ended inner) n t u q count t₁ u₁ → Coded s p₀ (chain k₀ inner scope) n₀ t₀ u₀ q count t₁ u₁
       chained-end b q count t₁ u₁ l g e z c =
           let one : suc (k - 1) ≡ k = omega (arith, z) in
           l .rest q count t₁ u₁
           (coded-as s p _ _ n t u q count t₁ u₁
-          (run-if s p true _ _ refl ∙ sym (g .done e (omega (arith, z)) .ends (k - 1) rows inner) ∙ ap (λ (i : ℕ). runFrom s p (chain i inner rows)) one) c)
+          (run-if s p true _ _ refl ∙ sym (g .done e (omega (arith, z)) .ends (k - 1) scope inner) ∙ ap (λ (i : ℕ). runFrom s p (chain i inner scope)) one) c)
 
 -- ---- a process
-module _ (s : List ℕ) (p : Step) (d rows n : ℕ) (t : List ℕ) (u : List Bool) (q : Step) (count : ℕ) (t₁ : List ℕ) (u₁ : List Bool) where
-  pub process-none : d ≡ 0 → Coded s p (fail 32) n t u q count t₁ u₁ → Coded s p (processAt d rows) n t u q count t₁ u₁
+module _ (s : List ℕ) (p : Step) (d : ℕ) (scope : Scope) (n : ℕ) (t : List ℕ) (u : List Bool) (q : Step) (count : ℕ) (t₁ : List ℕ) (u₁ : List Bool) where
+  pub process-none : d ≡ 0 → Coded s p (fail 32) n t u q count t₁ u₁ → Coded s p (processAt d scope) n t u q count t₁ u₁
   unfolding processAt
   process-none e c = rw e c
 
   pub process-chain :
-      (d ≡ 0 → ⊥) → Coded s p (chain (length s) (processAt (d - 1) rows) rows) n t u q count t₁ u₁ → Coded s p (processAt d rows) n t u q count t₁ u₁
+      (d ≡ 0 → ⊥) → Coded s p (chain (length s) (processAt (d - 1) scope) scope) n t u q count t₁ u₁ → Coded s p (processAt d scope) n t u q count t₁ u₁
   process-chain z c =
       let one : suc (d - 1) ≡ d = omega (arith, z) in
-      coded-as s p _ _ n t u q count t₁ u₁ (opened s p (d - 1) rows ∙ ap (λ (i : ℕ). runFrom s p (processAt i rows)) one) c
+      coded-as s p _ _ n t u q count t₁ u₁ (opened s p (d - 1) scope ∙ ap (λ (i : ℕ). runFrom s p (processAt i scope)) one) c

@@ -12,7 +12,7 @@ use Rattle.readers.specs.Progress.{reached, Went, runFrom}
 use Rattle.text.specs.Bytes.{bytes}
 use Rattle.lexemes.specs.Lexemes.{byte, word}
 use Rattle.fields.specs.Fields as Fields
-use Rattle.processes.specs.Types.{Step, Target, Instruction}
+use Rattle.processes.specs.Types.{Step, Target, Instruction, Scope}
 use Rattle.terms.specs.Terms.{Process, Action}
 use Rattle.processes.specs.Reading.{chain, ended, acting, atTarget}
 use Rattle.terms.specs.Numbering.{startOf, size, sizeIn}
@@ -25,14 +25,14 @@ room = 9223372036854775808
 -- the word w is that of what starts at step p, where the next instruction has the number n
 pub record Begins (s : List ℕ) (p : Step) (n w : ℕ) : Type 0 where
   pub begins :
-      (k rows : ℕ) (inner : Reader Process) (q : Step) (x : Process) → Went s p (chain k inner rows) q x → reached q ≡ true
+      (k : ℕ) (scope : Scope) (inner : Reader Process) (q : Step) (x : Process) → Went s p (chain k inner scope) q x → reached q ≡ true
       → w ≡ startWord (startOf n x)
 
 -- ---- whether a chain ends at a step
 pub record Ends (s : List ℕ) (p : Step) (b : Bool) : Type 0 where
   pub ends :
-      (k rows : ℕ) (inner : Reader Process)
-      → runFrom s p (chain (suc k) inner rows) ≡ runFrom s p (choose b (ended inner) (acting inner (chain k inner rows) rows))
+      (k : ℕ) (scope : Scope) (inner : Reader Process)
+      → runFrom s p (chain (suc k) inner scope) ≡ runFrom s p (choose b (ended inner) (acting inner (chain k inner scope) scope))
 
 -- whether one of at most k actions goes on
 pub record Goes (s : List ℕ) (p : Step) (k : ℕ) (b : Bool) : Type 0 where
@@ -88,16 +88,16 @@ pub record Closed (s : List ℕ) (p : Step) (n count kind target : ℕ) (c : Ins
   pub stored : table′ ≡ over table (9 * n) (instructionWords kind target c word second)
 
 -- a target read, as its word
-pub record Aimed (s : List ℕ) (p : Step) (rows : ℕ) (q : Step) (w : ℕ) : Type 0 where
+pub record Aimed (s : List ℕ) (p : Step) (addresses : ℕ) (q : Step) (w : ℕ) : Type 0 where
   pub target : Target
-  pub went : Went s p (atTarget rows) q target
+  pub went : Went s p (atTarget addresses) q target
   pub word : w ≡ targetWord target
 
 -- the target of an eval read, and the dot after it
-pub record Sent (s : List ℕ) (p : Step) (rows n count sent : ℕ) (table : List ℕ) (q : Step) (table′ : List ℕ) : Type 0 where
+pub record Sent (s : List ℕ) (p : Step) (scope : Scope) (n count sent : ℕ) (table : List ℕ) (q : Step) (table′ : List ℕ) : Type 0 where
   pub aimed : Step
   pub word : ℕ
-  pub aims : Aimed s p rows aimed word
+  pub aims : Aimed s p (scope .addresses) aimed word
   pub closed : Closed s aimed n count 4 word zeroInstruction sent table q table′
 
 -- the bracket after a fork read, and its instruction stored
@@ -105,17 +105,17 @@ pub record Shut (s : List ℕ) (p : Step) (n first second : ℕ) (table : List �
   pub bracket : Went s p (byte 41) q tt
   pub stored : table′ ≡ over table (9 * n) (instructionWords 6 0 zeroInstruction first second)
 
--- a template and a target read, and the dot after them
-pub record Filled (s : List ℕ) (p : Step) (formals : Bool) (rows n kind : ℕ) (table : List ℕ) (q : Step) (count : ℕ) (table′ : List ℕ) : Type 0 where
+-- the template and the target of an in or a read read, and the dot after them
+pub record Filled (s : List ℕ) (p : Step) (scope : Scope) (n kind : ℕ) (table : List ℕ) (q : Step) (count : ℕ) (table′ : List ℕ) : Type 0 where
   pub template : Instruction
   pub middle : Step
-  pub filled : Went s p (Fields.template formals rows) middle template
+  pub filled : Went s p (Fields.template true (scope .addresses)) middle template
   pub aimed : Step
   pub word : ℕ
-  pub aims : Aimed s middle rows aimed word
+  pub aims : Aimed s middle (scope .addresses) aimed word
   pub closed : Closed s aimed n count kind word template 0 table q table′
-  pub more : suc n ≤ room → count ≡ suc n
-  pub most : count < room → suc n ≤ room
+  pub more : n < room → count ≡ n + 1
+  pub most : count < room → n < room
   pub small : count ≤ room
 
 -- ---- the branches of a fork, whose instructions are numbered from m on
@@ -148,10 +148,10 @@ pub record Branched (s : List ℕ) (p : Step) (inner : Reader Process) (m : ℕ)
   pub kept : reached q ≡ true → m + size x + size y ≤ room → KeptBoth x y m table used first second count table′ used′
 
 -- ---- the chain of k₀ actions at most from step p₀ on is, with what is stored and marked, what that of k from step p on is
-pub record Chained (s : List ℕ) (inner : Reader Process) (rows : ℕ) (p₀ : Step) (k₀ n₀ : ℕ) (table₀ : List ℕ) (used₀ : List Bool)
+pub record Chained (s : List ℕ) (inner : Reader Process) (scope : Scope) (p₀ : Step) (k₀ n₀ : ℕ) (table₀ : List ℕ) (used₀ : List Bool)
     (p : Step) (k n : ℕ) (table : List ℕ) (used : List Bool) : Type 0 where
   pub small : n ≤ room
   pub rest :
       (q : Step) (count : ℕ) (table′ : List ℕ) (used′ : List Bool)
-      → Coded s p (chain k inner rows) n table used q count table′ used′
-      → Coded s p₀ (chain k₀ inner rows) n₀ table₀ used₀ q count table′ used′
+      → Coded s p (chain k inner scope) n table used q count table′ used′
+      → Coded s p₀ (chain k₀ inner scope) n₀ table₀ used₀ q count table′ used′

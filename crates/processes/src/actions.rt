@@ -2,6 +2,8 @@
 // number n, is stored with what follows the dot.
 use crate::names::one_more;
 use crate::names::start_here;
+use fields::scope::Scope;
+use fields::sets::read_group;
 use fields::templates::read_target;
 use fields::templates::read_template;
 use fields::values::read_variable;
@@ -10,6 +12,7 @@ use lexemes::words::read_byte;
 use lexemes::words::read_word;
 use net::instruction::Instruction;
 use readers::step::Step;
+use terms::table::group_word;
 use terms::table::store;
 use terms::table::target_word;
 ghost use Prim.Native.Nat.{_≤_};
@@ -17,8 +20,8 @@ ghost use mathlib.Core.Bool.{Bool};
 ghost use mathlib.Core.List.{List};
 ghost use Rattle.net.specs.Records.{zeroInstruction};
 ghost use Rattle.text.specs.Bytes.{bytes};
-ghost use Rattle.terms.specs.Terms.{out, input, read};
-ghost use Rattle.processes.specs.Reading.{communication, creation, simple};
+ghost use Rattle.terms.specs.Terms.{input, read};
+ghost use Rattle.processes.specs.Reading.{communication, toOne, toAll, receiving, putting, creation, simple};
 ghost use Rattle.processes.specs.Progress.{room, Aimed, Closed, Sent, Filled, Acted};
 
 // The step after something, and the number of the next instruction.
@@ -34,11 +37,11 @@ pub(crate) struct AimRead {
 }
 
 // A target, after the bracket that closes its action and @.
-pub(crate) fn read_aim(s: &[u8], from: Step, rows: usize) -> AimRead
-    ensures { λ r. ⌜ Aimed (now (s .entry)) from rows (r .next) (r .word) ⌝ }
+pub(crate) fn read_aim(s: &[u8], from: Step, addresses: usize) -> AimRead
+    ensures { λ r. ⌜ Aimed (now (s .entry)) from addresses (r .next) (r .word) ⌝ }
 {
     let shut = read_word(s, from, b")@");
-    let got = read_target(s, shut, rows);
+    let got = read_target(s, shut, addresses);
     let target = got.target;
     let word = target_word(target);
     let next = got.next;
@@ -88,68 +91,135 @@ pub(crate) fn close_plain(
 pub(crate) fn close_sent(
     s: &[u8],
     from: Step,
-    rows: usize,
+    scope: Scope,
     n: usize,
     count: usize,
     sent: usize,
     table: &mut [usize],
 ) -> Step
     requires { ⌜ count ≤ room ⌝ }
-    ensures { λ r. ⌜ Sent (now (s .entry)) from rows n count sent (now (table .entry)) r (now (table .exit)) ⌝ }
+    ensures { λ r. ⌜ Sent (now (s .entry)) from scope n count sent (now (table .entry)) r (now (table .exit)) ⌝ }
 {
-    let aim = read_aim(s, from, rows);
+    let aim = read_aim(s, from, scope.addresses);
     let aimed = aim.next;
     close_plain(s, aimed, n, count, 4, aim.word, sent, table)
 }
 
-// The template and the target of an out, an in or a read, which is opened, and its dot.
+// The template and the target of an in or a read, which is opened, and its dot.
 fn read_filled(
     s: &[u8],
     from: Step,
-    formals: bool,
-    rows: usize,
+    scope: Scope,
     n: usize,
     kind: usize,
     table: &mut [usize],
 ) -> CodeRead
     requires { ⌜ n ≤ room ⌝ }
-    ensures { λ r. ⌜ Filled (now (s .entry)) from formals rows n kind (now (table .entry)) (r .next) (r .count) (now (table .exit)) ⌝ }
+    ensures { λ r. ⌜ Filled (now (s .entry)) from scope n kind (now (table .entry)) (r .next) (r .count) (now (table .exit)) ⌝ }
 {
-    let got = read_template(s, from, formals, rows);
+    let got = read_template(s, from, true, scope.addresses);
     let c = got.template;
     let filled = got.next;
-    let aim = read_aim(s, filled, rows);
+    let aim = read_aim(s, filled, scope.addresses);
     let aimed = aim.next;
     let count = one_more(n);
     let next = close(s, aimed, n, count, kind, aim.word, c, 0, table);
     CodeRead { next, count }
 }
 
-// An out.
-fn read_out(s: &[u8], from: Step, rows: usize, n: usize, table: &mut [usize]) -> CodeRead
+// The target of an out of the template c, and its dot.
+fn read_to_one(
+    s: &[u8],
+    from: Step,
+    scope: Scope,
+    c: Instruction,
+    n: usize,
+    table: &mut [usize],
+) -> CodeRead
     requires { ⌜ n ≤ room ⌝ }
-    ensures { λ r. ⌜ ((used : List Bool) → Acted (now (s .entry)) from (communication (bytes "out(") Bool.false out rows) n (now (table .entry)) used (r .next) (r .count) (now (table .exit)) used) ⌝ }
+    ensures { λ r. ⌜ ((used : List Bool) → Acted (now (s .entry)) from (toOne scope c) n (now (table .entry)) used (r .next) (r .count) (now (table .exit)) used) ⌝ }
+{
+    let got = read_target(s, from, scope.addresses);
+    let target = got.target;
+    let word = target_word(target);
+    let aimed = got.next;
+    let count = one_more(n);
+    let next = close(s, aimed, n, count, 1, word, c, 0, table);
+    CodeRead { next, count }
+}
+
+// The set of an out of the template c, and its dot.
+fn read_to_all(
+    s: &[u8],
+    from: Step,
+    scope: Scope,
+    c: Instruction,
+    n: usize,
+    table: &mut [usize],
+) -> CodeRead
+    requires { ⌜ n ≤ room ⌝ }
+    ensures { λ r. ⌜ ((used : List Bool) → Acted (now (s .entry)) from (toAll scope c) n (now (table .entry)) used (r .next) (r .count) (now (table .exit)) used) ⌝ }
+{
+    let got = read_group(s, from, scope.addresses);
+    let group = got.group;
+    let word = group_word(group);
+    let aimed = got.next;
+    let count = one_more(n);
+    let next = close(s, aimed, n, count, 7, word, c, 0, table);
+    CodeRead { next, count }
+}
+
+// What an out of the template c is to, by its first byte and the format, and its dot.
+fn read_receiving(
+    s: &[u8],
+    from: Step,
+    scope: Scope,
+    c: Instruction,
+    n: usize,
+    table: &mut [usize],
+) -> CodeRead
+    requires { ⌜ n ≤ room ⌝ }
+    ensures { λ r. ⌜ ((used : List Bool) → Acted (now (s .entry)) from (receiving scope c) n (now (table .entry)) used (r .next) (r .count) (now (table .exit)) used) ⌝ }
+{
+    let b = byte_here(s, from);
+    let brace = b == 123;
+    let sets = scope.format == 2;
+    if brace & sets {
+        read_to_all(s, from, scope, c, n, table)
+    } else {
+        read_to_one(s, from, scope, c, n, table)
+    }
+}
+
+// An out.
+fn read_out(s: &[u8], from: Step, scope: Scope, n: usize, table: &mut [usize]) -> CodeRead
+    requires { ⌜ n ≤ room ⌝ }
+    ensures { λ r. ⌜ ((used : List Bool) → Acted (now (s .entry)) from (putting scope) n (now (table .entry)) used (r .next) (r .count) (now (table .exit)) used) ⌝ }
 {
     let opened = read_word(s, from, b"out(");
-    read_filled(s, opened, false, rows, n, 1, table)
+    let got = read_template(s, opened, false, scope.addresses);
+    let c = got.template;
+    let filled = got.next;
+    let shut = read_word(s, filled, b")@");
+    read_receiving(s, shut, scope, c, n, table)
 }
 
 // An in.
-fn read_in(s: &[u8], from: Step, rows: usize, n: usize, table: &mut [usize]) -> CodeRead
+fn read_in(s: &[u8], from: Step, scope: Scope, n: usize, table: &mut [usize]) -> CodeRead
     requires { ⌜ n ≤ room ⌝ }
-    ensures { λ r. ⌜ ((used : List Bool) → Acted (now (s .entry)) from (communication (bytes "in(") Bool.true input rows) n (now (table .entry)) used (r .next) (r .count) (now (table .exit)) used) ⌝ }
+    ensures { λ r. ⌜ ((used : List Bool) → Acted (now (s .entry)) from (communication (bytes "in(") input scope) n (now (table .entry)) used (r .next) (r .count) (now (table .exit)) used) ⌝ }
 {
     let opened = read_word(s, from, b"in(");
-    read_filled(s, opened, true, rows, n, 2, table)
+    read_filled(s, opened, scope, n, 2, table)
 }
 
 // A read.
-fn read_read(s: &[u8], from: Step, rows: usize, n: usize, table: &mut [usize]) -> CodeRead
+fn read_read(s: &[u8], from: Step, scope: Scope, n: usize, table: &mut [usize]) -> CodeRead
     requires { ⌜ n ≤ room ⌝ }
-    ensures { λ r. ⌜ ((used : List Bool) → Acted (now (s .entry)) from (communication (bytes "read(") Bool.true read rows) n (now (table .entry)) used (r .next) (r .count) (now (table .exit)) used) ⌝ }
+    ensures { λ r. ⌜ ((used : List Bool) → Acted (now (s .entry)) from (communication (bytes "read(") read scope) n (now (table .entry)) used (r .next) (r .count) (now (table .exit)) used) ⌝ }
 {
     let opened = read_word(s, from, b"read(");
-    read_filled(s, opened, true, rows, n, 3, table)
+    read_filled(s, opened, scope, n, 3, table)
 }
 
 // A newloc.
@@ -171,20 +241,20 @@ fn read_newloc(s: &[u8], from: Step, n: usize, table: &mut [usize]) -> CodeRead
 pub(crate) fn read_simple(
     s: &[u8],
     from: Step,
-    rows: usize,
+    scope: Scope,
     n: usize,
     table: &mut [usize],
 ) -> CodeRead
     requires { ⌜ n ≤ room ⌝ }
-    ensures { λ r. ⌜ ((used : List Bool) → Acted (now (s .entry)) from (simple rows) n (now (table .entry)) used (r .next) (r .count) (now (table .exit)) used) ⌝ }
+    ensures { λ r. ⌜ ((used : List Bool) → Acted (now (s .entry)) from (simple scope) n (now (table .entry)) used (r .next) (r .count) (now (table .exit)) used) ⌝ }
 {
     let b = byte_here(s, from);
     if b == 111 {
-        read_out(s, from, rows, n, table)
+        read_out(s, from, scope, n, table)
     } else if b == 105 {
-        read_in(s, from, rows, n, table)
+        read_in(s, from, scope, n, table)
     } else if b == 114 {
-        read_read(s, from, rows, n, table)
+        read_read(s, from, scope, n, table)
     } else {
         read_newloc(s, from, n, table)
     }

@@ -8,6 +8,7 @@ use crate::names::mark;
 use crate::names::one_more;
 use crate::names::read_name;
 use crate::names::start_here;
+use fields::scope::Scope;
 use lexemes::words::byte_here;
 use lexemes::words::fail_from;
 use lexemes::words::read_byte;
@@ -73,16 +74,16 @@ fn read_started(
     s: &[u8],
     from: Step,
     d: usize,
-    rows: usize,
+    scope: Scope,
     n: usize,
     table: &mut [usize],
     used: &mut [bool],
 ) -> StartRead
     requires { ⌜ n ≤ room ⌝ }
-    ensures { λ r. ⌜ Started (now (s .entry)) from (processAt d rows) n (now (table .entry)) (now (used .entry)) (r .start) (r .next) (r .count) (now (table .exit)) (now (used .exit)) ⌝ }
+    ensures { λ r. ⌜ Started (now (s .entry)) from (processAt d scope) n (now (table .entry)) (now (used .entry)) (r .start) (r .next) (r .count) (now (table .exit)) (now (used .exit)) ⌝ }
 {
     let start = start_here(s, from, n);
-    let got = read_level(s, from, d, rows, n, table, used);
+    let got = read_level(s, from, d, scope, n, table, used);
     let next = got.next;
     StartRead {
         start,
@@ -96,16 +97,16 @@ fn read_second(
     s: &[u8],
     from: Step,
     d: usize,
-    rows: usize,
+    scope: Scope,
     n: usize,
     table: &mut [usize],
     used: &mut [bool],
 ) -> StartRead
     requires { ⌜ n ≤ room ⌝ }
-    ensures { λ r. ⌜ Barred (now (s .entry)) from (processAt d rows) n (now (table .entry)) (now (used .entry)) (r .start) (r .next) (r .count) (now (table .exit)) (now (used .exit)) ⌝ }
+    ensures { λ r. ⌜ Barred (now (s .entry)) from (processAt d scope) n (now (table .entry)) (now (used .entry)) (r .start) (r .next) (r .count) (now (table .exit)) (now (used .exit)) ⌝ }
 {
     let bar = read_word(s, from, b" | ");
-    read_started(s, bar, d, rows, n, table, used)
+    read_started(s, bar, d, scope, n, table, used)
 }
 
 // Both branches of a fork, after its bracket.
@@ -113,17 +114,17 @@ fn read_branches(
     s: &[u8],
     from: Step,
     d: usize,
-    rows: usize,
+    scope: Scope,
     n: usize,
     table: &mut [usize],
     used: &mut [bool],
 ) -> BranchesRead
     requires { ⌜ n ≤ room ⌝ }
-    ensures { λ r. ⌜ Branched (now (s .entry)) from (processAt d rows) n (now (table .entry)) (now (used .entry)) (r .first) (r .second) (r .next) (r .count) (now (table .exit)) (now (used .exit)) ⌝ }
+    ensures { λ r. ⌜ Branched (now (s .entry)) from (processAt d scope) n (now (table .entry)) (now (used .entry)) (r .first) (r .second) (r .next) (r .count) (now (table .exit)) (now (used .exit)) ⌝ }
 {
-    let left = read_started(s, from, d, rows, n, table, used);
+    let left = read_started(s, from, d, scope, n, table, used);
     let before = left.next;
-    let right = read_second(s, before, d, rows, left.count, table, used);
+    let right = read_second(s, before, d, scope, left.count, table, used);
     let next = right.next;
     BranchesRead {
         first: left.start,
@@ -154,17 +155,17 @@ fn read_fork(
     s: &[u8],
     from: Step,
     d: usize,
-    rows: usize,
+    scope: Scope,
     n: usize,
     table: &mut [usize],
     used: &mut [bool],
 ) -> CodeRead
     requires { ⌜ n ≤ room ⌝ }
-    ensures { λ r. ⌜ Coded (now (s .entry)) from (forked (processAt d rows)) n (now (table .entry)) (now (used .entry)) (r .next) (r .count) (now (table .exit)) (now (used .exit)) ⌝ }
+    ensures { λ r. ⌜ Coded (now (s .entry)) from (forked (processAt d scope)) n (now (table .entry)) (now (used .entry)) (r .next) (r .count) (now (table .exit)) (now (used .exit)) ⌝ }
 {
     let opened = read_byte(s, from, 40);
     let number = one_more(n);
-    let both = read_branches(s, opened, d, rows, number, table, used);
+    let both = read_branches(s, opened, d, scope, number, table, used);
     let behind = both.next;
     let next = shut_fork(s, behind, n, both.first, both.second, table);
     CodeRead {
@@ -178,19 +179,19 @@ fn read_end(
     s: &[u8],
     from: Step,
     d: usize,
-    rows: usize,
+    scope: Scope,
     n: usize,
     table: &mut [usize],
     used: &mut [bool],
 ) -> CodeRead
     requires { ⌜ n ≤ room ⌝ }
-    ensures { λ r. ⌜ Coded (now (s .entry)) from (ended (processAt d rows)) n (now (table .entry)) (now (used .entry)) (r .next) (r .count) (now (table .exit)) (now (used .exit)) ⌝ }
+    ensures { λ r. ⌜ Coded (now (s .entry)) from (ended (processAt d scope)) n (now (table .entry)) (now (used .entry)) (r .next) (r .count) (now (table .exit)) (now (used .exit)) ⌝ }
 {
     let b = byte_here(s, from);
     if b == 65 {
         read_call(s, from, n, used)
     } else if b == 40 {
-        read_fork(s, from, d, rows, n, table, used)
+        read_fork(s, from, d, scope, n, table, used)
     } else {
         read_nil(s, from, n, table)
     }
@@ -201,19 +202,19 @@ fn read_eval(
     s: &[u8],
     from: Step,
     d: usize,
-    rows: usize,
+    scope: Scope,
     n: usize,
     table: &mut [usize],
     used: &mut [bool],
 ) -> CodeRead
     requires { ⌜ n ≤ room ⌝ }
-    ensures { λ r. ⌜ Acted (now (s .entry)) from (evaluation (processAt d rows) rows) n (now (table .entry)) (now (used .entry)) (r .next) (r .count) (now (table .exit)) (now (used .exit)) ⌝ }
+    ensures { λ r. ⌜ Acted (now (s .entry)) from (evaluation (processAt d scope) scope) n (now (table .entry)) (now (used .entry)) (r .next) (r .count) (now (table .exit)) (now (used .exit)) ⌝ }
 {
     let opened = read_word(s, from, b"eval(");
     let number = one_more(n);
-    let inner = read_started(s, opened, d, rows, number, table, used);
+    let inner = read_started(s, opened, d, scope, number, table, used);
     let behind = inner.next;
-    let next = close_sent(s, behind, rows, n, inner.count, inner.start, table);
+    let next = close_sent(s, behind, scope, n, inner.count, inner.start, table);
     CodeRead {
         next,
         count: inner.count,
@@ -225,18 +226,18 @@ fn read_action(
     s: &[u8],
     from: Step,
     d: usize,
-    rows: usize,
+    scope: Scope,
     n: usize,
     table: &mut [usize],
     used: &mut [bool],
 ) -> CodeRead
     requires { ⌜ n ≤ room ⌝ }
-    ensures { λ r. ⌜ Acted (now (s .entry)) from (action (processAt d rows) rows) n (now (table .entry)) (now (used .entry)) (r .next) (r .count) (now (table .exit)) (now (used .exit)) ⌝ }
+    ensures { λ r. ⌜ Acted (now (s .entry)) from (action (processAt d scope) scope) n (now (table .entry)) (now (used .entry)) (r .next) (r .count) (now (table .exit)) (now (used .exit)) ⌝ }
 {
     if byte_here(s, from) == 101 {
-        read_eval(s, from, d, rows, n, table, used)
+        read_eval(s, from, d, scope, n, table, used)
     } else {
-        read_simple(s, from, rows, n, table)
+        read_simple(s, from, scope, n, table)
     }
 }
 
@@ -245,27 +246,27 @@ fn read_chain(
     s: &[u8],
     from: Step,
     d: usize,
-    rows: usize,
+    scope: Scope,
     n: usize,
     table: &mut [usize],
     used: &mut [bool],
 ) -> CodeRead
     requires { ⌜ n ≤ room ⌝ }
-    ensures { λ r. ⌜ Coded (now (s .entry)) from (chain (length (now (s .entry))) (processAt d rows) rows) n (now (table .entry)) (now (used .entry)) (r .next) (r .count) (now (table .exit)) (now (used .exit)) ⌝ }
+    ensures { λ r. ⌜ Coded (now (s .entry)) from (chain (length (now (s .entry))) (processAt d scope) scope) n (now (table .entry)) (now (used .entry)) (r .next) (r .count) (now (table .exit)) (now (used .exit)) ⌝ }
 {
     let mut next = from;
     let mut count = n;
     let mut left = s.len();
     while goes_on(s, next, left) {
         left -= 1;
-        let acted = read_action(s, next, d, rows, count, table, used);
+        let acted = read_action(s, next, d, scope, count, table, used);
         next = acted.next;
         count = acted.count;
     }
     if left == 0 {
         no_process(next, count, 31)
     } else {
-        read_end(s, next, d, rows, count, table, used)
+        read_end(s, next, d, scope, count, table, used)
     }
 }
 
@@ -274,18 +275,18 @@ fn read_level(
     s: &[u8],
     from: Step,
     d: usize,
-    rows: usize,
+    scope: Scope,
     n: usize,
     table: &mut [usize],
     used: &mut [bool],
 ) -> CodeRead
     requires { ⌜ n ≤ room ⌝ }
-    ensures { λ r. ⌜ Coded (now (s .entry)) from (processAt d rows) n (now (table .entry)) (now (used .entry)) (r .next) (r .count) (now (table .exit)) (now (used .exit)) ⌝ }
+    ensures { λ r. ⌜ Coded (now (s .entry)) from (processAt d scope) n (now (table .entry)) (now (used .entry)) (r .next) (r .count) (now (table .exit)) (now (used .exit)) ⌝ }
 {
     if d == 0 {
         no_process(from, n, 32)
     } else {
-        read_chain(s, from, d - 1, rows, n, table, used)
+        read_chain(s, from, d - 1, scope, n, table, used)
     }
 }
 
@@ -293,13 +294,13 @@ fn read_level(
 pub fn read_process(
     s: &[u8],
     from: Step,
-    rows: usize,
+    scope: Scope,
     n: usize,
     table: &mut [usize],
     used: &mut [bool],
 ) -> StartRead
     requires { ⌜ n ≤ room ⌝ }
-    ensures { λ r. ⌜ Started (now (s .entry)) from (process rows) n (now (table .entry)) (now (used .entry)) (r .start) (r .next) (r .count) (now (table .exit)) (now (used .exit)) ⌝ }
+    ensures { λ r. ⌜ Started (now (s .entry)) from (process scope) n (now (table .entry)) (now (used .entry)) (r .start) (r .next) (r .count) (now (table .exit)) (now (used .exit)) ⌝ }
 {
-    read_started(s, from, 33, rows, n, table, used)
+    read_started(s, from, 33, scope, n, table, used)
 }

@@ -14,4 +14,7 @@ read-out-spec =
     (λ c κs. search needs)
     (λ c κs. search needs)
     (λ c. search needs)
-    (λ c. search (needs, out-acted)))
+    (λ c κs. search needs)
+    (λ c κs. search needs)
+    (λ c. search needs)
+    (λ c. search (needs, out-acted, c .before .before .read-receiving .ensures)))

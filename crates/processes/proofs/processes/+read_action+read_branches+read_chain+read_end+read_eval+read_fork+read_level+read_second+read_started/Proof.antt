@@ -165,10 +165,10 @@ read-started-below t =
     read-started.Pre
 
 abbrev read-chain-Inv-loop : read-chain-lts.InvT-loop
-read-chain-Inv-loop s d rows n table₀ used₀ next₀ count₀ left₀ table used next count left = Chained s (processAt d rows) rows next₀ left₀ n table₀ used₀ next left count table used × ((length table ≡ length table₀) × (length used ≡ length used₀))
+read-chain-Inv-loop s d scope n table₀ used₀ next₀ count₀ left₀ table used next count left = Chained s (processAt d scope) scope next₀ left₀ n table₀ used₀ next left count table used × ((length table ≡ length table₀) × (length used ≡ length used₀))
 
 abbrev read-chain-μ-loop : read-chain-lts.MeasureT-loop
-read-chain-μ-loop s d rows n table₀ used₀ next₀ count₀ left₀ table used next count left = left
+read-chain-μ-loop s d scope n table₀ used₀ next₀ count₀ left₀ table used next count left = left
 
 pub +read-action+read-branches+read-chain+read-end+read-eval+read-fork+read-level+read-second+read-started-spec :
     {M : Type 1} → statement M
