@@ -34,7 +34,7 @@ use Rattle.linking.specs.Source.{Line, definition, process, tuple}
 use Rattle.linking.specs.Compiled.{sizeOf, placed}
 use Rattle.linking.specs.Counts.{processesIn, tuplesIn, counted}
 use Rattle.linking.specs.State.{State, after, entered, unplaced}
-use Rattle.notation.specs.Types.{Step, Locality, Place, Tuple, Process, Node, Changed, Net}
+use Rattle.notation.specs.Types.{Step, Locality, Place, Tuple, Process, Node, Changed, Net, Scope}
 use Rattle.notation.specs.Lines.{definitionLine, processLine, tupleLine, placedLine, locatedLine, line}
 use Rattle.notation.specs.LineProgress.{state, Lined, Slotted, Roomed, Owner, Here, Defined, Tupled, Placed, Located, AnyLined}
 
@@ -45,24 +45,24 @@ unfolding reached runFrom
 require-same s (Step.At p) q b c n e w = rw (← (e refl)) w
 require-same s (Step.Failed f) q b c n e w = record { went = w .went }
 
-module _ (s : List ℕ) (rows n : ℕ) where
+module _ (s : List ℕ) (scope : Scope) (n : ℕ) where
   -- ---- a process, with the word of its start
   start-is :
       (p q : Step) (table table′ : List ℕ) (uses uses′ : List Bool) (w count : ℕ)
-      (g : Started s p (Reading.process rows) n table uses w q count table′ uses′) → reached q ≡ true
+      (g : Started s p (Reading.process scope) n table uses w q count table′ uses′) → reached q ≡ true
       → w ≡ startWord (startOf n (g .coded .tree))
   unfolding Reading.process
-  start-is p q table table′ uses uses′ w count g h = begins-process s p n w 33 rows q (g .coded .tree) (g .start) (g .coded .went) h
+  start-is p q table table′ uses uses′ w count g h = begins-process s p n w 33 scope q (g .coded .tree) (g .start) (g .coded .went) h
 
   -- ---- a definition
   module _ (from equals read next′ : Step) (r : NumberRead) (w count : ℕ) (table table′ : List ℕ) (uses uses′ : List Bool)
       (bodies bodies′ : List ℕ) (defs defs′ : List Bool) (twice before twice′ : Bool) where
     pub definition-lined :
         Numbered s from named 511 r → Went s (r .next) (word (bytes " = ")) equals tt
-        → Started s equals (Reading.process rows) n table uses w read count table′ uses′ → Went s read (byte 10) next′ tt
+        → Started s equals (Reading.process scope) n table uses w read count table′ uses′ → Went s read (byte 10) next′ tt
         → before ≡ getD defs (r .value) false → bodies′ ≡ choose before bodies (set bodies (r .value) w)
         → defs′ ≡ set defs (r .value) true → twice′ ≡ choose before true twice
-        → Defined s from (definitionLine rows) n table uses bodies defs twice next′ count table′ uses′ bodies′ defs′ twice′
+        → Defined s from (definitionLine scope) n table uses bodies defs twice next′ count table′ uses′ bodies′ defs′ twice′
     unfolding definitionLine state after entered sizeOf
     definition-lined a b g d e f h i = record {
       lined = λ starts net. record {
@@ -82,9 +82,9 @@ module _ (s : List ℕ) (rows n : ℕ) where
   module _ (from next′ : Step) (a : Locality) (node people : Node) (k w count : ℕ) (table table′ : List ℕ)
       (uses uses′ : List Bool) (starts starts′ : List ℕ) (twice : Bool) where
     pub process-lined :
-        k ≡ processCount node → Slotted s from rows n k table uses w next′ count table′ uses′
+        k ≡ processCount node → Slotted s from scope n k table uses w next′ count table′ uses′
         → starts′ ≡ set starts (4 * a .0 + k) w → people ≡ withProcess node k (startingAt a (placeOf 0))
-        → Placed s from (processLine rows) n table uses twice starts a node next′ count table′ uses′ twice starts′ people
+        → Placed s from (processLine scope) n table uses twice starts a node next′ count table′ uses′ twice starts′ people
     unfolding processLine state after sizeOf placed unplaced
     process-lined c y e f =
         let g = y .started in
@@ -108,8 +108,8 @@ module _ (s : List ℕ) (rows n : ℕ) where
   -- ---- a tuple at an address
   module _ (from next′ : Step) (a : Locality) (t : Tuple) (node people : Node) (twice : Bool) where
     pub tuple-lined :
-        n ≤ room → Roomed s from rows (node .stored) next′ t → people ≡ withTuple node (marked a t)
-        → Tupled s from (tupleLine rows) n twice a node next′ n twice people
+        n ≤ room → Roomed s from scope (node .stored) next′ t → people ≡ withTuple node (marked a t)
+        → Tupled s from (tupleLine scope) n twice a node next′ n twice people
     unfolding tupleLine state after sizeOf placed
     tuple-lined o y e = record {
       lined = λ ls table uses bodies defs starts net h. record {
@@ -128,15 +128,15 @@ module _ (s : List ℕ) (rows n : ℕ) where
 
 -- ---- the parts of a line
 pub slotted :
-    (s : List ℕ) (p free read q : Step) (rows n k : ℕ) (table : List ℕ) (uses : List Bool) (w count : ℕ) (table′ : List ℕ) (uses′ : List Bool)
-    → Went s p (require (ltb k 4) 22) free tt → Started s free (Reading.process rows) n table uses w read count table′ uses′
-    → Went s read (byte 10) q tt → Slotted s p rows n k table uses w q count table′ uses′
-slotted s p free read q rows n k table uses w count table′ uses′ a b c = record { free = free; read = read; slot = a; started = b; ended = c }
+    (s : List ℕ) (p free read q : Step) (scope : Scope) (n k : ℕ) (table : List ℕ) (uses : List Bool) (w count : ℕ) (table′ : List ℕ) (uses′ : List Bool)
+    → Went s p (require (ltb k 4) 22) free tt → Started s free (Reading.process scope) n table uses w read count table′ uses′
+    → Went s read (byte 10) q tt → Slotted s p scope n k table uses w q count table′ uses′
+slotted s p free read q scope n k table uses w count table′ uses′ a b c = record { free = free; read = read; slot = a; started = b; ended = c }
 
 pub roomed :
-    (s : List ℕ) (p free read q : Step) (rows m : ℕ) (t : Tuple) → Went s p (require (ltb m 16) 22) free tt
-    → Went s free (Fields.tuple rows) read t → Went s read (byte 10) q tt → Roomed s p rows m q t
-roomed s p free read q rows m t a b c = record { free = free; read = read; space = a; got = b; ended = c }
+    (s : List ℕ) (p free read q : Step) (scope : Scope) (m : ℕ) (t : Tuple) → Went s p (require (ltb m 16) 22) free tt
+    → Went s free (Fields.tuple (scope .addresses)) read t → Went s read (byte 10) q tt → Roomed s p scope m q t
+roomed s p free read q scope m t a b c = record { free = free; read = read; space = a; got = b; ended = c }
 
 pub started-is :
     (x r : Node) (k : ℕ) (p : Process) (a : Locality) (q : Place) → p ≡ startingAt a q → r ≡ withProcess x k p → r ≡ withProcess x k (startingAt a q)
@@ -152,11 +152,11 @@ pub stored-is : (x : Node) (t u : Tuple) (c : Changed) → u ≡ t → c ≡ put
 unfolding putIn
 stored-is x t u c d e = ap (λ (y : Changed). y .node) e ∙ ap (withTuple x) d
 
-module _ (s : List ℕ) (p q : Step) (rows b n count : ℕ) (twice twice′ : Bool) (a : Locality) (node people : Node) (table table′ : List ℕ)
+module _ (s : List ℕ) (p q : Step) (scope : Scope) (b n count : ℕ) (twice twice′ : Bool) (a : Locality) (node people : Node) (table table′ : List ℕ)
     (uses uses′ : List Bool) (starts starts′ : List ℕ) (e : b ≡ byteHere s p) where
   pub tuple-placed :
-      b ≡ 60 → Tupled s p (tupleLine rows) n twice a node q count twice′ people
-      → Placed s p (placedLine rows) n table uses twice starts a node q count table uses twice′ starts people
+      b ≡ 60 → Tupled s p (tupleLine scope) n twice a node q count twice′ people
+      → Placed s p (placedLine scope) n table uses twice starts a node q count table uses twice′ starts people
   unfolding placedLine
   tuple-placed h f = record {
     lined = λ ls bodies defs net z.
@@ -164,8 +164,8 @@ module _ (s : List ℕ) (p q : Step) (rows b n count : ℕ) (twice twice′ : Bo
   }
 
   pub process-placed :
-      (b ≡ 60 → ⊥) → Placed s p (processLine rows) n table uses twice starts a node q count table′ uses′ twice′ starts′ people
-      → Placed s p (placedLine rows) n table uses twice starts a node q count table′ uses′ twice′ starts′ people
+      (b ≡ 60 → ⊥) → Placed s p (processLine scope) n table uses twice starts a node q count table′ uses′ twice′ starts′ people
+      → Placed s p (placedLine scope) n table uses twice starts a node q count table′ uses′ twice′ starts′ people
   unfolding placedLine
   process-placed h f = record {
     lined = λ ls bodies defs net z.
@@ -173,12 +173,12 @@ module _ (s : List ℕ) (p q : Step) (rows b n count : ℕ) (twice twice′ : Bo
   }
 
 -- ---- a line at an address, and any line
-module _ (s : List ℕ) (p named′ opened q : Step) (rows n count : ℕ) (twice twice′ : Bool) (a : Locality) (node people : Node) (table table′ : List ℕ)
+module _ (s : List ℕ) (p named′ opened q : Step) (scope : Scope) (n count : ℕ) (twice twice′ : Bool) (a : Locality) (node people : Node) (table table′ : List ℕ)
     (uses uses′ : List Bool) (starts starts′ : List ℕ) where
   pub located-lined :
-      Went s p (address rows) named′ a → Went s named′ (word (bytes " :: ")) opened tt
-      → Placed s opened (placedLine rows) n table uses twice starts a node q count table′ uses′ twice′ starts′ people
-      → Located s p rows (locatedLine rows) n table uses twice starts node q count table′ uses′ twice′ starts′ people
+      Went s p (address (scope .addresses)) named′ a → Went s named′ (word (bytes " :: ")) opened tt
+      → Placed s opened (placedLine scope) n table uses twice starts a node q count table′ uses′ twice′ starts′ people
+      → Located s p scope (locatedLine scope) n table uses twice starts node q count table′ uses′ twice′ starts′ people
   unfolding locatedLine state
   located-lined u v f = record {
     lined = λ at ls bodies defs net o h.
@@ -201,20 +201,20 @@ module _ (s : List ℕ) (p named′ opened q : Step) (rows n count : ℕ) (twice
         };
   }
 
-module _ (s : List ℕ) (p q : Step) (rows b n count : ℕ) (twice twice′ : Bool) (node people : Node) (table table′ : List ℕ) (uses uses′ : List Bool)
+module _ (s : List ℕ) (p q : Step) (scope : Scope) (b n count : ℕ) (twice twice′ : Bool) (node people : Node) (table table′ : List ℕ) (uses uses′ : List Bool)
     (starts starts′ bodies bodies′ : List ℕ) (defs defs′ : List Bool) (e : b ≡ byteHere s p) where
   same-node : (net : Net) (at : ℕ) (x : Node) → nodeAt net (addressOf at) ≡ x → withNode net (addressOf at) x ≡ net
   unfolding nodeAt withNode
   same-node net at x h = rw (← h, set-getD (net .nodes) at _) refl
 
   pub line-defined :
-      b ≡ 65 → people ≡ node → Defined s p (definitionLine rows) n table uses bodies defs twice q count table′ uses′ bodies′ defs′ twice′
-      → AnyLined s p rows (state n table uses bodies defs twice starts) node q (state count table′ uses′ bodies′ defs′ twice′ starts) people
+      b ≡ 65 → people ≡ node → Defined s p (definitionLine scope) n table uses bodies defs twice q count table′ uses′ bodies′ defs′ twice′
+      → AnyLined s p scope (state n table uses bodies defs twice starts) node q (state count table′ uses′ bodies′ defs′ twice′ starts) people
   unfolding line state
   line-defined h same f = record {
     lined = λ at ls net o t.
         let l = f .lined starts net in
-        let whole = lined-as s p q _ (line rows ls) _ _ (run-if s p (eqb b 65) _ _ (eq-eqb b 65 h) ∙ look-run s p _ b e) l in
+        let whole = lined-as s p q _ (line scope ls) _ _ (run-if s p (eqb b 65) _ _ (eq-eqb b 65 h) ∙ look-run s p _ b e) l in
         record {
           read = whole .read;
           went = whole .went;
@@ -227,8 +227,8 @@ module _ (s : List ℕ) (p q : Step) (rows b n count : ℕ) (twice twice′ : Bo
   }
 
   pub line-located :
-      (b ≡ 65 → ⊥) → Located s p rows (locatedLine rows) n table uses twice starts node q count table′ uses′ twice′ starts′ people
-      → AnyLined s p rows (state n table uses bodies defs twice starts) node q (state count table′ uses′ bodies defs twice′ starts′) people
+      (b ≡ 65 → ⊥) → Located s p scope (locatedLine scope) n table uses twice starts node q count table′ uses′ twice′ starts′ people
+      → AnyLined s p scope (state n table uses bodies defs twice starts) node q (state count table′ uses′ bodies defs twice′ starts′) people
   unfolding line
   line-located h f = record {
     lined = λ at ls net o t.
@@ -255,13 +255,13 @@ pub address-below : (s : List ℕ) (p q : Step) (n : ℕ) (a : Locality) → Wen
 address-below s p q n a w h = went-gives s p q (address n) (λ l. l .0 < n) a (address-gives n) w h
 
 pub owner-found :
-    (s : List ℕ) (p q : Step) (rows : ℕ) (a : Locality) (r : ℕ) → rows ≤ 16 → Went s p (address rows) q a → r ≡ a .0 % 16
-    → Owner s p rows r
-owner-found s p q rows a r h w e = record {
+    (s : List ℕ) (p q : Step) (scope : Scope) (a : Locality) (r : ℕ) → scope .addresses ≤ 16 → Went s p (address (scope .addresses)) q a → r ≡ a .0 % 16
+    → Owner s p scope r
+owner-found s p q scope a r h w e = record {
   below = omega arith;
   owner = λ y b v z.
-      let same : b ≡ a = one-value s p y q (address rows) b a v w z in
-      let low : b .0 < rows = address-below s p y rows b v z in
+      let same : b ≡ a = one-value s p y q (address (scope .addresses)) b a v w z in
+      let low : b .0 < scope .addresses = address-below s p y (scope .addresses) b v z in
       let here : b .0 ≡ r = omega (arith, ap (λ (l : Locality). l .0) same) in
       ap addressOf here;
 }

@@ -31,7 +31,7 @@ use Rattle.linking.specs.State.{State, afterAll, unplaced, FitsLine, FitAll}
 use Rattle.linking.specs.State as State
 use Rattle.linking.proofs.NodeCounts.{counts-more}
 use Rattle.linking.proofs.Peopled.{after-more, fit-more, after-count, after-net-one, total-more}
-use Rattle.notation.specs.Types.{Step, Locality, Node, Net}
+use Rattle.notation.specs.Types.{Step, Locality, Node, Net, Scope}
 use Rattle.notation.specs.Lines.{definitionLine, processLine, tupleLine, placedLine, locatedLine, line, linesAfter, lines}
 use Rattle.notation.specs.LineProgress.{state, Lined, Owner, AnyLined, inside, Spans, Lining, AllLined}
 use Rattle.notation.proofs.LineLaws.{address-gives}
@@ -61,24 +61,24 @@ module _ (s : List ℕ) (p : Step) (left : ℕ) (r : Bool) (e : r ≡ both (leb 
   pub left-less : r ≡ true → left - 1 < left
   left-less t = let one = more-left t in omega arith
 
--- ---- what holds of a line that is read after those of ls, where there are at most 16 rows
+-- ---- what holds of a line that is read after those of ls, where there are at most 16 addresses
 Good : List Line → Line → Type 0
 Good ls (definition k x) = (k < 512) × fits x
 Good ls (process a x) = (a .0 < 16) × (fits x × (counted (processesIn a) ls < 4))
 Good ls (tuple a t) = (a .0 < 16) × (counted (tuplesIn a) ls < 16)
 
-module _ (n : ℕ) (few : n ≤ 16) (ls : List Line) where
-  process-good : Gives Any (Reading.process n) fits
+module _ (scope : Scope) (few : scope .addresses ≤ 16) (ls : List Line) where
+  process-good : Gives Any (Reading.process scope) fits
   unfolding Reading.process
-  process-good = process-fits 33 n
+  process-good = process-fits 33 scope
 
-  definition-good : Gives Any (definitionLine n) (Good ls)
+  definition-good : Gives Any (definitionLine scope) (Good ls)
   unfolding definitionLine Good
   definition-good =
       gives-then named-most (λ k h. gives-and (any (word _)) (λ _ _. gives-then process-good (λ x f.
       gives-and (any (byte 10)) (λ _ _. gives-pure (Good ls) (definition k x) (omega arith, f)))))
 
-  placed-good : (a : Locality) → a .0 < 16 → Gives Any (placedLine n ls a) (Good ls)
+  placed-good : (a : Locality) → a .0 < 16 → Gives Any (placedLine scope ls a) (Good ls)
   unfolding placedLine tupleLine processLine Good
   placed-good a h = gives-look _ _ (λ b. gives-choice (Good ls) _ _ _
       (gives-and (gives-require _ 22 tt) (λ _ e. gives-then (any _) (λ t _.
@@ -86,10 +86,10 @@ module _ (n : ℕ) (few : n ≤ 16) (ls : List Line) where
       (gives-and (gives-require _ 22 tt) (λ _ e. gives-then process-good (λ x f.
       gives-and (any (byte 10)) (λ _ _. gives-pure (Good ls) (process a x) (h, (f, ltb-true _ _ e)))))))
 
-  line-good : Gives Any (line n ls) (Good ls)
+  line-good : Gives Any (line scope ls) (Good ls)
   unfolding line locatedLine
   line-good = gives-look _ _ (λ b. gives-choice (Good ls) _ _ _ definition-good
-      (gives-then (address-gives n) (λ a h. gives-and (any (word _)) (λ _ _. placed-good a (omega arith)))))
+      (gives-then (address-gives (scope .addresses)) (λ a h. gives-and (any (word _)) (λ _ _. placed-good a (omega arith)))))
 
 -- such a line finds its address and its room in a net that has what the lines before say
 good-fits : (ls : List Line) (s : Net) → Counts ls s → (l : Line) → Good ls l → FitsLine s l
@@ -105,15 +105,15 @@ good-room ls (process a x) g = (g .0, g .1 .1)
 good-room ls (tuple a t) g = g
 
 -- ---- one line more
-module _ (s : List ℕ) (rows : ℕ) where
+module _ (s : List ℕ) (scope : Scope) where
   one-line :
-      (p q : Step) (left k : ℕ) (ls : List Line) (l : Line) → left ≡ suc k → inside s p ≡ true → Went s p (line rows ls) q l
-      → runFrom s p (linesAfter left rows ls) ≡ runFrom s q (linesAfter k rows (ls ++ (l ∷ [])))
+      (p q : Step) (left k : ℕ) (ls : List Line) (l : Line) → left ≡ suc k → inside s p ≡ true → Went s p (line scope ls) q l
+      → runFrom s p (linesAfter left scope ls) ≡ runFrom s q (linesAfter k scope (ls ++ (l ∷ [])))
   unfolding linesAfter inside runFrom
   one-line (Step.At p) q left k ls l e t w =
       rw e
       (ap (λ (m : Reader (List Line)). m s p) (choose-false _ _ _ (lt-leb (length s) p (ltb-true p (length s) t)))
-      ∙ after s (Step.At p) q (line rows ls) _ l w)
+      ∙ after s (Step.At p) q (line scope ls) _ l w)
   one-line (Step.Failed f) q left k ls l e t w = never t
 
   inside-reached : (p : Step) → inside s p ≡ true → reached p ≡ true
@@ -123,11 +123,11 @@ module _ (s : List ℕ) (rows : ℕ) where
 
   -- how far a line goes
   spans-more :
-      (p q : Step) (ls : List Line) (l : Line) → reached p ≡ true → Spans (total ls) p → Went s p (line rows ls) q l
+      (p q : Step) (ls : List Line) (l : Line) → reached p ≡ true → Spans (total ls) p → Went s p (line scope ls) q l
       → Spans (total ls + sizeOf l) q × (reached q ≡ true → 3 * (total ls + sizeOf l) ≤ length s)
   unfolding Spans reached outcome runFrom
   spans-more (Step.At p) (Step.At q) ls l t h w =
-      let far = line-long rows ls s p q l (sym (w .went)) in (omega arith, λ _. omega arith)
+      let far = line-long scope ls s p q l (sym (w .went)) in (omega arith, λ _. omega arith)
   spans-more (Step.At p) (Step.Failed f) ls l t h w = (tt, λ z. never z)
   spans-more (Step.Failed g) q ls l t h w = never t
 
@@ -136,12 +136,12 @@ module _ (s : List ℕ) (rows : ℕ) where
   spans-none (Step.At p) = omega arith
   spans-none (Step.Failed f) = tt
 
-  whole : (q : Step) → runFrom s q (lines rows) ≡ runFrom s q (linesAfter (length s) rows [])
+  whole : (q : Step) → runFrom s q (lines scope) ≡ runFrom s q (linesAfter (length s) scope [])
   unfolding lines runFrom
   whole (Step.At q) = refl
   whole (Step.Failed g) = refl
 
-  ended-lines : (p : Step) (left : ℕ) (ls : List Line) → both (leb 1 left) (inside s p) ≡ false → runFrom s p (linesAfter left rows ls) ≡ outcome p ls
+  ended-lines : (p : Step) (left : ℕ) (ls : List Line) → both (leb 1 left) (inside s p) ≡ false → runFrom s p (linesAfter left scope ls) ≡ outcome p ls
   unfolding linesAfter inside runFrom outcome both pure
   ended-lines (Step.At p) zero ls e = refl
   ended-lines (Step.At p) (suc k) ls e = ap (λ (m : Reader (List Line)). m s p) (choose-true _ _ _ (le-leb (length s) p (outside p (rw (le-leb 1 (suc k) (omega arith)) at e))))
@@ -151,7 +151,7 @@ module _ (s : List ℕ) (rows : ℕ) where
   ended-lines (Step.Failed f) left ls e = refl
 
   module _ (p₀ : Step) (first : State) (zero-count : first .count ≡ 0) where
-    lining-begin : (left : ℕ) → length s < 18446744073709551616 → rows ≤ 16 → left ≡ length s → Counts [] (first .net) → Lining s p₀ rows first p₀ left first
+    lining-begin : (left : ℕ) → length s < 18446744073709551616 → scope .addresses ≤ 16 → left ≡ length s → Counts [] (first .net) → Lining s p₀ scope first p₀ left first
     unfolding afterAll FitAll total
     lining-begin left short few e c = record {
       lines = [];
@@ -168,9 +168,9 @@ module _ (s : List ℕ) (rows : ℕ) where
     lining-more :
         (p q : Step) (left at : ℕ) (more : Bool) (before : Net → State) (net : Net) (behind : Net → State) (x y : Node)
         → more ≡ true → more ≡ both (leb 1 left) (inside s p) → ((t : Net) → before t .net ≡ t)
-        → Lining s p₀ rows first p left (before net) → Owner s p rows at → x ≡ nodeAt net (addressOf at)
-        → AnyLined s p rows before x q behind y
-        → Lining s p₀ rows first q (left - 1) (behind (withNode net (addressOf at) y))
+        → Lining s p₀ scope first p left (before net) → Owner s p scope at → x ≡ nodeAt net (addressOf at)
+        → AnyLined s p scope before x q behind y
+        → Lining s p₀ scope first q (left - 1) (behind (withNode net (addressOf at) y))
     unfolding room
     lining-more p q left at more before net behind x y t e b i o z a =
         let on : inside s p ≡ true = both-r (leb 1 left) _ (sym e ∙ t) in
@@ -186,7 +186,7 @@ module _ (s : List ℕ) (rows : ℕ) where
         let far = spans-more p q (i .lines) (l .read) here (i .spans) (l .went) in
         let sum = total-more (i .lines) (l .read) in
         let count : before net .count ≡ total (i .lines) = ap (λ (u : State). u .count) (i .kept here) ∙ after-count (i .lines) first ∙ omega (arith, zero-count) in
-        let good : reached q ≡ true → Good (i .lines) (l .read) = λ r. went-gives s p q (line rows (i .lines)) (Good (i .lines)) (l .read) (line-good rows (i .few) (i .lines)) (l .went) r in
+        let good : reached q ≡ true → Good (i .lines) (l .read) = λ r. went-gives s p q (line scope (i .lines)) (Good (i .lines)) (l .read) (line-good scope (i .few) (i .lines)) (l .went) r in
         let step : reached q ≡ true → behind (withNode net (addressOf at) y) ≡ State.after (l .read) (before net) = λ r. l .kept r (let long = far .1 r in omega (arith, count, i .short)) in
         record {
           lines = i .lines ++ (l .read ∷ []);
@@ -206,7 +206,7 @@ module _ (s : List ℕ) (rows : ℕ) where
 
     lining-end :
         (p : Step) (left : ℕ) (more : Bool) (now : State) → more ≡ false → more ≡ both (leb 1 left) (inside s p)
-        → Lining s p₀ rows first p left now → AllLined s p₀ rows first p now
+        → Lining s p₀ scope first p left now → AllLined s p₀ scope first p now
     lining-end p left more now f e i = record {
       read = i .lines;
       went = record { went = sym (whole p₀ ∙ i .rest ∙ ended-lines p left (i .lines) (sym e ∙ f)) };
@@ -223,13 +223,13 @@ module _ (s : List ℕ) (rows : ℕ) where
     unfolding state
     none-counted = refl
 
-    pub lines-begin : (left : ℕ) → length s < 18446744073709551616 → rows ≤ 16 → left ≡ length s → Counts [] net₀ → Lining s p₀ rows First p₀ left First
+    pub lines-begin : (left : ℕ) → length s < 18446744073709551616 → scope .addresses ≤ 16 → left ≡ length s → Counts [] net₀ → Lining s p₀ scope First p₀ left First
     unfolding state
     lines-begin left short few e c = lining-begin p₀ First none-counted left short few e c
 
     pub lines-few :
         (p : Step) (left count : ℕ) (twice : Bool) (table : List ℕ) (uses : List Bool) (bodies : List ℕ) (defs : List Bool) (starts : List ℕ) (net : Net)
-        → Lining s p₀ rows First p left (state count table uses bodies defs twice starts net) → count ≤ room
+        → Lining s p₀ scope First p left (state count table uses bodies defs twice starts net) → count ≤ room
     unfolding state
     lines-few p left count twice table uses bodies defs starts net i = i .small
 
@@ -237,10 +237,10 @@ module _ (s : List ℕ) (rows : ℕ) where
         (p q : Step) (left at count count′ : ℕ) (more twice twice′ : Bool) (table table′ : List ℕ) (uses uses′ : List Bool) (bodies bodies′ : List ℕ)
         (defs defs′ : List Bool) (starts starts′ : List ℕ) (net : Net) (y : Node)
         → more ≡ true → more ≡ both (leb 1 left) (inside s p)
-        → Lining s p₀ rows First p left (state count table uses bodies defs twice starts net) → Owner s p rows at
-        → AnyLined s p rows (state count table uses bodies defs twice starts) (nodeAt net (addressOf at)) q
+        → Lining s p₀ scope First p left (state count table uses bodies defs twice starts net) → Owner s p scope at
+        → AnyLined s p scope (state count table uses bodies defs twice starts) (nodeAt net (addressOf at)) q
         (state count′ table′ uses′ bodies′ defs′ twice′ starts′) y
-        → Lining s p₀ rows First q (left - 1) (state count′ table′ uses′ bodies′ defs′ twice′ starts′ (withNode net (addressOf at) y))
+        → Lining s p₀ scope First q (left - 1) (state count′ table′ uses′ bodies′ defs′ twice′ starts′ (withNode net (addressOf at) y))
     unfolding state
     lines-more p q left at count count′ more twice twice′ table table′ uses uses′ bodies bodies′ defs defs′ starts starts′ net y t e i o a =
         lining-more p₀ First none-counted p q left at more (state count table uses bodies defs twice starts) net
@@ -248,5 +248,5 @@ module _ (s : List ℕ) (rows : ℕ) where
 
     pub lines-end :
         (p : Step) (left : ℕ) (more : Bool) (now : State) → more ≡ false → more ≡ both (leb 1 left) (inside s p)
-        → Lining s p₀ rows First p left now → AllLined s p₀ rows First p now
+        → Lining s p₀ scope First p left now → AllLined s p₀ scope First p now
     lines-end = lining-end p₀ First none-counted

@@ -16,8 +16,8 @@ use Rattle.readers.specs.Reader.{Parsed, fault}
 use Rattle.readers.specs.Progress.{reached, outcome, runFrom, Went}
 use Rattle.readers.proofs.ReaderLaws.{on, stop}
 use Rattle.text.specs.Buffer.{over}
-use Rattle.linking.specs.Source.{Line, Source}
-use Rattle.linking.specs.Compiled.{total, placeIn, codeFrom, ruled, peopled, withCode, unruled, compiled}
+use Rattle.linking.specs.Source.{Line, Policy, Source}
+use Rattle.linking.specs.Compiled.{total, addressesOf, placeIn, codeFrom, peopled, withCode, governed, compiled}
 use Rattle.linking.specs.Names.{namesRight}
 use Rattle.linking.specs.NameTable.{namesRightIn}
 use Rattle.linking.specs.Placing.{placeAt, linkedCode, movedNet, withLinked, linkedNet}
@@ -27,16 +27,18 @@ use Rattle.linking.proofs.Held.{held-all, resolves-all}
 use Rattle.linking.proofs.Linked.{code-all}
 use Rattle.linking.proofs.Moved.{moved-all}
 use Rattle.linking.proofs.Peopled.{peopled-any-counts, peopled-frame, after-count}
-use Rattle.notation.specs.Types.{Step, Row, Instruction, Net}
-use Rattle.rows.specs.Rows.{rows}
+use Rattle.linking.proofs.Governed.{governed-addresses, governed-counts}
+use Rattle.linking.proofs.NodeCounts.{none-busy}
+use Rattle.notation.specs.Types.{Step, Instruction, Net, Scope}
+use Rattle.rows.specs.Policies.{policy}
+use Rattle.notation.specs.Scopes.{scopeOf}
 use Rattle.notation.specs.Lines.{lines, source}
 use Rattle.rows.specs.declared.rows.RowsRead.{RowsRead}
-use Rattle.rows.specs.Progress.{netOf, Ruled}
-use Rattle.notation.specs.LineProgress.{state, AllLined}
+use Rattle.rows.specs.Progress.{Ruled}
+use Rattle.notation.specs.LineProgress.{scopeIn, state, AllLined}
 use Rattle.notation.specs.Text.{Verdict, Opened, refused, accepted, judgedSource, judged, readOf}
 use Rattle.notation.specs.Judging.{judgedNet, judgedCount, judgedNames, judgedStep}
-use Rattle.rows.proofs.RuledLaws.{ruled-counts, addresses-of}
-use Rattle.rows.proofs.StartLaws.{none-busy}
+use Rattle.rows.proofs.PolicyLaws.{format-read, addresses-read}
 
 -- ---- what is judged, one after another
 pub refused-as : (n : ℕ) (s : Net) → s ≡ emptyNet → record { answer = Verdict.Refused n; net = s } ≡ refused n
@@ -102,40 +104,36 @@ unfolding fold
 names-begin k e = rw e refl
 
 -- ---- the net of a source
-module _ (rs : List Row) (ls : List Line) (few : length rs ≤ 16) (shape : Shaped (netOf rs)) (fit : FitAll ls (begun (netOf rs))) where
+module _ (x : Policy) (ls : List Line) (few : addressesOf x ≤ 16) (shape : Shaped (governed x 0)) (fit : FitAll ls (begun (governed x 0))) where
   abbrev Now : State
-  Now = afterAll ls (begun (netOf rs))
+  Now = afterAll ls (begun (governed x 0))
 
   same-names : namesRightIn (Now .bodies) (Now .defs) (Now .uses) (Now .twice) ≡ namesRight ls
-  same-names = names-same ls (Now .bodies) (Now .defs) (Now .uses) (Now .twice) (held-all ls (netOf rs) fit)
+  same-names = names-same ls (Now .bodies) (Now .defs) (Now .uses) (Now .twice) (held-all ls (governed x 0) fit)
 
   counted-all : Now .count ≡ total ls
   unfolding begun
-  counted-all = after-count ls (begun (netOf rs)) ∙ omega arith
+  counted-all = after-count ls (begun (governed x 0)) ∙ omega arith
 
   module _ (whole : total ls ≤ 512) where
     abbrev peopledNet : Net
-    peopledNet = peopled (placeIn ls) 0 ls (netOf rs)
+    peopledNet = peopled (placeIn ls) 0 ls (governed x 0)
 
     moved-there : movedNet (placeAt (Now .bodies)) (Now .starts) (Now .net) ≡ peopledNet
     moved-there =
-        moved-all (placeAt (Now .bodies)) (placeIn ls) (resolves-all ls (netOf rs) fit whole) ls (netOf rs) shape (none-busy rs few) fit whole
+        moved-all (placeAt (Now .bodies)) (placeIn ls) (resolves-all ls (governed x 0) fit whole) ls (governed x 0) shape (none-busy x 0 few) fit whole
 
     coded-there : (code : List Instruction) → linkedCode (placeAt (Now .bodies)) (Now .table) (total ls) code ≡ over code 0 (codeFrom (placeIn ls) 0 ls)
-    coded-there = code-all (placeAt (Now .bodies)) (placeIn ls) (resolves-all ls (netOf rs) fit whole) ls (netOf rs) fit whole
+    coded-there = code-all (placeAt (Now .bodies)) (placeIn ls) (resolves-all ls (governed x 0) fit whole) ls (governed x 0) fit whole
 
-    counts-there : withCounts peopledNet (peopledNet .addresses) (total ls) ≡ peopled (placeIn ls) 0 ls (ruled 0 rs (unruled (length rs) (total ls)))
-    unfolding netOf unruled withCounts
+    counts-there : withCounts peopledNet (peopledNet .addresses) (total ls) ≡ peopled (placeIn ls) 0 ls (governed x (total ls))
     counts-there =
-        ap (λ (n : ℕ). withCounts peopledNet n (total ls)) (peopled-frame (placeIn ls) 0 ls (netOf rs) .addresses-are ∙ addresses-of rs)
-        ∙ sym (peopled-any-counts (placeIn ls) 0 ls (netOf rs) (length rs) (total ls))
-        ∙ ap (peopled (placeIn ls) 0 ls) (counted-anew ∙ sym (ruled-counts 0 rs (unruled 0 0) (length rs) (total ls)))
-      where
-        counted-anew : withCounts (netOf rs) (length rs) (total ls) ≡ withCounts (ruled 0 rs (unruled 0 0)) (length rs) (total ls)
-        counted-anew = ap (λ (t : Net). withCounts t (length rs) (total ls)) (ruled-counts 0 rs (unruled 0 0) (length rs) 0)
+        ap (λ (n : ℕ). withCounts peopledNet n (total ls)) (peopled-frame (placeIn ls) 0 ls (governed x 0) .addresses-are ∙ governed-addresses x 0)
+        ∙ sym (peopled-any-counts (placeIn ls) 0 ls (governed x 0) (addressesOf x) (total ls))
+        ∙ ap (peopled (placeIn ls) 0 ls) (governed-counts x (total ls) 0)
 
     pub linked-compiled :
-        linkedNet (placeAt (Now .bodies)) (Now .table) (Now .starts) (total ls) (Now .net) ≡ compiled (record { rows = rs; lines = ls })
+        linkedNet (placeAt (Now .bodies)) (Now .table) (Now .starts) (total ls) (Now .net) ≡ compiled (record { policy = x; lines = ls })
     unfolding linkedNet withLinked compiled withCode
     linked-compiled =
         ap (λ (t : Net). withLinked (placeAt (Now .bodies)) (Now .table) (total ls) (withCounts t (t .addresses) (total ls))) moved-there
@@ -143,12 +141,12 @@ module _ (rs : List Row) (ls : List Line) (few : length rs ≤ 16) (shape : Shap
         ∙ ap (λ (c : List Instruction). record { format = Whole .format; addresses = Whole .addresses; length = Whole .length; nodes = Whole .nodes; code = c }) (coded-there (Whole .code))
       where
         Whole : Net
-        Whole = peopled (placeIn ls) 0 ls (ruled 0 rs (unruled (length rs) (total ls)))
+        Whole = peopled (placeIn ls) 0 ls (governed x (total ls))
 
   -- what the tables and the net are judged to give is what the source gives
   judged-same :
       judgedNames (Now .table) (Now .uses) (Now .bodies) (Now .defs) (Now .starts) (Now .count) (Now .twice) (Now .net)
-      ≡ judgedSource (record { rows = rs; lines = ls })
+      ≡ judgedSource (record { policy = x; lines = ls })
   unfolding judgedNames judgedCount judgedSource judgedNet
   judged-same =
       rw (same-names, counted-all)
@@ -157,7 +155,7 @@ module _ (rs : List Row) (ls : List Line) (few : length rs ≤ 16) (shape : Shap
       ranged :
           (b : Bool) → inRange 1 (total ls) 512 ≡ b
           → choose (inRange 1 (total ls) 512) (judgedNet (linkedNet (placeAt (Now .bodies)) (Now .table) (Now .starts) (total ls) (Now .net))) (refused 22)
-          ≡ choose (inRange 1 (total ls) 512) (judgedNet (compiled (record { rows = rs; lines = ls }))) (refused 22)
+          ≡ choose (inRange 1 (total ls) 512) (judgedNet (compiled (record { policy = x; lines = ls }))) (refused 22)
       ranged true e = ap (λ (t : Net). choose (inRange 1 (total ls) 512) (judgedNet t) (refused 22)) (linked-compiled (in-range-high 1 (total ls) 512 e))
       ranged false e = choose-false _ _ _ e ∙ sym (choose-false _ _ _ e)
 
@@ -165,30 +163,35 @@ module _ (rs : List Row) (ls : List Line) (few : length rs ≤ 16) (shape : Shap
 module _ (s : List ℕ) where
   -- rows and lines read are the source read
   source-went :
-      (p q : Step) (rs : List Row) (ls : List Line) → Went s (Step.At 0) rows p rs → Went s p (lines (length rs)) q ls
-      → outcome q (record { rows = rs; lines = ls }) ≡ source s 0
+      (p q : Step) (x : Policy) (ls : List Line) → Went s (Step.At 0) policy p x → Went s p (lines (scopeOf x)) q ls
+      → outcome q (record { policy = x; lines = ls }) ≡ source s 0
   unfolding source runFrom
-  source-went p q rs ls w v =
-      let x : Source = record { rows = rs; lines = ls } in
-      on s (Step.At 0) p q rows _ rs x w (on s p q q (lines (length rs)) _ ls x v (stop s q x)) .went
+  source-went p q x ls w v =
+      let y : Source = record { policy = x; lines = ls } in
+      on s (Step.At 0) p q policy _ x y w (on s p q q (lines (scopeOf x)) _ ls y v (stop s q y)) .went
+
+  -- what lines are judged by is known from the net of the policies
+  scope-read : (r : RowsRead) (g : Ruled s policy r) → scopeIn (r .net) ≡ scopeOf (g .read)
+  unfolding scopeIn scopeOf
+  scope-read r g = rw (addresses-read s policy r g, format-read s policy r g) refl
 
   from-begun :
-      (r : RowsRead) (g : Ruled s rows r) (table : List ℕ) (uses : List Bool) (bodies : List ℕ) (defs : List Bool) (starts : List ℕ)
+      (r : RowsRead) (g : Ruled s policy r) (table : List ℕ) (uses : List Bool) (bodies : List ℕ) (defs : List Bool) (starts : List ℕ)
       → table ≡ replicate 4608 0 → uses ≡ replicate 512 false → bodies ≡ ownNames → defs ≡ replicate 512 false → starts ≡ replicate 64 0
-      → state 0 table uses bodies defs false starts (r .net) ≡ begun (netOf (g .read))
+      → state 0 table uses bodies defs false starts (r .net) ≡ begun (governed (g .read) 0)
   unfolding state begun
   from-begun r g table uses bodies defs starts a b c d e = rw (a, b, c, d, e, g .standing) refl
 
-  module _ (rs : List Row) (ls : List Line) (few : length rs ≤ 16) (shape : Shaped (netOf rs)) (table : List ℕ) (uses : List Bool)
+  module _ (x : Policy) (ls : List Line) (few : addressesOf x ≤ 16) (shape : Shaped (governed x 0)) (table : List ℕ) (uses : List Bool)
       (bodies : List ℕ) (defs : List Bool) (starts : List ℕ) (count : ℕ) (twice : Bool) (net : Net) where
     read-at :
-        (q : Step) (o : Parsed Source) → outcome q (record { rows = rs; lines = ls }) ≡ o
-        → (reached q ≡ true → state count table uses bodies defs twice starts net ≡ afterAll ls (begun (netOf rs)))
-        → (reached q ≡ true → FitAll ls (begun (netOf rs)))
+        (q : Step) (o : Parsed Source) → outcome q (record { policy = x; lines = ls }) ≡ o
+        → (reached q ≡ true → state count table uses bodies defs twice starts net ≡ afterAll ls (begun (governed x 0)))
+        → (reached q ≡ true → FitAll ls (begun (governed x 0)))
         → judgedStep table uses bodies defs starts count twice net q ≡ judged o
     unfolding judgedStep judged outcome reached state
     read-at (Step.At q) o e k f =
-        ap parts (k refl) ∙ judged-same rs ls few shape (f refl) ∙ ap judged e
+        ap parts (k refl) ∙ judged-same x ls few shape (f refl) ∙ ap judged e
       where
         parts : State → Opened
         parts t = judgedNames (t .table) (t .uses) (t .bodies) (t .defs) (t .starts) (t .count) (t .twice) (t .net)
@@ -198,15 +201,15 @@ module _ (s : List ℕ) where
       (r : RowsRead) (q : Step) (table table′ : List ℕ) (uses uses′ : List Bool) (bodies bodies′ : List ℕ) (defs defs′ : List Bool)
       (starts starts′ : List ℕ) (count : ℕ) (twice : Bool) (net : Net) (o : Opened)
       → table ≡ replicate 4608 0 → uses ≡ replicate 512 false → bodies ≡ ownNames → defs ≡ replicate 512 false → starts ≡ replicate 64 0
-      → Shaped (r .net) → Ruled s rows r
-      → AllLined s (r .next) (r .net .addresses) (state 0 table uses bodies defs false starts (r .net)) q
+      → Shaped (r .net) → Ruled s policy r
+      → AllLined s (r .next) (scopeIn (r .net)) (state 0 table uses bodies defs false starts (r .net)) q
       (state count table′ uses′ bodies′ defs′ twice starts′ net)
       → o ≡ judgedStep table′ uses′ bodies′ defs′ starts′ count twice net q → o ≡ readOf s
   unfolding readOf
   text-read r q table table′ uses uses′ bodies bodies′ defs defs′ starts starts′ count twice net o a b c d e shape g l h =
       let first = from-begun r g table uses bodies defs starts a b c d e in
-      let size : r .net .addresses ≡ length (g .read) = ap (λ (t : Net). t .addresses) (g .standing) ∙ addresses-of (g .read) in
+      let scope : scopeIn (r .net) ≡ scopeOf (g .read) = scope-read r g in
       h ∙ read-at (g .read) (l .read) (g .within) (rw (g .standing) at shape) table′ uses′ bodies′ defs′ starts′ count twice net q (source s 0)
-      (source-went (r .next) q (g .read) (l .read) (g .went) (rw size at (l .went)))
+      (source-went (r .next) q (g .read) (l .read) (g .went) (subst (λ (x : Scope). Went s (r .next) (lines x) q (l .read)) scope (l .went)))
       (λ z. l .kept z ∙ ap (afterAll (l .read)) first)
       (λ z. subst (FitAll (l .read)) first (l .fit z))

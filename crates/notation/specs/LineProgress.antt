@@ -19,10 +19,14 @@ use Rattle.processes.specs.Progress.{room, Started}
 use Rattle.linking.specs.Source.{Line}
 use Rattle.linking.specs.Compiled.{sizeOf, total}
 use Rattle.linking.specs.State.{State, after, afterAll, FitAll}
-use Rattle.notation.specs.Types.{Step, Locality, Tuple, Node, Net}
+use Rattle.notation.specs.Types.{Step, Locality, Tuple, Node, Net, Scope}
 use Rattle.linking.specs.Counts.{processesIn, tuplesIn, counted}
 use Rattle.linking.specs.NodeCounts.{Counts}
 use Rattle.notation.specs.Lines.{line, linesAfter, lines}
+
+-- what lines are judged by, in a net that has a text's policies
+unfoldable pub scopeIn : Net → Scope
+scopeIn s = record { addresses = s .addresses; format = s .format }
 
 -- the state, its parts one by one
 unfoldable pub state : ℕ → List ℕ → List Bool → List ℕ → List Bool → Bool → List ℕ → Net → State
@@ -47,28 +51,28 @@ pub record Lined (s : List ℕ) (p : Step) (m : Reader Line) (before : State) (q
 -- ---- the parts of a line, from step p to step q
 
 -- a process, where k of them leave a slot for it, and the line's end
-pub record Slotted (s : List ℕ) (p : Step) (rows n k : ℕ) (table : List ℕ) (uses : List Bool) (w : ℕ) (q : Step) (count : ℕ)
+pub record Slotted (s : List ℕ) (p : Step) (scope : Scope) (n k : ℕ) (table : List ℕ) (uses : List Bool) (w : ℕ) (q : Step) (count : ℕ)
     (table′ : List ℕ) (uses′ : List Bool) : Type 0 where
   pub free : Step
   pub read : Step
   pub slot : Went s p (require (ltb k 4) 22) free tt
-  pub started : Started s free (Reading.process rows) n table uses w read count table′ uses′
+  pub started : Started s free (Reading.process scope) n table uses w read count table′ uses′
   pub ended : Went s read (byte 10) q tt
 
 -- a tuple, where m of them leave room for it, and the line's end
-pub record Roomed (s : List ℕ) (p : Step) (rows m : ℕ) (q : Step) (t : Tuple) : Type 0 where
+pub record Roomed (s : List ℕ) (p : Step) (scope : Scope) (m : ℕ) (q : Step) (t : Tuple) : Type 0 where
   pub free : Step
   pub read : Step
   pub space : Went s p (require (ltb m 16) 22) free tt
-  pub got : Went s free (Fields.tuple rows) read t
+  pub got : Went s free (Fields.tuple (scope .addresses)) read t
   pub ended : Went s read (byte 10) q tt
 
 -- ---- the address of a line
 
 -- the address that stands at step p, where one with a row does, has this index
-pub record Owner (s : List ℕ) (p : Step) (rows at : ℕ) : Type 0 where
+pub record Owner (s : List ℕ) (p : Step) (scope : Scope) (at : ℕ) : Type 0 where
   pub below : at < 16
-  pub owner : (q : Step) (a : Locality) → Went s p (address rows) q a → reached q ≡ true → a ≡ addressOf at
+  pub owner : (q : Step) (a : Locality) → Went s p (address (scope .addresses)) q a → reached q ≡ true → a ≡ addressOf at
 
 -- at a place, and not after a fault, x is the node of address a in the net, with as many processes and tuples as the lines
 -- before say
@@ -105,18 +109,18 @@ pub record Placed (s : List ℕ) (p : Step) (m : List Line → Locality → Read
       (state count table′ uses′ bodies defs twice′ starts′ (withNode net a y))
 
 -- the same with its address, of which there are `rows`
-pub record Located (s : List ℕ) (p : Step) (rows : ℕ) (m : List Line → Reader Line) (n : ℕ) (table : List ℕ) (uses : List Bool) (twice : Bool)
+pub record Located (s : List ℕ) (p : Step) (scope : Scope) (m : List Line → Reader Line) (n : ℕ) (table : List ℕ) (uses : List Bool) (twice : Bool)
     (starts : List ℕ) (x : Node) (q : Step) (count : ℕ) (table′ : List ℕ) (uses′ : List Bool) (twice′ : Bool) (starts′ : List ℕ) (y : Node) : Type 0 where
   pub lined :
-      (at : ℕ) (ls : List Line) (bodies : List ℕ) (defs : List Bool) (net : Net) → Owner s p rows at → Here p ls net (addressOf at) x
+      (at : ℕ) (ls : List Line) (bodies : List ℕ) (defs : List Bool) (net : Net) → Owner s p scope at → Here p ls net (addressOf at) x
       → Lined s p (m ls) (state n table uses bodies defs twice starts net) q
       (state count table′ uses′ bodies defs twice′ starts′ (withNode net (addressOf at) y))
 
 -- any line
-pub record AnyLined (s : List ℕ) (p : Step) (rows : ℕ) (before : Net → State) (x : Node) (q : Step) (behind : Net → State) (y : Node) : Type 0 where
+pub record AnyLined (s : List ℕ) (p : Step) (scope : Scope) (before : Net → State) (x : Node) (q : Step) (behind : Net → State) (y : Node) : Type 0 where
   pub lined :
-      (at : ℕ) (ls : List Line) (net : Net) → Owner s p rows at → Here p ls net (addressOf at) x
-      → Lined s p (line rows ls) (before net) q (behind (withNode net (addressOf at) y))
+      (at : ℕ) (ls : List Line) (net : Net) → Owner s p scope at → Here p ls net (addressOf at) x
+      → Lined s p (line scope ls) (before net) q (behind (withNode net (addressOf at) y))
 
 -- ---- line after line
 
@@ -131,11 +135,11 @@ Spans k (Step.At p) = 3 * k ≤ p
 Spans k (Step.Failed f) = Unit {0}
 
 -- from step p₀ and a state the lines have come to step p and another state; at most `left` more may follow
-pub record Lining (s : List ℕ) (p₀ : Step) (rows : ℕ) (first : State) (p : Step) (left : ℕ) (now : State) : Type 0 where
+pub record Lining (s : List ℕ) (p₀ : Step) (scope : Scope) (first : State) (p : Step) (left : ℕ) (now : State) : Type 0 where
   pub lines : List Line
-  pub rest : runFrom s p₀ (linesAfter (length s) rows []) ≡ runFrom s p (linesAfter left rows lines)
+  pub rest : runFrom s p₀ (linesAfter (length s) scope []) ≡ runFrom s p (linesAfter left scope lines)
   pub short : length s < 18446744073709551616
-  pub few : rows ≤ 16
+  pub few : scope .addresses ≤ 16
   pub small : now .count ≤ room
   pub spans : Spans (total lines) p
   pub kept : reached p ≡ true → now ≡ afterAll lines first
@@ -143,8 +147,8 @@ pub record Lining (s : List ℕ) (p₀ : Step) (rows : ℕ) (first : State) (p :
   pub counts : reached p ≡ true → Counts lines (now .net)
 
 -- all lines
-pub record AllLined (s : List ℕ) (p₀ : Step) (rows : ℕ) (first : State) (p : Step) (now : State) : Type 0 where
+pub record AllLined (s : List ℕ) (p₀ : Step) (scope : Scope) (first : State) (p : Step) (now : State) : Type 0 where
   pub read : List Line
-  pub went : Went s p₀ (lines rows) p read
+  pub went : Went s p₀ (lines scope) p read
   pub kept : reached p ≡ true → now ≡ afterAll read first
   pub fit : reached p ≡ true → FitAll read first

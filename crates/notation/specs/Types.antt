@@ -9,3 +9,4 @@ pub use Rattle.net.specs.declared.node.Node.{Node}
 pub use Rattle.net.specs.declared.node.Changed.{Changed}
 pub use Rattle.net.specs.declared.instruction.Instruction.{Instruction}
 pub use Rattle.net.specs.declared.network.Net.{Net}
+pub use Rattle.fields.specs.declared.scope.Scope.{Scope}

@@ -1,6 +1,7 @@
 // The lines after the rows (document 01, "The planners' notation"): definitions, processes and tuples. What they say goes into
 // lent tables until all are read: the words of instructions, the three tables of names, and four words of starts for
 // each address.
+use fields::scope::Scope;
 use fields::tuples::TupleRead;
 use fields::tuples::read_tuple;
 use fields::values::read_address;
@@ -33,7 +34,7 @@ ghost use Rattle.readers.specs.Progress.{Went};
 ghost use Rattle.processes.specs.Progress.{room};
 ghost use Rattle.linking.specs.NodeCounts.{Counts};
 ghost use Rattle.notation.specs.Lines.{definitionLine, processLine, tupleLine, placedLine, locatedLine};
-ghost use Rattle.notation.specs.LineProgress.{state, Slotted, Roomed, Owner, Defined, Tupled, Placed, Located, AnyLined, inside, AllLined};
+ghost use Rattle.notation.specs.LineProgress.{scopeIn, state, Slotted, Roomed, Owner, Defined, Tupled, Placed, Located, AnyLined, inside, AllLined};
 
 // A line read: the node of its address after it, the step, how many instructions there are, and whether a name is defined
 // twice.
@@ -70,7 +71,7 @@ fn enter(bodies: &mut [usize], before: bool, k: usize, w: usize)
 fn read_definition(
     s: &[u8],
     from: Step,
-    rows: usize,
+    scope: Scope,
     n: usize,
     twice: bool,
     node: Node,
@@ -81,13 +82,13 @@ fn read_definition(
 ) -> LineRead
     requires { ⌜ n ≤ room ⌝ }
     ensures { λ r. ⌜ r .node ≡ node ⌝ }
-    ensures { λ r. ⌜ Defined (now (s .entry)) from (definitionLine rows) n (now (table .entry)) (now (uses .entry)) (now (bodies .entry)) (now (defs .entry)) twice (r .next) (r .count) (now (table .exit)) (now (uses .exit)) (now (bodies .exit)) (now (defs .exit)) (r .twice) ⌝ }
+    ensures { λ r. ⌜ Defined (now (s .entry)) from (definitionLine scope) n (now (table .entry)) (now (uses .entry)) (now (bodies .entry)) (now (defs .entry)) twice (r .next) (r .count) (now (table .exit)) (now (uses .exit)) (now (bodies .exit)) (now (defs .exit)) (r .twice) ⌝ }
 {
     let name = read_name(s, from);
     let named = name.next;
     let k = name.value;
     let equals = read_word(s, named, b" = ");
-    let got = read_process(s, equals, rows, n, table, uses);
+    let got = read_process(s, equals, scope, n, table, uses);
     let read = got.next;
     let next = read_byte(s, read, 10);
     let before = flag_at(defs, k);
@@ -133,17 +134,17 @@ fn ask_room(s: &[u8], from: Step, used: usize, size: usize) -> Step
 fn read_process_after(
     s: &[u8],
     from: Step,
-    rows: usize,
+    scope: Scope,
     n: usize,
     k: usize,
     table: &mut [usize],
     uses: &mut [bool],
 ) -> StartRead
     requires { ⌜ n ≤ room ⌝ }
-    ensures { λ r. ⌜ Slotted (now (s .entry)) from rows n k (now (table .entry)) (now (uses .entry)) (r .start) (r .next) (r .count) (now (table .exit)) (now (uses .exit)) ⌝ }
+    ensures { λ r. ⌜ Slotted (now (s .entry)) from scope n k (now (table .entry)) (now (uses .entry)) (r .start) (r .next) (r .count) (now (table .exit)) (now (uses .exit)) ⌝ }
 {
     let free = ask_room(s, from, k, 4);
-    let got = read_process(s, free, rows, n, table, uses);
+    let got = read_process(s, free, scope, n, table, uses);
     let read = got.next;
     let next = read_byte(s, read, 10);
     StartRead {
@@ -165,7 +166,7 @@ fn started_in(node: Node, a: Locality, k: usize) -> Node
 fn read_process_line(
     s: &[u8],
     from: Step,
-    rows: usize,
+    scope: Scope,
     n: usize,
     twice: bool,
     a: Locality,
@@ -176,9 +177,9 @@ fn read_process_line(
     starts: &mut [usize],
 ) -> LineRead
     requires { ⌜ (k ≡ processCount node) × ((k ≤ 4) × (n ≤ room)) ⌝ }
-    ensures { λ r. ⌜ Placed (now (s .entry)) from (processLine rows) n (now (table .entry)) (now (uses .entry)) twice (now (starts .entry)) a node (r .next) (r .count) (now (table .exit)) (now (uses .exit)) (r .twice) (now (starts .exit)) (r .node) ⌝ }
+    ensures { λ r. ⌜ Placed (now (s .entry)) from (processLine scope) n (now (table .entry)) (now (uses .entry)) twice (now (starts .entry)) a node (r .next) (r .count) (now (table .exit)) (now (uses .exit)) (r .twice) (now (starts .exit)) (r .node) ⌝ }
 {
-    let got = read_process_after(s, from, rows, n, k, table, uses);
+    let got = read_process_after(s, from, scope, n, k, table, uses);
     let next = got.next;
     put_start(starts, a, k, got.start);
     let people = started_in(node, a, k);
@@ -191,11 +192,11 @@ fn read_process_line(
 }
 
 // A tuple, where m of them leave room for it, and the line's end.
-fn read_tuple_after(s: &[u8], from: Step, rows: usize, m: usize) -> TupleRead
-    ensures { λ r. ⌜ Roomed (now (s .entry)) from rows m (r .next) (r .tuple) ⌝ }
+fn read_tuple_after(s: &[u8], from: Step, scope: Scope, m: usize) -> TupleRead
+    ensures { λ r. ⌜ Roomed (now (s .entry)) from scope m (r .next) (r .tuple) ⌝ }
 {
     let free = ask_room(s, from, m, 16);
-    let got = read_tuple(s, free, rows);
+    let got = read_tuple(s, free, scope.addresses);
     let tuple = got.tuple;
     let read = got.next;
     let next = read_byte(s, read, 10);
@@ -215,16 +216,16 @@ fn stored_in(node: Node, a: Locality, t: Tuple) -> Node
 fn read_tuple_line(
     s: &[u8],
     from: Step,
-    rows: usize,
+    scope: Scope,
     n: usize,
     twice: bool,
     a: Locality,
     node: Node,
 ) -> LineRead
     requires { ⌜ n ≤ room ⌝ }
-    ensures { λ r. ⌜ Tupled (now (s .entry)) from (tupleLine rows) n twice a node (r .next) (r .count) (r .twice) (r .node) ⌝ }
+    ensures { λ r. ⌜ Tupled (now (s .entry)) from (tupleLine scope) n twice a node (r .next) (r .count) (r .twice) (r .node) ⌝ }
 {
-    let got = read_tuple_after(s, from, rows, node.stored);
+    let got = read_tuple_after(s, from, scope, node.stored);
     let t = got.tuple;
     let next = got.next;
     let people = stored_in(node, a, t);
@@ -240,7 +241,7 @@ fn read_tuple_line(
 fn read_placed(
     s: &[u8],
     from: Step,
-    rows: usize,
+    scope: Scope,
     n: usize,
     twice: bool,
     a: Locality,
@@ -250,13 +251,13 @@ fn read_placed(
     starts: &mut [usize],
 ) -> LineRead
     requires { ⌜ n ≤ room ⌝ }
-    ensures { λ r. ⌜ Placed (now (s .entry)) from (placedLine rows) n (now (table .entry)) (now (uses .entry)) twice (now (starts .entry)) a node (r .next) (r .count) (now (table .exit)) (now (uses .exit)) (r .twice) (now (starts .exit)) (r .node) ⌝ }
+    ensures { λ r. ⌜ Placed (now (s .entry)) from (placedLine scope) n (now (table .entry)) (now (uses .entry)) twice (now (starts .entry)) a node (r .next) (r .count) (now (table .exit)) (now (uses .exit)) (r .twice) (now (starts .exit)) (r .node) ⌝ }
 {
     if byte_here(s, from) == 60 {
-        read_tuple_line(s, from, rows, n, twice, a, node)
+        read_tuple_line(s, from, scope, n, twice, a, node)
     } else {
         let k = node.process_count();
-        read_process_line(s, from, rows, n, twice, a, node, k, table, uses, starts)
+        read_process_line(s, from, scope, n, twice, a, node, k, table, uses, starts)
     }
 }
 
@@ -266,7 +267,7 @@ fn read_placed(
 fn read_located(
     s: &[u8],
     from: Step,
-    rows: usize,
+    scope: Scope,
     n: usize,
     twice: bool,
     node: Node,
@@ -275,20 +276,20 @@ fn read_located(
     starts: &mut [usize],
 ) -> LineRead
     requires { ⌜ n ≤ room ⌝ }
-    ensures { λ r. ⌜ Located (now (s .entry)) from rows (locatedLine rows) n (now (table .entry)) (now (uses .entry)) twice (now (starts .entry)) node (r .next) (r .count) (now (table .exit)) (now (uses .exit)) (r .twice) (now (starts .exit)) (r .node) ⌝ }
+    ensures { λ r. ⌜ Located (now (s .entry)) from scope (locatedLine scope) n (now (table .entry)) (now (uses .entry)) twice (now (starts .entry)) node (r .next) (r .count) (now (table .exit)) (now (uses .exit)) (r .twice) (now (starts .exit)) (r .node) ⌝ }
 {
-    let owner = read_address(s, from, rows);
+    let owner = read_address(s, from, scope.addresses);
     let a = owner.locality;
     let named = owner.next;
     let opened = read_word(s, named, b" :: ");
-    read_placed(s, opened, rows, n, twice, a, node, table, uses, starts)
+    read_placed(s, opened, scope, n, twice, a, node, table, uses, starts)
 }
 
 // A line, given the node of its address.
 fn read_line(
     s: &[u8],
     from: Step,
-    rows: usize,
+    scope: Scope,
     n: usize,
     twice: bool,
     node: Node,
@@ -299,21 +300,21 @@ fn read_line(
     starts: &mut [usize],
 ) -> LineRead
     requires { ⌜ n ≤ room ⌝ }
-    ensures { λ r. ⌜ AnyLined (now (s .entry)) from rows (state n (now (table .entry)) (now (uses .entry)) (now (bodies .entry)) (now (defs .entry)) twice (now (starts .entry))) node (r .next) (state (r .count) (now (table .exit)) (now (uses .exit)) (now (bodies .exit)) (now (defs .exit)) (r .twice) (now (starts .exit))) (r .node) ⌝ }
+    ensures { λ r. ⌜ AnyLined (now (s .entry)) from scope (state n (now (table .entry)) (now (uses .entry)) (now (bodies .entry)) (now (defs .entry)) twice (now (starts .entry))) node (r .next) (state (r .count) (now (table .exit)) (now (uses .exit)) (now (bodies .exit)) (now (defs .exit)) (r .twice) (now (starts .exit))) (r .node) ⌝ }
 {
     if byte_here(s, from) == 65 {
-        read_definition(s, from, rows, n, twice, node, table, uses, bodies, defs)
+        read_definition(s, from, scope, n, twice, node, table, uses, bodies, defs)
     } else {
-        read_located(s, from, rows, n, twice, node, table, uses, starts)
+        read_located(s, from, scope, n, twice, node, table, uses, starts)
     }
 }
 
 // The index of the address that stands here, where one with a row does: nothing is read yet.
-fn owner_at(s: &[u8], from: Step, rows: usize) -> usize
-    requires { ⌜ rows ≤ 16 ⌝ }
-    ensures { λ r. ⌜ Owner (now (s .entry)) from rows r ⌝ }
+fn owner_at(s: &[u8], from: Step, scope: Scope) -> usize
+    requires { ⌜ scope .addresses ≤ 16 ⌝ }
+    ensures { λ r. ⌜ Owner (now (s .entry)) from scope r ⌝ }
 {
-    let owner = read_address(s, from, rows);
+    let owner = read_address(s, from, scope.addresses);
     let a = owner.locality;
     let index = a.0 % 16;
     index as usize
@@ -348,9 +349,12 @@ pub(crate) fn read_lines(
     starts: &mut [usize],
 ) -> LinesRead
     requires { ⌜ (start .addresses ≤ 16) × Counts [] start ⌝ }
-    ensures { λ r. ⌜ AllLined (now (s .entry)) from (start .addresses) (state 0 (now (table .entry)) (now (uses .entry)) (now (bodies .entry)) (now (defs .entry)) false (now (starts .entry)) start) (r .next) (state (r .count) (now (table .exit)) (now (uses .exit)) (now (bodies .exit)) (now (defs .exit)) (r .twice) (now (starts .exit)) (r .net)) ⌝ }
+    ensures { λ r. ⌜ AllLined (now (s .entry)) from (scopeIn start) (state 0 (now (table .entry)) (now (uses .entry)) (now (bodies .entry)) (now (defs .entry)) false (now (starts .entry)) start) (r .next) (state (r .count) (now (table .exit)) (now (uses .exit)) (now (bodies .exit)) (now (defs .exit)) (r .twice) (now (starts .exit)) (r .net)) ⌝ }
 {
-    let rows = start.addresses;
+    let scope = Scope {
+        addresses: start.addresses,
+        format: start.format,
+    };
     let mut net = start;
     let mut next = from;
     let mut count: usize = 0;
@@ -358,11 +362,11 @@ pub(crate) fn read_lines(
     let mut left = s.len();
     while goes_on(s, next, left) {
         left -= 1;
-        let at = owner_at(s, next, rows);
+        let at = owner_at(s, next, scope);
         let read = read_line(
             s,
             next,
-            rows,
+            scope,
             count,
             twice,
             net.nodes[at],

@@ -7,7 +7,7 @@ use linking::names::names_right;
 use linking::places::link;
 use net::network::Net;
 use readers::step::Step;
-use rows::rows::read_rows;
+use rows::policies::read_policy;
 ghost use mathlib.Core.Bool.{false};
 ghost use mathlib.Core.Path.{_≡_};
 ghost use lib.ListN.{replicate};
@@ -130,9 +130,9 @@ fn read_into(
     requires { ⌜ (now table ≡ replicate 4608 0) × ((now uses ≡ replicate 512 false) × ((now bodies ≡ ownNames) × ((now defs ≡ replicate 512 false) × (now starts ≡ replicate 64 0)))) ⌝ }
     ensures { λ r. ⌜ r ≡ readOf (now (text .entry)) ⌝ }
 {
-    let rows = read_rows(text);
-    let start = rows.next;
-    let net = rows.net;
+    let policy = read_policy(text);
+    let start = policy.next;
+    let net = policy.net;
     let lines = read_lines(text, start, net, table, uses, bodies, defs, starts);
     judge(lines, table, uses, bodies, defs, starts)
 }

@@ -3,24 +3,24 @@
 use mathlib.Core.Path.{_≡_, _∙_}
 use lib.ListN.{length}
 use Rattle.net.specs.Records.{nodeAt, withNode}
-use Rattle.notation.specs.LineProgress.{state, Lining}
+use Rattle.notation.specs.LineProgress.{scopeIn, state, Lining}
 use Rattle.notation.proofs.LinesLaws.{more-left, left-less, lines-begin, lines-few, lines-more, lines-end}
 use borrow.Author.Needs.{needs}
 use Rattle.notation.proofs.lines.read_lines.Statement.{statement}
 use Rattle.notation.proofs.lines.read_lines.Tie as tie
 
 abbrev Inv-loop : tie.InvT-loop
-Inv-loop s table₀ uses₀ bodies₀ defs₀ starts₀ rows net₀ next₀ count₀ twice₀ left₀ table uses bodies defs starts net next count twice left =
-    Lining s next₀ rows (state 0 table₀ uses₀ bodies₀ defs₀ twice₀ starts₀ net₀) next left (state count table uses bodies defs twice starts net)
+Inv-loop s table₀ uses₀ bodies₀ defs₀ starts₀ scope net₀ next₀ count₀ twice₀ left₀ table uses bodies defs starts net next count twice left =
+    Lining s next₀ scope (state 0 table₀ uses₀ bodies₀ defs₀ twice₀ starts₀ net₀) next left (state count table uses bodies defs twice starts net)
     × ((length table ≡ length table₀) × ((length uses ≡ length uses₀) × ((length bodies ≡ length bodies₀)
     × ((length defs ≡ length defs₀) × (length starts ≡ length starts₀)))))
 
 abbrev μ-loop : tie.MeasureT-loop
-μ-loop s table₀ uses₀ bodies₀ defs₀ starts₀ rows net₀ next₀ count₀ twice₀ left₀ table uses bodies defs starts net next count twice left =
+μ-loop s table₀ uses₀ bodies₀ defs₀ starts₀ scope net₀ next₀ count₀ twice₀ left₀ table uses bodies defs starts net next count twice left =
     left
 
 pub read-lines-spec : {M : Type 1} → statement M
-unfolding nodeAt withNode
+unfolding nodeAt withNode scopeIn state
 read-lines-spec =
     tie.close
     (tie.spec
