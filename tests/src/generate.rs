@@ -219,8 +219,8 @@ fn place(random: &mut Random, length: u16) -> Place {
     Place(random.below(length as usize) as u16)
 }
 
-// A set of addresses below the count: none, one, a few, any or all of them.
-fn set(random: &mut Random, count: u8) -> Set {
+/// A set of addresses below the count: none, one, a few, any or all of them.
+pub(crate) fn set(random: &mut Random, count: u8) -> Set {
     let mut some = |members| Set::of((0..members).map(|_| address(random, count)));
     let (one, few) = (some(1), some(3));
     match random.below(10) {
@@ -253,8 +253,8 @@ fn variables(random: &mut Random, count: u8) -> [Value; VARIABLES] {
 
 const GENEROSITIES: [usize; 5] = [0, 20, 50, 80, 100];
 
-// In format 2 either all rows are of one generosity, or each has its own.
-fn fill_rows(random: &mut Random, net: &mut Net) {
+/// In format 2 either all rows are of one generosity, or each has its own.
+pub(crate) fn fill_rows(random: &mut Random, net: &mut Net) {
     let mut generosity = random.choose(&GENEROSITIES);
     let each_its_own = random.percent(50);
     let count = net.address_count as usize;

@@ -9,7 +9,7 @@ mod writer;
 use crate::bits::FieldAt;
 use crate::net::*;
 use crate::sound::keeps_within;
-use fresh::fresh;
+pub use fresh::fresh;
 use reader::Start;
 use std::fmt;
 

@@ -1,5 +1,6 @@
 //! Nets in the planners' notation (document 01, "The planners' notation";
-//! document 02, slip 3; the order of faults as issue 12 settles it).
+//! document 02, slips 3 and 13; the order of faults as issue 12 settles it, and
+//! rows by origin and sets as issue 25 does).
 //!
 //! The text is read once, from its first character to its last. Each fault
 //! is judged where it stands, so the first one met is the first in the text.
@@ -13,16 +14,20 @@ mod names;
 mod processes;
 mod rows;
 mod templates;
+mod writer;
 
-// For tests: texts by hand and those of the page; texts as trees, printed
-// and compiled; random ones.
+// For tests: texts by hand, those of the page and the longest; texts as trees,
+// printed and compiled; random ones.
 pub mod compile;
 pub mod edges;
 pub mod from_net;
 pub mod generate;
+pub mod longest;
 pub mod page;
 pub mod print;
 pub mod source;
+
+pub use writer::{text_of, unpacked};
 
 use crate::image::{starts_keep_within, BEYOND_ROW};
 use crate::net::Net;

@@ -154,30 +154,6 @@ fn table_of_rows(net: &Net, first: usize) -> String {
 #[cfg(test)]
 mod tests {
     use super::*;
-    use crate::notation::from_net::from_net;
-    use crate::notation::print::text;
-    use crate::notation::read_text;
-    use crate::notation::source::Source;
-
-    /// The lines after the rows are those of the image: with each node's row
-    /// for itself before them they give its net in format 1.
-    #[test]
-    fn the_lines_are_the_net_s() {
-        let example = rows_by_origin();
-        let mut single = own_rows_alone(&example.net);
-        single.format = SINGLE_ROW;
-        for node in single.nodes[..3].iter_mut() {
-            node.rows = [node.rows[0]; ADDRESSES];
-        }
-        let Source { rows, .. } = from_net(&single);
-        let rows = text(&Source {
-            rows,
-            lines: Vec::new(),
-        });
-        let whole = [&rows, example.notation.as_bytes()].concat();
-        assert_eq!(read_text(&whole), Ok(single));
-    }
-
     /// The same code is refused from 1 and let in from 0; at the new address
     /// code from 0 may what the node's own may not.
     #[test]

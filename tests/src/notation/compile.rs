@@ -2,19 +2,23 @@
 //! the sizes of what stands before them. The reader is compared with it.
 
 use super::source::*;
-use crate::net::{self, Instruction, Net, Place, ADDRESSES, SINGLE_ROW};
+use crate::net::{self, Instruction, Locality, Net, Place, Set, Target, ADDRESSES};
 
-/// The net, of format 1, of a tree without faults 22, 23, 26, 27, 31, 32 and
-/// 33. Rows are not judged.
+/// The net of a tree without faults 22, 23, 26, 27, 31, 32 and 33. Rows are not
+/// judged.
 pub fn compile(source: &Source) -> Net {
-    let (addresses, length) = (source.rows.len() as u8, source.size() as u16);
+    let (addresses, length) = (source.address_count() as u8, source.size() as u16);
     let mut compiler = Compiler {
         source,
         bases: bases(source),
-        net: Net::of(SINGLE_ROW, addresses, length),
+        net: Net::of(source.format(), addresses, length),
     };
-    for (node, row) in compiler.net.nodes.iter_mut().zip(&source.rows) {
-        node.rows = [*row; ADDRESSES];
+    for RowLine { at, origin, row } in &source.rows {
+        let rows = &mut compiler.net.nodes[*at as usize].rows;
+        match origin {
+            Some(origin) => rows[*origin as usize] = *row,
+            None => *rows = [*row; ADDRESSES],
+        }
     }
     for (index, line) in source.lines.iter().enumerate() {
         compiler.line(index, line);
@@ -89,8 +93,12 @@ impl Compiler<'_> {
 
     fn instruction(&mut self, action: &Action, at: usize, next: Place) -> Instruction {
         match action {
-            Action::Template(verb, fields, target) => {
-                let target = *target;
+            Action::Template(Verb::Out, fields, Aim::Set(members)) => {
+                let members = Set::of(members.iter().copied().map(Locality));
+                Instruction::with(net::Action::OutToSet { members, next }, fields)
+            }
+            Action::Template(verb, fields, aim) => {
+                let target = target(aim);
                 let action = match verb {
                     Verb::Out => net::Action::Out { target, next },
                     Verb::In => net::Action::In { target, next },
@@ -98,8 +106,8 @@ impl Compiler<'_> {
                 };
                 Instruction::with(action, fields)
             }
-            Action::Eval(process, target) => {
-                let (target, sent) = (*target, self.lay(process, at + 1));
+            Action::Eval(process, aim) => {
+                let (target, sent) = (target(aim), self.lay(process, at + 1));
                 Instruction::plain(net::Action::Eval { target, sent, next })
             }
             Action::New(variable) => {
@@ -121,5 +129,12 @@ impl Compiler<'_> {
             End::Name(other) if body.actions.is_empty() => self.first(other),
             _ => Place(base as u16),
         }
+    }
+}
+
+fn target(aim: &Aim) -> Target {
+    match aim {
+        Aim::At(target) => *target,
+        Aim::Set(_) => panic!("outs alone are aimed at sets"),
     }
 }

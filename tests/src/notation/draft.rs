@@ -2,6 +2,7 @@
 //! one another or to names, which are resolved when the text has ended.
 
 use super::names::{Firsts, Names};
+use super::rows::Rows;
 use crate::image::COUNT_OUT_OF_RANGE;
 use crate::net::*;
 
@@ -18,6 +19,7 @@ pub enum Entry {
 pub enum Kind {
     Stop,
     Out(Target, Vec<TemplateField>),
+    OutToSet(Set, Vec<TemplateField>),
     In(Target, Vec<TemplateField>),
     Read(Target, Vec<TemplateField>),
     /// The target, and where the sent process begins.
@@ -34,6 +36,7 @@ struct Drafted {
 
 /// All that is read of a text so far.
 pub struct Draft {
+    pub format: u8,
     pub address_count: u8,
     pub names: Names,
     /// Rows and tuples; the processes are in `starts`.
@@ -43,18 +46,16 @@ pub struct Draft {
 }
 
 impl Draft {
-    /// The nodes of these rows, each for code of every origin, and nothing
-    /// else.
-    pub fn new(rows: Vec<Row>) -> Draft {
-        let node = |row| Node {
-            rows: [row; ADDRESSES],
-            ..Node::ZERO
-        };
+    /// The nodes of these rows, and nothing else.
+    pub fn new(rows: Rows) -> Draft {
+        let Rows { format, nodes } = rows;
+        let node = |rows| Node { rows, ..Node::ZERO };
         Draft {
-            address_count: rows.len() as u8,
+            format,
+            address_count: nodes.len() as u8,
             names: Names::new(),
-            starts: vec![Vec::new(); rows.len()],
-            nodes: rows.into_iter().map(node).collect(),
+            starts: vec![Vec::new(); nodes.len()],
+            nodes: nodes.into_iter().map(node).collect(),
             code: Vec::new(),
         }
     }
@@ -107,14 +108,14 @@ impl Draft {
 
     // The end of the text.
 
-    /// The net, of format 1, once the text has ended: names are judged first,
-    /// then the number of instructions. Rows are not judged.
+    /// The net once the text has ended: names are judged first, then the
+    /// number of instructions. Rows are not judged.
     pub fn net(&self) -> Result<Net, u8> {
         let firsts = self.names.firsts()?;
         if self.code.is_empty() || self.code.len() > INSTRUCTIONS {
             return Err(COUNT_OUT_OF_RANGE);
         }
-        let mut net = Net::of(SINGLE_ROW, self.address_count, self.code.len() as u16);
+        let mut net = Net::of(self.format, self.address_count, self.code.len() as u16);
         net.nodes[..self.nodes.len()].clone_from_slice(&self.nodes);
         for (address, starts) in self.starts.iter().enumerate() {
             let processes = &mut net.nodes[address].processes;
@@ -139,6 +140,10 @@ impl Drafted {
             Kind::Out(target, fields) => {
                 let target = *target;
                 Instruction::with(Action::Out { target, next }, fields)
+            }
+            Kind::OutToSet(members, fields) => {
+                let members = *members;
+                Instruction::with(Action::OutToSet { members, next }, fields)
             }
             Kind::In(target, fields) => {
                 let target = *target;

@@ -4,24 +4,31 @@
 mod code;
 pub mod damage;
 mod faults;
+mod row_faults;
 
 use super::compile::compile;
-use super::from_net::from_net;
+use super::from_net::{from_net, rows_of};
 use super::print::text;
 use super::source::*;
 use super::{DEPTH, NAMES};
-use crate::generate::{grant_needed, valid_net_of};
-use crate::net::{Locality, Row, SINGLE_ROW};
+use crate::generate::{by_origin_net, fill_rows, grant_needed, set_image_net, valid_net_of};
+use crate::net::{Locality, Net, FORMATS, ROW_BY_ORIGIN};
 use crate::random::Random;
 use code::Planner;
 
-/// A tree without faults, but for starting processes that may reach beyond
-/// their rows; mostly they do not.
+/// A tree of either format without faults, but for starting processes that may
+/// reach beyond their rows; mostly they do not.
 pub fn source(random: &mut Random) -> Source {
+    let format = random.choose(&FORMATS);
+    source_of(random, format)
+}
+
+/// The same of one format.
+pub fn source_of(random: &mut Random, format: u8) -> Source {
     let mut source = match random.below(10) {
-        0..=3 => from_net(&valid_net_of(random, SINGLE_ROW)),
-        4..=8 => planned(random),
-        _ => deep(random),
+        0..=3 => from_net(&net_of(random, format)),
+        4..=8 => planned(random, format),
+        _ => deep(random, format),
     };
     shuffle(random, &mut source.lines);
     if random.percent(95) {
@@ -30,17 +37,31 @@ pub fn source(random: &mut Random) -> Source {
     source
 }
 
-/// A text, mostly accepted, otherwise refused with 30.
+/// A text of either format, mostly accepted, otherwise refused with 30.
 pub fn valid_text(random: &mut Random) -> Vec<u8> {
     text(&source(random))
+}
+
+/// The same of one format.
+pub fn valid_text_of(random: &mut Random, format: u8) -> Vec<u8> {
+    text(&source_of(random, format))
 }
 
 /// Gives the rows the rights that the starting processes need.
 pub fn grant_rows(source: &mut Source) {
     let mut net = compile(source);
     grant_needed(&mut net);
-    let count = source.rows.len();
-    source.rows = net.nodes[..count].iter().map(|node| node.rows[0]).collect();
+    source.rows = rows_of(&net);
+}
+
+// A net that an image can write, in format 2 often one in which origins or
+// sets matter.
+fn net_of(random: &mut Random, format: u8) -> Net {
+    match random.below(4) {
+        0 if format == ROW_BY_ORIGIN => by_origin_net(random),
+        1 if format == ROW_BY_ORIGIN => set_image_net(random),
+        _ => valid_net_of(random, format),
+    }
 }
 
 // Lines in any order.
@@ -102,7 +123,7 @@ fn names(random: &mut Random, count: usize) -> Vec<u16> {
 // Trees.
 
 // Definitions, processes and tuples, the instructions dealt out to them.
-fn planned(random: &mut Random) -> Source {
+fn planned(random: &mut Random, format: u8) -> Source {
     let count = address_count(random);
     let names = {
         let definitions = definition_count(random);
@@ -111,13 +132,13 @@ fn planned(random: &mut Random) -> Source {
     let starts = starts(random, count, names.is_empty());
     let total = instruction_count(random);
     let sizes = sizes(random, names.len(), starts.len(), total);
-    let mut planner = Planner::new(random, count as u8, names);
+    let mut planner = Planner::new(random, format, count as u8, names);
     let mut lines = planner.definitions(&sizes[..planner.names.len()]);
     for (at, size) in starts.iter().zip(&sizes[lines.len()..]) {
         lines.push(Line::Start(*at, planner.process(*size, DEPTH)));
     }
     lines.extend(tuples(&mut planner, count));
-    let rows = rows(random, count);
+    let rows = rows(random, format, count);
     Source { rows, lines }
 }
 
@@ -152,20 +173,10 @@ fn sizes(random: &mut Random, definitions: usize, starts: usize, total: usize) -
     sizes
 }
 
-fn rows(random: &mut Random, count: usize) -> Vec<Row> {
-    let generosity = random.choose(&[0, 10, 50, 100]);
-    let mut row = || {
-        let mut row = Row::ZERO;
-        row.create = random.percent(generosity);
-        for rights in &mut row.rights[..count] {
-            rights.take = random.percent(generosity);
-            rights.read = random.percent(generosity);
-            rights.put = random.percent(generosity);
-            rights.send = random.percent(generosity);
-        }
-        row
-    };
-    (0..count).map(|_| row()).collect()
+fn rows(random: &mut Random, format: u8, count: usize) -> Vec<RowLine> {
+    let mut net = Net::of(format, count as u8, 1);
+    fill_rows(random, &mut net);
+    rows_of(&net)
 }
 
 fn tuples(planner: &mut Planner, count: usize) -> Vec<Line> {
@@ -179,16 +190,16 @@ fn tuples(planner: &mut Planner, count: usize) -> Vec<Line> {
 }
 
 // A process nested as deep as it may be, or nearly.
-fn deep(random: &mut Random) -> Source {
+fn deep(random: &mut Random, format: u8) -> Source {
     let count = random.between(1, 3);
-    let mut planner = Planner::new(random, count as u8, Vec::new());
+    let mut planner = Planner::new(random, format, count as u8, Vec::new());
     let depth = planner.random.between(30, DEPTH);
     let process = planner.deep(depth);
     let line = match planner.random.below(2) {
         0 => Line::Definition(0, process),
         _ => Line::Start(Locality(0), process),
     };
-    let rows = rows(random, count);
+    let rows = rows(random, format, count);
     let lines = vec![line];
     Source { rows, lines }
 }

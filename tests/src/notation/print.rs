@@ -1,13 +1,13 @@
 //! A tree as a text. Numbers out of range are printed as they are.
 
 use super::source::*;
-use crate::net::{Field, Rights, Row, Target, TemplateField, Tuple};
+use crate::net::{Field, Rights, Target, TemplateField, Tuple};
 
 /// The text of a tree.
 pub fn text(source: &Source) -> Vec<u8> {
     let mut text = String::new();
-    for (address, row) in source.rows.iter().enumerate() {
-        put_row(&mut text, address, row);
+    for row in &source.rows {
+        put_row(&mut text, row);
     }
     for line in &source.lines {
         put_line(&mut text, line);
@@ -15,8 +15,12 @@ pub fn text(source: &Source) -> Vec<u8> {
     text.into_bytes()
 }
 
-fn put_row(text: &mut String, address: usize, row: &Row) {
-    *text += &format!("{address} has");
+fn put_row(text: &mut String, RowLine { at, origin, row }: &RowLine) {
+    *text += &at.to_string();
+    if let Some(origin) = origin {
+        *text += &format!(" from {origin}");
+    }
+    *text += " has";
     if row.create {
         *text += " n";
     }
@@ -74,16 +78,16 @@ fn put_process(text: &mut String, process: &Process) {
 
 fn put_action(text: &mut String, action: &Action) {
     match action {
-        Action::Template(verb, fields, target) => {
+        Action::Template(verb, fields, aim) => {
             let fields: Vec<String> = fields.iter().map(field_text).collect();
             *text += &format!("{}({})@", verb_text(*verb), fields.join(","));
-            *text += &target_text(target);
+            *text += &aim_text(aim);
         }
-        Action::Eval(sent, target) => {
+        Action::Eval(sent, aim) => {
             *text += "eval(";
             put_process(text, sent);
             *text += ")@";
-            *text += &target_text(target);
+            *text += &aim_text(aim);
         }
         Action::New(variable) => *text += &format!("newloc(u{variable})"),
     }
@@ -94,6 +98,16 @@ fn verb_text(verb: Verb) -> &'static str {
         Verb::Out => "out",
         Verb::In => "in",
         Verb::Read => "read",
+    }
+}
+
+fn aim_text(aim: &Aim) -> String {
+    match aim {
+        Aim::At(target) => target_text(target),
+        Aim::Set(members) => {
+            let members: Vec<String> = members.iter().map(u8::to_string).collect();
+            format!("{{{}}}", members.join(","))
+        }
     }
 }
 

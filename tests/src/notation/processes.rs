@@ -2,8 +2,9 @@
 
 use super::cursor::Cursor;
 use super::draft::{Draft, Entry, Kind};
-use super::templates::{target, template};
+use super::templates::{set, target, template};
 use super::{NAMES, OUTSIDE, TOO_DEEP};
+use crate::net::ROW_BY_ORIGIN;
 
 /// Reads a process into the draft and says where it begins. So many
 /// brackets and evals may stand open inside it.
@@ -53,7 +54,7 @@ fn read_part(cursor: &mut Cursor, draft: &mut Draft, room: usize) -> Result<Part
     } else if cursor.goes_on("eval(") {
         Ok(Part::Action(eval(cursor, draft, room)?))
     } else {
-        let kind = action(cursor, draft.address_count)?;
+        let kind = action(cursor, draft)?;
         Ok(Part::Action(draft.put(kind)))
     }
 }
@@ -84,10 +85,10 @@ fn eval(cursor: &mut Cursor, draft: &mut Draft, room: usize) -> Result<usize, u8
 }
 
 // An action that holds no process.
-fn action(cursor: &mut Cursor, count: u8) -> Result<Kind, u8> {
+fn action(cursor: &mut Cursor, draft: &Draft) -> Result<Kind, u8> {
+    let count = draft.address_count;
     if cursor.take("out(") {
-        let fields = template(cursor, count, true)?;
-        Ok(Kind::Out(target(cursor, count)?, fields))
+        out(cursor, draft)
     } else if cursor.take("in(") {
         let fields = template(cursor, count, false)?;
         Ok(Kind::In(target(cursor, count)?, fields))
@@ -100,5 +101,16 @@ fn action(cursor: &mut Cursor, count: u8) -> Result<Kind, u8> {
         Ok(Kind::New(variable))
     } else {
         Err(OUTSIDE)
+    }
+}
+
+// An out after its bracket. In format 2 its target may be a set.
+fn out(cursor: &mut Cursor, draft: &Draft) -> Result<Kind, u8> {
+    let count = draft.address_count;
+    let fields = template(cursor, count, true)?;
+    if draft.format == ROW_BY_ORIGIN && cursor.take("@{") {
+        Ok(Kind::OutToSet(set(cursor, count)?, fields))
+    } else {
+        Ok(Kind::Out(target(cursor, count)?, fields))
     }
 }

@@ -5,10 +5,9 @@ use super::from_net::from_net;
 use super::generate::damage::{damage_byte, damaged_text, one_byte_off};
 use super::generate::{source, valid_text};
 use super::print::text;
-use super::read_text;
-use crate::generate::valid_net_of;
+use super::{read_text, text_of};
+use crate::generate::valid_net;
 use crate::image::{read_image, starts_keep_within, write_image};
-use crate::net::SINGLE_ROW;
 use crate::random::Random;
 use crate::sound::sound;
 
@@ -39,27 +38,28 @@ fn a_tree_s_text_gives_its_net() {
 fn a_net_s_text_gives_the_net_of_its_image() {
     let mut random = Random::new(72);
     for _ in 0..5_000 {
-        let net = valid_net_of(&mut random, SINGLE_ROW);
+        let net = valid_net(&mut random);
         let text = text(&from_net(&net));
         let expected = read_image(&write_image(&net)).map_err(|fault| fault.number);
         assert!(read_text(&text) == expected, "{}", shown(&text));
     }
 }
 
-/// An accepted text's net is sound and of format 1, and its image gives it
-/// back.
+/// An accepted text's net is sound, and its image and its text give it back.
 #[test]
 fn accepted_nets_are_those_of_images() {
     let mut random = Random::new(73);
-    let mut accepted = 0;
+    let mut accepted = [0; 2];
     for _ in 0..20_000 {
         if let Ok(net) = read_text(&one_byte_off(&mut random)) {
-            assert!(sound(&net) && net.format == SINGLE_ROW);
+            assert!(sound(&net));
             assert_eq!(read_image(&write_image(&net)).as_ref(), Ok(&net));
-            accepted += 1;
+            let text = text_of(&net).expect("it is fresh");
+            assert_eq!(read_text(&text).as_ref(), Ok(&net));
+            accepted[net.format as usize - 1] += 1;
         }
     }
-    assert!(accepted > 1_000, "{accepted}");
+    assert!(accepted.iter().all(|count| *count > 500), "{accepted:?}");
 }
 
 // The numbers that are judged where they stand and nowhere else.

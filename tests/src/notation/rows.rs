@@ -1,40 +1,65 @@
-//! The rows, with which a text begins.
+//! The rows, with which a text begins. The first line says of which format
+//! they are.
+
+mod by_origin;
 
 use super::cursor::Cursor;
 use super::OUTSIDE;
 use crate::image::{ADDRESS_OUT_OF_RANGE, COUNT_OUT_OF_RANGE};
-use crate::net::{Rights, Row, ADDRESSES};
+use crate::net::{Rights, Row, ADDRESSES, ROW_BY_ORIGIN, SINGLE_ROW};
 
-/// The rows, one for each address: the lines that open with digits and
-/// ` has`, up to the first that does not. A right over an address without a
-/// row is judged after the last of them.
-pub fn rows(cursor: &mut Cursor) -> Result<Vec<Row>, u8> {
-    let mut rows = Vec::new();
-    while cursor.goes_on_after_digits(" has") {
-        if rows.len() == ADDRESSES {
-            return Err(COUNT_OUT_OF_RANGE);
-        }
-        rows.push(row(cursor, rows.len() as u32)?);
-    }
-    if rows.is_empty() {
+/// What the rows of a text say: its format, and for each address the rows of
+/// its node.
+pub struct Rows {
+    pub format: u8,
+    pub nodes: Vec<[Row; ADDRESSES]>,
+}
+
+/// The rows of a text. A right over an address that the net has not is judged
+/// after the last of them.
+pub fn rows(cursor: &mut Cursor) -> Result<Rows, u8> {
+    let rows = if cursor.goes_on_after_digits(" has") {
+        let (format, nodes) = (SINGLE_ROW, single(cursor)?);
+        Rows { format, nodes }
+    } else if by_origin::goes_on(cursor) {
+        let (format, nodes) = (ROW_BY_ORIGIN, by_origin::rows(cursor)?);
+        Rows { format, nodes }
+    } else {
         return Err(OUTSIDE);
-    }
-    let beyond = |row: &Row| {
-        row.rights[rows.len()..]
-            .iter()
-            .any(|at| *at != Rights::NONE)
     };
-    if rows.iter().any(beyond) {
+    let count = rows.nodes.len();
+    let beyond = |row: &Row| row.rights[count..].iter().any(|at| *at != Rights::NONE);
+    if rows.nodes.iter().flatten().any(beyond) {
         return Err(ADDRESS_OUT_OF_RANGE);
     }
     Ok(rows)
 }
 
-// The row of this address.
-fn row(cursor: &mut Cursor, address: u32) -> Result<Row, u8> {
-    if cursor.number(ADDRESSES as u32 - 1)? != address {
-        return Err(OUTSIDE);
+// Format 1: one row for each address, which holds for every origin. They are
+// the lines that open with digits and ` has`, up to the first that does not.
+fn single(cursor: &mut Cursor) -> Result<Vec<[Row; ADDRESSES]>, u8> {
+    let mut nodes = Vec::new();
+    while cursor.goes_on_after_digits(" has") {
+        if nodes.len() == ADDRESSES {
+            return Err(COUNT_OUT_OF_RANGE);
+        }
+        numbered(cursor, nodes.len())?;
+        nodes.push([held(cursor)?; ADDRESSES]);
     }
+    Ok(nodes)
+}
+
+// Passes over the number of a node or an origin, which has to be this one.
+fn numbered(cursor: &mut Cursor, expected: usize) -> Result<(), u8> {
+    if cursor.number(ADDRESSES as u32 - 1)? as usize == expected {
+        Ok(())
+    } else {
+        Err(OUTSIDE)
+    }
+}
+
+// A row from its ` has` on, to the end of its line.
+fn held(cursor: &mut Cursor) -> Result<Row, u8> {
     cursor.expect(" has")?;
     let mut row = Row::ZERO;
     row.create = cursor.take(" n");

@@ -1,13 +1,22 @@
 //! A text as a tree: what is written, before it is written. Nothing in it
 //! is judged; a tree may hold faults.
 
-use crate::net::{Locality, Row, Target, TemplateField, Tuple};
+use crate::net::{Locality, Row, Target, TemplateField, Tuple, ROW_BY_ORIGIN, SINGLE_ROW};
 
 /// The rows of a text and its later lines, in their order.
 #[derive(Clone, Debug)]
 pub struct Source {
-    pub rows: Vec<Row>,
+    pub rows: Vec<RowLine>,
     pub lines: Vec<Line>,
+}
+
+/// A row, and what stands before its `has`.
+#[derive(Clone, Copy, Debug)]
+pub struct RowLine {
+    pub at: u8,
+    /// The origin, which is written in format 2 alone.
+    pub origin: Option<u8>,
+    pub row: Row,
 }
 
 /// A line after the rows.
@@ -37,9 +46,17 @@ pub enum End {
 /// An action with what it holds.
 #[derive(Clone, Debug)]
 pub enum Action {
-    Template(Verb, Vec<TemplateField>, Target),
-    Eval(Process, Target),
+    Template(Verb, Vec<TemplateField>, Aim),
+    Eval(Process, Aim),
     New(u8),
+}
+
+/// Where an action is aimed.
+#[derive(Clone, Debug)]
+pub enum Aim {
+    At(Target),
+    /// A set, its members as they are written.
+    Set(Vec<u8>),
 }
 
 /// The actions that have a template.
@@ -86,18 +103,17 @@ impl Process {
         actions + end
     }
 
-    /// Shows each template to a visitor, in the order of the text.
-    pub fn templates(&mut self, visit: &mut impl FnMut(Verb, &mut Vec<TemplateField>)) {
+    /// Shows each action to a visitor, in the order of the text.
+    pub fn actions(&mut self, visit: &mut impl FnMut(&mut Action)) {
         for action in &mut self.actions {
-            match action {
-                Action::Template(verb, fields, _) => visit(*verb, fields),
-                Action::Eval(sent, _) => sent.templates(visit),
-                Action::New(_) => {}
+            visit(action);
+            if let Action::Eval(sent, _) = action {
+                sent.actions(visit);
             }
         }
         if let End::Fork(first, second) = &mut self.end {
-            first.templates(visit);
-            second.templates(visit);
+            first.actions(visit);
+            second.actions(visit);
         }
     }
 }
@@ -135,6 +151,22 @@ impl Line {
 }
 
 impl Source {
+    /// The format, which the first row shows.
+    pub fn format(&self) -> u8 {
+        match self.rows.first() {
+            Some(row) if row.origin.is_some() => ROW_BY_ORIGIN,
+            _ => SINGLE_ROW,
+        }
+    }
+
+    /// The number of addresses, where the rows have no fault.
+    pub fn address_count(&self) -> usize {
+        match self.format() {
+            ROW_BY_ORIGIN => self.rows.iter().filter(|row| row.at == 0).count(),
+            _ => self.rows.len(),
+        }
+    }
+
     /// The number of its instructions.
     pub fn size(&self) -> usize {
         self.lines.iter().map(Line::size).sum()
@@ -149,10 +181,27 @@ impl Source {
         defined.collect()
     }
 
-    /// Shows each template to a visitor, in the order of the text.
-    pub fn templates(&mut self, visit: &mut impl FnMut(Verb, &mut Vec<TemplateField>)) {
+    /// Shows each action to a visitor, in the order of the text.
+    pub fn actions(&mut self, visit: &mut impl FnMut(&mut Action)) {
         for process in self.lines.iter_mut().filter_map(Line::process_mut) {
-            process.templates(visit);
+            process.actions(visit);
         }
+    }
+
+    /// The same with each template.
+    pub fn templates(&mut self, visit: &mut impl FnMut(Verb, &mut Vec<TemplateField>)) {
+        self.actions(&mut |action| {
+            if let Action::Template(verb, fields, _) = action {
+                visit(*verb, fields);
+            }
+        });
+    }
+
+    /// The same with what each action is aimed at.
+    pub fn aims(&mut self, visit: &mut impl FnMut(&mut Aim)) {
+        self.actions(&mut |action| match action {
+            Action::Template(_, _, aim) | Action::Eval(_, aim) => visit(aim),
+            Action::New(_) => {}
+        });
     }
 }

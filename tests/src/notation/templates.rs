@@ -1,9 +1,9 @@
-//! Fields, tuples, templates and targets.
+//! Fields, tuples, templates, targets and sets.
 
 use super::cursor::Cursor;
 use super::OUTSIDE;
 use crate::image::{COUNT_OUT_OF_RANGE, FORMAL_IN_OUT, FORMAL_TWICE};
-use crate::net::{Field, Target, TemplateField, FIELDS};
+use crate::net::{Field, Locality, Set, Target, TemplateField, FIELDS};
 
 /// A tuple's fields, after its `<` and with its `>`: readings and addresses.
 pub fn tuple(cursor: &mut Cursor, count: u8) -> Result<Vec<Field>, u8> {
@@ -40,6 +40,27 @@ pub fn target(cursor: &mut Cursor, count: u8) -> Result<Target, u8> {
     } else {
         Ok(Target::Written(cursor.address(count)?))
     }
+}
+
+/// A set of addresses, after its brace and with its closing one: none, or some
+/// that ascend.
+pub fn set(cursor: &mut Cursor, count: u8) -> Result<Set, u8> {
+    if cursor.take("}") {
+        return Ok(Set::EMPTY);
+    }
+    let mut members: Vec<Locality> = Vec::new();
+    loop {
+        let member = cursor.address(count)?;
+        if members.last().is_some_and(|before| member.0 <= before.0) {
+            return Err(OUTSIDE);
+        }
+        members.push(member);
+        if !cursor.take(",") {
+            break;
+        }
+    }
+    cursor.expect("}")?;
+    Ok(Set::of(members))
 }
 
 // One to four fields with commas between them; each is read knowing those

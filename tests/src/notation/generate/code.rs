@@ -2,21 +2,24 @@
 
 use super::super::source::*;
 use super::super::DEPTH;
-use crate::generate::reading;
-use crate::net::{Field, Locality, Target, TemplateField, Tuple, FIELDS, VARIABLES};
+use crate::generate::{reading, set};
+use crate::net::{Field, Locality, Target, TemplateField, Tuple};
+use crate::net::{FIELDS, ROW_BY_ORIGIN, VARIABLES};
 use crate::random::Random;
 
 /// Writes processes that use these names.
 pub struct Planner<'a> {
     pub random: &'a mut Random,
-    pub count: u8,
+    format: u8,
+    count: u8,
     pub names: Vec<u16>,
 }
 
 impl Planner<'_> {
-    pub fn new(random: &mut Random, count: u8, names: Vec<u16>) -> Planner<'_> {
+    pub fn new(random: &mut Random, format: u8, count: u8, names: Vec<u16>) -> Planner<'_> {
         Planner {
             random,
+            format,
             count,
             names,
         }
@@ -84,7 +87,7 @@ impl Planner<'_> {
                 let size = self.random.between(least, left - 1 - least);
                 let size = size.min(self.random.choose(&[1, 3, 1000])).max(least);
                 let sent = self.process(size, room - 1);
-                Action::Eval(sent, self.target())
+                Action::Eval(sent, Aim::At(self.target()))
             }
             2 => Action::New(self.variable()),
             _ => self.templated(),
@@ -94,7 +97,18 @@ impl Planner<'_> {
     fn templated(&mut self) -> Action {
         let verb = self.random.choose(&[Verb::Out, Verb::In, Verb::Read]);
         let fields = self.template(verb);
-        Action::Template(verb, fields, self.target())
+        Action::Template(verb, fields, self.aim(verb))
+    }
+
+    // In format 2 outs often have a set.
+    fn aim(&mut self, verb: Verb) -> Aim {
+        let sets = self.format == ROW_BY_ORIGIN && verb == Verb::Out;
+        if sets && self.random.percent(40) {
+            let members = set(self.random, self.count).members();
+            Aim::Set(members.map(|member| member.0).collect())
+        } else {
+            Aim::At(self.target())
+        }
     }
 
     /// A process with so many brackets and evals open in it at once.
@@ -112,7 +126,7 @@ impl Planner<'_> {
             0 => End::Fork(inner, outer),
             1 => End::Fork(outer, inner),
             _ => {
-                actions.push(Action::Eval(*inner, self.target()));
+                actions.push(Action::Eval(*inner, Aim::At(self.target())));
                 outer.end
             }
         };

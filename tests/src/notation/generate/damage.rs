@@ -2,12 +2,20 @@
 
 use super::super::print::text;
 use super::faults::put_fault;
-use super::{source, valid_text};
+use super::{source_of, valid_text_of};
+use crate::net::{FORMATS, SINGLE_ROW};
 use crate::random::Random;
 
-/// A text with a fault put into its tree, mostly at fault in just that.
+/// A text of either format with a fault put into its tree, mostly at fault in
+/// just that.
 pub fn faulty_text(random: &mut Random) -> Vec<u8> {
-    let mut source = source(random);
+    let format = random.choose(&FORMATS);
+    faulty_text_of(random, format)
+}
+
+/// The same of one format.
+pub fn faulty_text_of(random: &mut Random, format: u8) -> Vec<u8> {
+    let mut source = source_of(random, format);
     let times = random.choose(&[1, 1, 1, 2, 3]);
     for _ in 0..times {
         put_fault(random, &mut source);
@@ -15,19 +23,33 @@ pub fn faulty_text(random: &mut Random) -> Vec<u8> {
     text(&source)
 }
 
-/// A text one byte from a valid one: changed, removed or inserted.
+/// A text one byte from a valid one of either format: changed, removed or
+/// inserted.
 pub fn one_byte_off(random: &mut Random) -> Vec<u8> {
-    let mut text = valid_text(random);
+    let format = random.choose(&FORMATS);
+    one_byte_off_of(random, format)
+}
+
+/// The same of one format.
+pub fn one_byte_off_of(random: &mut Random, format: u8) -> Vec<u8> {
+    let mut text = valid_text_of(random, format);
     damage_byte(random, &mut text);
     text
 }
 
-/// A text damaged in one or more ways; now and then it is still accepted.
+/// A text of either format damaged in one or more ways; now and then it is
+/// still accepted.
 pub fn damaged_text(random: &mut Random) -> Vec<u8> {
+    let format = random.choose(&FORMATS);
+    damaged_text_of(random, format)
+}
+
+/// The same of one format.
+pub fn damaged_text_of(random: &mut Random, format: u8) -> Vec<u8> {
     let mut text = match random.below(10) {
-        0..=3 => faulty_text(random),
-        4 => soup(random),
-        _ => valid_text(random),
+        0..=3 => faulty_text_of(random, format),
+        4 => soup(random, format),
+        _ => valid_text_of(random, format),
     };
     let times = random.choose(&[1, 1, 1, 2, 3]);
     for _ in 0..times {
@@ -49,7 +71,7 @@ fn damage(random: &mut Random, text: &mut Vec<u8>) {
 
 // Bytes.
 
-const CHARACTERS: &[u8] = b"0123456789 \n:,.|()<>=@!-Aaxuvnhsireoutwlcdf";
+const CHARACTERS: &[u8] = b"0123456789 \n:,.|()<>{}=@!-Aaxuvnhsireoutwlcdfm";
 
 // Characters that stand for one another without leaving the notation.
 const ALIKE: [&[u8]; 5] = [b"0123456789", b"xuv", b"iroe", b"A0", b",."];
@@ -145,7 +167,7 @@ fn damage_number(random: &mut Random, text: &mut Vec<u8>) {
 }
 
 // Words of the notation.
-const WORDS: [&[&str]; 8] = [
+const WORDS: [&[&str]; 10] = [
     &["nil", "(", ")", "(nil | nil)", " | ", ".", "\n"],
     &["out(", "in(", "read(", "eval(", "newloc(u0)"],
     &["out(5)@self.", "in(!x0,!u0)@0."],
@@ -154,6 +176,14 @@ const WORDS: [&[&str]; 8] = [
     &["A0", "A1", "A511", "A0 = ", "0 :: ", "1 :: "],
     &["A0 = nil\n", "0 :: nil\n", "0 :: <5>\n", "1 has\n"],
     &["0 has", " has", " n", " 0:i"],
+    &[
+        "0 from 0 has\n",
+        "1 from 0",
+        " from 1",
+        " from",
+        "0 from 16",
+    ],
+    &["@{0}", "@{}", "{", "}", "{0,1}", "@{1,0}", "out(5)@{0,1}."],
 ];
 
 // Inserts a word of the notation, or puts it in the place of some bytes.
@@ -165,10 +195,11 @@ fn insert_word(random: &mut Random, text: &mut Vec<u8>) {
 }
 
 // Words one after another, at times after a row.
-fn soup(random: &mut Random) -> Vec<u8> {
+fn soup(random: &mut Random, format: u8) -> Vec<u8> {
     let mut text = match random.below(3) {
         0 => String::new(),
-        _ => "0 has n 0:iroe\n".to_string(),
+        _ if format == SINGLE_ROW => "0 has n 0:iroe\n".to_string(),
+        _ => "0 from 0 has n 0:iroe\n".to_string(),
     };
     for _ in 0..random.below(20) {
         text += random.choose(&WORDS.concat());

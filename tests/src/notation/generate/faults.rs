@@ -2,16 +2,27 @@
 
 use super::super::source::*;
 use super::super::NAMES;
-use crate::net::{Field, Locality, Rights, Row, Target, TemplateField, Tuple};
-use crate::net::{ADDRESSES, INSTRUCTIONS, VARIABLES};
+use super::row_faults::{put_row_fault, take_rights};
+use crate::net::{Field, Locality, Target, TemplateField, Tuple};
+use crate::net::{INSTRUCTIONS, ROW_BY_ORIGIN, VARIABLES};
 use crate::random::Random;
 
-/// Puts one fault into a tree, if there is room for it.
+/// Puts one fault into a tree, if there is room for it. In format 2 there are
+/// more of them in rows and sets.
 pub fn put_fault(random: &mut Random, source: &mut Source) {
-    match random.below(20) {
+    match random.below(100) {
+        0..=29 if source.format() == ROW_BY_ORIGIN => put_row_fault(random, source),
+        30..=44 if source.format() == ROW_BY_ORIGIN => put_set(random, source),
+        _ => put_other_fault(random, source),
+    }
+}
+
+fn put_other_fault(random: &mut Random, source: &mut Source) {
+    match random.below(23) {
         0 => fifth_process(random, source),
         1 => seventeenth_tuple(random, source),
-        2 => source.rows.resize(ADDRESSES + 1, Row::ZERO),
+        2 | 20 => put_row_fault(random, source),
+        21 => put_set(random, source),
         3 => fifth_field(random, source),
         4 => source.lines.retain(|line| line.process().is_none()),
         5 => too_many_instructions(random, source),
@@ -33,7 +44,7 @@ fn insert(random: &mut Random, source: &mut Source, line: Line) {
 }
 
 fn any_address(random: &mut Random, source: &Source) -> Locality {
-    Locality(random.below(source.rows.len()) as u8)
+    Locality(random.below(source.address_count().max(1)) as u8)
 }
 
 // Numbers 22.
@@ -85,9 +96,9 @@ fn unused_name(random: &mut Random, source: &Source) -> u16 {
 
 // Number 23, or 31 where it is above 15.
 fn address_without_row(random: &mut Random, source: &mut Source) {
-    let most = source.rows.len() + random.below(3);
+    let most = source.address_count() + random.below(3);
     let at = Locality(most as u8);
-    match random.below(5) {
+    match random.below(4) {
         0 => insert(random, source, Line::Start(at, Process::stop())),
         1 => insert(
             random,
@@ -98,16 +109,10 @@ fn address_without_row(random: &mut Random, source: &mut Source) {
             let held = Line::Held(Locality(0), Tuple::of(&[Field::Address(at)]));
             insert(random, source, held);
         }
-        3 => change_template(random, source, |random, _, fields| {
+        _ => change_template(random, source, |random, _, fields| {
             let index = random.below(fields.len());
             fields[index] = TemplateField::Address(at);
         }),
-        _ => {
-            let row = random.below(source.rows.len());
-            if let Some(rights) = source.rows[row].rights.get_mut(most) {
-                rights.take = true;
-            }
-        }
     }
 }
 
@@ -166,14 +171,38 @@ fn formal_twice(random: &mut Random, source: &mut Source) {
     }
 }
 
-// Number 30.
-fn take_rights(random: &mut Random, source: &mut Source) {
-    let row = random.below(source.rows.len().min(ADDRESSES));
-    match random.below(3) {
-        0 => source.rows[row] = Row::ZERO,
-        1 => source.rows[row].rights[row] = Rights::NONE,
-        _ => source.rows[row].create = false,
+// A set in the place of any target: mostly 31, for its members or because no
+// set can stand there, and 23 for an address that the net has not.
+fn put_set(random: &mut Random, source: &mut Source) {
+    let members = members(random, source.address_count());
+    let mut count = 0;
+    source.aims(&mut |_| count += 1);
+    if count == 0 {
+        return;
     }
+    let mut before = random.below(count);
+    source.aims(&mut |aim| {
+        if before == 0 {
+            *aim = Aim::Set(members.clone());
+        }
+        before = before.wrapping_sub(1);
+    });
+}
+
+// Members below the count, or not; ascending, or not; one of them twice.
+fn members(random: &mut Random, count: usize) -> Vec<u8> {
+    let bound = random
+        .choose(&[count, count, count + 1, count + 3, 18])
+        .max(1);
+    let some = random.choose(&[0, 1, 2, 2, 3, 5]);
+    let mut members: Vec<u8> = (0..some).map(|_| random.below(bound) as u8).collect();
+    if random.percent(70) {
+        members.sort();
+    }
+    if random.percent(50) {
+        members.dedup();
+    }
+    members
 }
 
 // Number 32, or as deep as it may be.
@@ -185,7 +214,7 @@ fn nest(random: &mut Random, source: &mut Source) {
             0 => Process::fork(inner, Process::stop()),
             1 => Process::fork(Process::stop(), inner),
             _ => Process {
-                actions: vec![Action::Eval(inner, Target::Own)],
+                actions: vec![Action::Eval(inner, Aim::At(Target::Own))],
                 end: End::Stop,
             },
         };

@@ -89,7 +89,7 @@ fn sizes_are_varied() {
     let count = |met: fn(&Source) -> bool| sources.iter().filter(|source| met(source)).count();
     assert!(count(|source| source.size() == 512) > 10);
     assert!(count(|source| source.size() == 1) > 30);
-    assert!(count(|source| source.rows.len() == 16) > 30);
+    assert!(count(|source| source.address_count() == 16) > 30);
     assert!(count(|source| source.defined().len() > 500) > 10);
     assert!(count(|source| source.defined().is_empty()) > 100);
     assert!(count(unused) > 100);
