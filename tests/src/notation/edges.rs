@@ -2,6 +2,7 @@
 //! accepted: the order of faults point by point, and the limits.
 
 mod fields;
+mod format_2;
 mod limits;
 mod lines;
 mod rows;
@@ -18,10 +19,12 @@ pub fn edges() -> Vec<Edge> {
         fields::edges(),
         limits::edges(),
         whole::edges(),
+        format_2::edges(),
     ];
     parts.concat()
 }
 
+pub use format_2::{deepest_of_format_2, full_rows, rows_by_origin, widest_of_format_2};
 pub use limits::{brackets, chain, deepest, evals, widest};
 
 // Texts with their number.

@@ -1,6 +1,8 @@
 //! The edges; the nets that texts give (point 7: the numbers of
 //! instructions); texts far longer than any net.
 
+mod format_2;
+
 use super::edges::{brackets, chain, edges, evals};
 use super::*;
 use crate::by_hand::*;

@@ -53,9 +53,23 @@ pub fn damaged_text_of(random: &mut Random, format: u8) -> Vec<u8> {
     };
     let times = random.choose(&[1, 1, 1, 2, 3]);
     for _ in 0..times {
-        damage(random, &mut text);
+        damage_part(random, &mut text);
     }
     text
+}
+
+// Rows by origin are most of a short text: what stands after them is damaged
+// as often as the whole.
+fn damage_part(random: &mut Random, text: &mut Vec<u8>) {
+    let lines = text.split_inclusive(|byte| *byte == b'\n');
+    let is_row = |line: &&[u8]| line.windows(6).any(|word| word == b" from ");
+    let rows: usize = lines.take_while(is_row).map(<[u8]>::len).sum();
+    if rows == 0 || random.percent(50) {
+        return damage(random, text);
+    }
+    let mut after = text.split_off(rows);
+    damage(random, &mut after);
+    text.extend(after);
 }
 
 fn damage(random: &mut Random, text: &mut Vec<u8>) {

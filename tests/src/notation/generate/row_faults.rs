@@ -14,7 +14,7 @@ pub fn put_row_fault(random: &mut Random, source: &mut Source) {
     }
     let at = random.below(source.rows.len());
     let other = random.below(source.rows.len());
-    match random.below(14) {
+    match random.below(15) {
         0 | 1 => {
             source.rows.remove(at);
         }
@@ -25,13 +25,13 @@ pub fn put_row_fault(random: &mut Random, source: &mut Source) {
         6 | 7 => change_origin(random, source, at),
         8 => one_more_at_the_end(random, source),
         9 => one_more_of_a_node(random, source, at),
-        10 => right_beyond(random, source, at),
-        11 => {
+        10 | 11 => right_beyond(random, source, at),
+        12 => {
             // Beside a row that is wanting or over it does not count.
             right_beyond(random, source, at);
             put_row_fault(random, source);
         }
-        12 => seventeenth_node(source),
+        13 => seventeenth_node(source),
         _ => seventeenth_origin(random, source),
     }
 }
