@@ -25,9 +25,8 @@ pub struct Example {
     pub title: &'static str,
     /// What the example shows.
     pub about: &'static str,
-    /// The net in the planners' notation; of a net of format 2 the lines
-    /// after the rows.
-    pub notation: &'static str,
+    /// The net in the planners' notation.
+    pub text: &'static str,
     /// The same net, written by hand.
     pub net: Net,
     /// Each pick, and what it does.
@@ -70,17 +69,9 @@ fn bytes_text(bytes: &[u8]) -> String {
     bytes.join(" ") + "\n"
 }
 
-const READS_TEXT: &str = ", and so does `../../target/bin/register_text`, which reads the text";
-
 impl Example {
     pub fn image(&self) -> Vec<u8> {
         write_image(&self.net)
-    }
-
-    /// The text of the net. One of format 2 has none: texts know neither rows
-    /// by origin nor sets.
-    pub fn text(&self) -> Option<&'static str> {
-        (self.net.format == SINGLE_ROW).then_some(self.notation)
     }
 
     pub fn pick_bytes(&self) -> Vec<u8> {
@@ -98,13 +89,11 @@ impl Example {
         let file = |name: &str, content| file(self.name, name, content);
         let mut files = vec![
             file("net.bin", self.image()),
+            file("net.txt", self.text.as_bytes().to_vec()),
             file("picks.bin", self.pick_bytes()),
             file("register.txt", self.register().into_bytes()),
             file("README.md", self.readme().into_bytes()),
         ];
-        if let Some(text) = self.text() {
-            files.push(file("net.txt", text.as_bytes().to_vec()));
-        }
         if let Some(listing) = self.listing {
             files.push(file("listing.txt", listing.as_bytes().to_vec()));
         }
@@ -117,9 +106,9 @@ impl Example {
     fn readme(&self) -> String {
         let (title, about, net) = (self.title, self.about, self.about_net());
         let (table, register) = (self.table(), self.register());
-        let (rows_after, reads_text) = match self.text() {
-            None => (self.about_rows_after(), ""),
-            Some(_) => (String::new(), READS_TEXT),
+        let rows_after = match self.net.format {
+            ROW_BY_ORIGIN => self.about_rows_after(),
+            _ => String::new(),
         };
         let names = self.names.as_ref();
         let names = names.map_or(String::new(), |entries| self.about_names(entries));
@@ -134,20 +123,24 @@ impl Example {
              {table}\n\
              {rows_after}{names}\
              ## The register\n\n\
-             Run in this directory, `../../target/bin/register` prints what `register.txt` holds{reads_text}:\n\n\
+             Run in this directory, `../../target/bin/register` prints what `register.txt` holds, and so does \
+             `../../target/bin/register_text`, which reads the text:\n\n\
              ```\n{register}```\n{listing}"
         )
     }
 
     fn about_net(&self) -> String {
-        match self.text() {
-            None => self.about_rows(),
-            Some(text) => format!(
-                "In the planners' notation, as `net.txt` has it; `net.bin` holds the same net as an image, which \
-                 `../../target/bin/pack` makes of the text.\n\n\
-                 ```\n{text}```\n\n"
-            ),
-        }
+        let text = self.text;
+        let format = match self.net.format {
+            ROW_BY_ORIGIN => " of format 2",
+            _ => "",
+        };
+        format!(
+            "In the planners' notation, as `net.txt` has it; `net.bin` holds the same net as an image{format}, which \
+             `../../target/bin/pack` makes of the text. Of the image `../../target/bin/unpack` makes a text again, \
+             with one definition for each instruction.\n\n\
+             ```\n{text}```\n\n"
+        )
     }
 
     // The net at the end of the picks.
@@ -187,9 +180,7 @@ mod tests {
         for example in examples() {
             let image = read_image(&example.image());
             assert_eq!(image.as_ref(), Ok(&example.net), "{}", example.name);
-            if let Some(text) = example.text() {
-                assert_eq!(read_text(text.as_bytes()), Ok(example.net));
-            }
+            assert_eq!(read_text(example.text.as_bytes()), Ok(example.net));
         }
     }
 }

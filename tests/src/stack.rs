@@ -9,10 +9,9 @@ use crate::listing::{wanted_lines, Age};
 use crate::names::by_hand::longest as longest_lists;
 use crate::names::names_by;
 use crate::net::*;
-use crate::notation::edges::{deepest, widest};
-use crate::notation::from_net::from_net;
-use crate::notation::print::text;
-use crate::notation::read_text;
+use crate::notation::edges::{deepest, deepest_of_format_2, widest, widest_of_format_2};
+use crate::notation::longest::longest_net;
+use crate::notation::{read_text, text_of};
 use crate::program::{program, TestDirectory};
 use crate::random::Random;
 use crate::register::{register_named, register_text_named, MOST_PICKS};
@@ -24,7 +23,7 @@ use std::process::{Command, Output};
 
 /// Kilobytes of stack that each program has to do with. What it needs is
 /// less: `cargo run --bin measure_stack` says how much.
-pub const BOUNDS: [(&str, usize); 10] = [
+pub const BOUNDS: [(&str, usize); 11] = [
     ("register", 2_048),
     ("repack", 1_024),
     ("edges", 1_024),
@@ -32,6 +31,7 @@ pub const BOUNDS: [(&str, usize); 10] = [
     ("replay", 1_024),
     ("inspect_text", 1_024),
     ("pack", 2_048),
+    ("unpack", 1_024),
     ("register_text", 3_072),
     ("check_listing", 6_144),
     ("shares", 1_024),
@@ -168,8 +168,9 @@ pub fn jobs(name: &str) -> Vec<Job> {
         "inspect" => vec![inspecting()],
         "replay" => loads().map(replaying).into(),
         "inspect_text" => vec![inspecting_texts()],
-        "register_text" => texts().map(|text| registering_text(&text)).into(),
-        "pack" => texts().map(|text| packing(&text)).into(),
+        "register_text" => all_texts().map(|text| registering_text(&text)).collect(),
+        "pack" => all_texts().map(|text| packing(&text)).collect(),
+        "unpack" => unpackings(),
         "check_listing" => loads().iter().flat_map(checking).collect(),
         "shares" => vec![sharing()],
         _ => panic!("{name} is no program"),
@@ -247,9 +248,34 @@ fn sharing() -> Job {
     Job::new(&files, &[], printed.into_bytes()).given(&folders)
 }
 
-/// The deepest text, the widest, and one with every action.
-pub fn texts() -> [Vec<u8>; 3] {
-    [deepest(), widest(), text(&from_net(&busy()))]
+/// The deepest text, the widest, and one with every action; then these of
+/// format 2, with outs to a set.
+pub fn texts() -> [Vec<u8>; 6] {
+    let [one, two] = [busy(), busy_of_format_2()].map(|net| text_of(&net).expect("it is fresh"));
+    let (deepest_2, widest_2) = (deepest_of_format_2(), widest_of_format_2());
+    [deepest(), widest(), one, deepest_2, widest_2, two]
+}
+
+/// The longest text of a net of each format. That of format 2 is longer than
+/// `inspect_text` takes.
+pub fn longest_texts() -> [Vec<u8>; 2] {
+    FORMATS.map(|format| text_of(&longest_net(format)).expect("it is fresh"))
+}
+
+fn all_texts() -> impl Iterator<Item = Vec<u8>> {
+    texts().into_iter().chain(longest_texts())
+}
+
+// The nets of all loads, and those with the longest texts.
+fn unpackings() -> Vec<Job> {
+    let loads = loads().into_iter().map(|load| load.net);
+    let nets = loads.chain(FORMATS.map(longest_net));
+    let job = |net: Net| {
+        let (image, text) = (write_image(&net), text_of(&net));
+        let text = text.expect("it is fresh");
+        Job::new(&[("net.bin", &image)], &[], text)
+    };
+    nets.map(job).collect()
 }
 
 fn net_of(text: &[u8]) -> Net {

@@ -1,11 +1,12 @@
 //! The examples: that the stored files are the model's, that the programs
-//! print the stored registers, write the stored images and check the stored
-//! listing, that they read the images of format 2, and that the tenant's fence
-//! holds.
+//! print the stored registers, write the stored images, write them as texts
+//! and check the stored listing, that they read the images of format 2, and
+//! that the tenant's fence holds.
 
-use cavindorum_tests::examples::{examples, stored_files, Example};
+use cavindorum_tests::examples::{damaged, examples, stored_files, Example};
 use cavindorum_tests::image::read_image;
 use cavindorum_tests::net::*;
+use cavindorum_tests::notation::unpacked;
 use cavindorum_tests::program::{printed_by, printed_given, TestDirectory};
 use cavindorum_tests::season::{printed, runs};
 use cavindorum_tests::step::{pick, pick_address};
@@ -26,12 +27,12 @@ fn directories() -> Vec<PathBuf> {
     all
 }
 
-/// The directories of the examples that have a text.
+/// The directories of the examples that have a text: all but that of the
+/// refused image.
 fn with_text() -> Vec<PathBuf> {
     let mut all = directories();
     all.retain(|one| one.join("net.txt").exists());
-    let texts = examples().iter().filter_map(Example::text).count();
-    assert_eq!(all.len(), texts);
+    assert_eq!(all.len(), examples().len());
     all
 }
 
@@ -69,17 +70,39 @@ fn the_programs_print_the_stored_register() {
     }
 }
 
+/// The image that a text is packed to.
+fn packed(text: &[u8]) -> Vec<u8> {
+    let here = TestDirectory::holding([("net.txt", text)]);
+    let printed = printed_by("pack", &here.path);
+    let image = file(&here.path, "net.bin");
+    let says = format!("packed {}\n", image.len());
+    assert_eq!(String::from_utf8_lossy(&printed), says);
+    image
+}
+
 /// Byte for byte what the text is packed to.
 #[test]
 fn the_program_writes_the_stored_image() {
     for stored in with_text() {
         let (text, image) = (file(&stored, "net.txt"), file(&stored, "net.bin"));
-        let here = TestDirectory::holding([("net.txt", &text[..])]);
-        let printed = printed_by("pack", &here.path);
-        let says = format!("packed {}\n", image.len());
-        assert_eq!(String::from_utf8_lossy(&printed), says);
-        let packed = file(&here.path, "net.bin");
-        assert!(packed == image, "{}", stored.display());
+        assert!(packed(&text) == image, "{}", stored.display());
+    }
+}
+
+/// And the image as a text again, which is packed to the same; of the refused
+/// image the refusal.
+#[test]
+fn the_program_writes_the_stored_image_as_a_text() {
+    for stored in directories() {
+        let here = directory_with(&["net.bin"], &stored);
+        let text = printed_by("unpack", &here.path);
+        let image = file(&stored, "net.bin");
+        assert!(text == unpacked(&image), "{}", stored.display());
+        if stored.ends_with(damaged::NAME) {
+            assert_eq!(text, file(&stored, "register.txt"));
+        } else {
+            assert!(packed(&text) == image, "{}", stored.display());
+        }
     }
 }
 

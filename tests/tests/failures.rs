@@ -25,7 +25,7 @@ struct Reader {
     files: &'static [&'static str],
 }
 
-const READERS: [Reader; 7] = [
+const READERS: [Reader; 8] = [
     reader(
         "register",
         &[],
@@ -38,6 +38,7 @@ const READERS: [Reader; 7] = [
     ),
     reader("pack", &[], &["net.txt"]),
     reader("repack", &[], &["net.bin"]),
+    reader("unpack", &[], &["net.bin"]),
     reader("edges", &[], &["edges.bin", "creation.bin"]),
     reader(
         "check_listing",
@@ -154,7 +155,9 @@ fn a_missing_file() {
     assert_eq!(said("register", &directory.path, Stdio::null()), expected);
     let empty = TestDirectory::holding([]);
     let refused = (b"refused 28 at 0\n".to_vec(), String::new());
-    assert_eq!(said("register", &empty.path, Stdio::null()), refused);
+    for name in ["register", "unpack"] {
+        assert_eq!(said(name, &empty.path, Stdio::null()), refused);
+    }
     let nothing = (Vec::new(), String::new());
     assert_eq!(said("repack", &empty.path, Stdio::null()), nothing);
     let refused = (b"refused 31\n".to_vec(), String::new());

@@ -4,13 +4,15 @@
 use cavindorum_tests::by_hand::ONE_STOP;
 use cavindorum_tests::generate::picks;
 use cavindorum_tests::image::write_image;
-use cavindorum_tests::notation::edges::{chain, deepest, widest};
-use cavindorum_tests::notation::generate::damage::faulty_text;
-use cavindorum_tests::notation::generate::valid_text;
+use cavindorum_tests::net::FORMATS;
+use cavindorum_tests::notation::edges::{chain, widest};
+use cavindorum_tests::notation::generate::damage::{damaged_text_of, faulty_text_of};
+use cavindorum_tests::notation::generate::valid_text_of;
 use cavindorum_tests::notation::read_text;
-use cavindorum_tests::program::{printed_by, program, run_on, TestDirectory};
+use cavindorum_tests::program::{on_two_threads, printed_by, program, run_on, TestDirectory};
 use cavindorum_tests::random::Random;
 use cavindorum_tests::register::{answers_in, register_text};
+use cavindorum_tests::stack::{longest_texts, texts};
 use std::fs;
 use std::os::unix::fs::symlink;
 use std::path::Path;
@@ -69,19 +71,25 @@ fn compare_register(files: &Files) -> String {
 
 #[test]
 fn random_registers() {
-    let mut random = Random::new(807);
-    let mut answers = [0; 11];
-    for _ in 0..600 {
-        let text = valid_text(&mut random);
-        let register = compare_register(&with_picks(&mut random, text));
-        for answer in answers_in(&register) {
-            answers[answer as usize] += 1;
+    for format in FORMATS {
+        let mut random = Random::new(807);
+        let mut made = |make: fn(&mut Random, u8) -> Vec<u8>, count: usize| {
+            let one = |_| {
+                let text = make(&mut random, format);
+                with_picks(&mut random, text)
+            };
+            let all: Vec<Files> = (0..count).map(one).collect();
+            on_two_threads(&all, compare_register)
+        };
+        let mut answers = [0; 11];
+        for register in made(valid_text_of, 600) {
+            for answer in answers_in(&register) {
+                answers[answer as usize] += 1;
+            }
         }
-    }
-    assert!(answers[..9].iter().all(|count| *count > 20), "{answers:?}");
-    for _ in 0..400 {
-        let text = faulty_text(&mut random);
-        compare_register(&with_picks(&mut random, text));
+        assert!(answers[..9].iter().all(|count| *count > 20), "{answers:?}");
+        made(faulty_text_of, 300);
+        made(damaged_text_of, 300);
     }
 }
 
@@ -103,10 +111,10 @@ fn missing_files() {
     assert_eq!(printed_by("pack", &directory.path), b"refused 31\n");
 }
 
-/// The deepest text and the widest, in an ordinary stack.
+/// The deepest texts, the widest and the longest, in an ordinary stack.
 #[test]
 fn the_deepest_and_the_widest() {
-    for text in [deepest(), widest()] {
+    for text in texts().into_iter().chain(longest_texts()) {
         let register = compare_register(&files(&text, &[0; 100]));
         assert!(register.starts_with("net "));
         packed(&text);
@@ -147,9 +155,19 @@ fn names_in(directory: &Path) -> Vec<String> {
 #[test]
 fn random_texts_packed() {
     let mut random = Random::new(806);
-    for _ in 0..400 {
-        packed(&valid_text(&mut random));
-        packed(&faulty_text(&mut random));
+    let mut texts = Vec::new();
+    for format in FORMATS {
+        for _ in 0..400 {
+            texts.push(valid_text_of(&mut random, format));
+            texts.push(faulty_text_of(&mut random, format));
+            texts.push(damaged_text_of(&mut random, format));
+        }
+    }
+    let images = on_two_threads(&texts, |text| packed(text));
+    for format in FORMATS {
+        let is_of = |image: &&Vec<u8>| image[0] >> 4 == format;
+        let count = images.iter().flatten().filter(is_of).count();
+        assert!(count > 380, "{count} of format {format}");
     }
 }
 

@@ -17,9 +17,8 @@ const SIZES: [(&str, usize); 3] = [("10 KB", 10_000), ("100 KB", 100_000), ("1 M
 /// A text of about so many bytes.
 type Make = fn(usize) -> String;
 
-/// Three kinds in three sizes, and one that is accepted. No accepted text is
-/// twice as long as that: it has 512 instructions and 256 tuples of the most
-/// digits.
+/// Three kinds in three sizes, and one that is accepted, all of format 1. It has
+/// 512 instructions and 256 tuples of the most digits.
 pub fn all() -> Vec<Text> {
     let kinds: [(&str, Make, u8); 3] = [
         ("definitions", |bytes| lines(bytes, definition), 33),

@@ -19,7 +19,7 @@ use cavindorum_tests::notation::generate::valid_text;
 use cavindorum_tests::notation::read_text;
 use cavindorum_tests::random::Random;
 use cavindorum_tests::register;
-use cavindorum_tests::stack::{loads, texts};
+use cavindorum_tests::stack::{loads, longest_texts, texts};
 use cavindorum_tests::step::pick;
 use cavindorum_tests::stored::repository;
 
@@ -139,9 +139,7 @@ fn the_examples() {
     for example in examples() {
         let picks: Vec<u8> = example.picks.iter().map(|(pick, _)| *pick).collect();
         IMAGE.compare(&write_image(&example.net), &picks);
-        if let Some(text) = example.text() {
-            TEXT.compare(text.as_bytes(), &picks);
-        }
+        TEXT.compare(example.text.as_bytes(), &picks);
     }
     IMAGE.compare(&damaged::image(), &damaged::picks());
     assert_eq!(compare_place(&damaged::image()), (24, 52));
@@ -226,11 +224,12 @@ fn texts_by_hand() {
     for (text, _) in text_edges() {
         TEXT.compare(&text, &[0, 4, 0x10]);
     }
-    let row = "0 has n 0:iroe\n";
-    let long = format!("{row}0 :: {}\n", chain(300_000));
-    let deep = format!("{row}A0 = {}\n", "(".repeat(2_000_000));
-    for text in [long, deep] {
-        TEXT.compare(text.as_bytes(), &[0]);
+    for row in ["0 has n 0:iroe\n", "0 from 0 has n 0:iroe\n"] {
+        let long = format!("{row}0 :: {}\n", chain(300_000));
+        let deep = format!("{row}A0 = {}\n", "(".repeat(2_000_000));
+        for text in [long, deep] {
+            TEXT.compare(text.as_bytes(), &[0]);
+        }
     }
 }
 
@@ -273,12 +272,13 @@ fn places_within_the_stated_stack() {
 }
 
 /// All other calls, on the longest image and on a net with every action of
-/// each format, on the deepest text and on the widest.
+/// each format, on the deepest texts and on the widest.
 #[test]
 fn calls_within_the_stated_stack() {
     let [_, busy, ..] = loads();
     let images = loads().map(|load| (IMAGE, load.image()));
-    let texts = texts().map(|text| (TEXT, text));
+    let texts = texts().into_iter().chain(longest_texts());
+    let texts = texts.map(|text| (TEXT, text));
     for (form, net) in images.into_iter().chain(texts) {
         let picks = busy.picks.clone();
         let (number, expected) = form.model_run(&net, &picks);

@@ -19,7 +19,7 @@ Address 0 puts the reading 5 at address 1, where a process waits to take a readi
 The tuple `<@0>` that address 1 holds from the start is an address, so it does not fit
 and is still there at the end.
 ",
-        notation: "\
+        text: "\
 0 has 1:o
 1 has 1:i
 0 :: out(5)@1.nil
@@ -79,7 +79,7 @@ the variables with it, and `self` in it means address 1, where it runs: in the r
 tuple is `from 1`. What it may do is for the row of address 1 to say: address 0 itself may
 put nothing anywhere.
 ",
-        notation: "\
+        text: "\
 0 has 0:r 1:e
 1 has 1:o
 0 :: read(!x0)@self.eval(out(v0,self)@self.nil)@1.nil
@@ -123,7 +123,7 @@ Address 0 may create and has no other right. What it creates becomes address 1: 
 holds all four rights there, and so does address 1 over itself. Address 0 puts a tuple at
 the new address and sends code there that takes it.
 ",
-        notation: "\
+        text: "\
 0 has n
 0 :: newloc(u0).out(5,v0)@v0.eval(in(!x1,!u2)@self.out(v1)@self.A0)@v0.A0
 A0 = nil
@@ -180,7 +180,7 @@ own node, but cannot put a tuple where our units would meet it.
 Strike out the picks of address 2, or make others of that address instead: the answers to
 the picks of 0 and 1, and what is at these addresses at the end, stay the same.
 ",
-        notation: "\
+        text: "\
 0 has 0:o 1:o
 1 has 1:i
 2 has 0:r 2:io
@@ -249,7 +249,7 @@ An opening goes from the upper gate by the pump house to the spillway, which rea
 register each `node` line ends with the name of its station, where it has one; nothing else
 of the register is different.
 ",
-        notation: "\
+        text: "\
 0 has 1:o
 1 has 1:i 2:o
 2 has 2:r

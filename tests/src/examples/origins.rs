@@ -1,4 +1,5 @@
-//! The example of format 2, and what a reader is told of its rows.
+//! The example of rows by origin, and what a reader is told of the rows that a
+//! net of format 2 has at the end.
 
 use super::nets::start;
 use super::Example;
@@ -20,7 +21,16 @@ Code from 0 may also create at node 2. What it creates becomes address 3, and no
 all four rights there in its row for code from 0 and in no other: the code from 0 puts a tuple
 at address 3, and node 2's own code, which learns of address 3 from a tuple, may not.
 ",
-        notation: "\
+        text: "\
+0 from 0 has 2:e
+0 from 1 has
+0 from 2 has
+1 from 0 has
+1 from 1 has 2:e
+1 from 2 has
+2 from 0 has n 2:o
+2 from 1 has 2:r
+2 from 2 has 2:i
 A0 = out(40)@self.nil
 0 :: eval(A0)@2.eval(newloc(u0).out(v0)@self.out(7)@v0.nil)@2.nil
 1 :: eval(A0)@2.nil
@@ -99,24 +109,6 @@ fn rows_by_origin_net() -> Net {
 }
 
 impl Example {
-    // The rows of a net of format 2 and its other lines, for the README.
-    pub(super) fn about_rows(&self) -> String {
-        let (rows, notation) = (table_of_rows(&self.net, 0), self.notation);
-        let sets = match notation.contains("@{") {
-            true => {
-                ", where braces hold the members of a set, which the notation does not know yet"
-            }
-            false => "",
-        };
-        format!(
-            "`net.bin` holds it as an image of format 2. The planners' notation has no rows by origin yet, so \
-             there is no `net.txt`. The rows, where a row that is not here holds nothing:\n\n\
-             {rows}\n\
-             The rest in the planners' notation{sets}:\n\n\
-             ```\n{notation}```\n\n"
-        )
-    }
-
     // The rows of the creator and of the address that it opened, if it opened
     // one.
     pub(super) fn about_rows_after(&self) -> String {

@@ -19,7 +19,23 @@ has it, gate 1 not either, which has room and comes before gate 2. Gate 2 takes 
 reading, and now the same warning is received by all. Gate 1 takes it. In the register the
 warning is `from 0` at gates 2 and 3, and the total counts it once for each of them.
 ",
-        notation: "\
+        text: "\
+0 from 0 has 1:o 2:o 3:o
+0 from 1 has
+0 from 2 has
+0 from 3 has
+1 from 0 has
+1 from 1 has 1:i
+1 from 2 has
+1 from 3 has
+2 from 0 has
+2 from 1 has
+2 from 2 has 2:i
+2 from 3 has
+3 from 0 has
+3 from 1 has
+3 from 2 has
+3 from 3 has 3:i
 0 :: out(90)@{1,2,3}.nil
 1 :: in(90)@self.nil
 2 :: in(!x0)@self.read(90)@self.nil
@@ -95,28 +111,7 @@ fn flood_warning_net() -> Net {
 #[cfg(test)]
 mod tests {
     use super::*;
-    use crate::notation::read_text;
     use crate::step::pick;
-
-    /// With one gate in place of the set, and a row for each address before
-    /// them, the lines give the rest of the image's net.
-    #[test]
-    fn the_lines_are_the_net_s() {
-        let example = flood_warning();
-        let rows = "0 has 1:o 2:o 3:o\n1 has 1:i\n2 has 2:i\n3 has 3:i\n";
-        let lines = example.notation.replace("{1,2,3}", "1");
-        let text = format!("{rows}{lines}");
-        let mut single = read_text(text.as_bytes()).expect("it is accepted");
-        let Instruction { count, fields, .. } = single.code[0];
-        single.code[0] = out_to_set(&[1, 2, 3], &fields[..count as usize], 1);
-        single.format = ROW_BY_ORIGIN;
-        for (at, node) in single.nodes.iter_mut().enumerate() {
-            let own = node.rows[at];
-            node.rows.fill(Row::ZERO);
-            node.rows[at] = own;
-        }
-        assert_eq!(single, example.net);
-    }
 
     /// Once refused, with no gate changed, and once received by all.
     #[test]

@@ -5,7 +5,7 @@
 use cavindorum_exports::{
     refusal_place, register_in, register_text_in, run, run_text, LONGEST_REGISTER,
 };
-use cavindorum_tests::stack::{least, loads, texts};
+use cavindorum_tests::stack::{least, loads, longest_texts, texts};
 use std::env;
 use std::process::{Command, Stdio};
 
@@ -56,7 +56,7 @@ fn try_call(name: &str, kilobytes: usize) {
     let (_, call) = found.expect("it is a call");
     let [_, busy, ..] = loads();
     let nets: Vec<Vec<u8>> = if name.ends_with("text") {
-        texts().into()
+        texts().into_iter().chain(longest_texts()).collect()
     } else {
         loads().map(|load| load.image()).into()
     };
