@@ -1,8 +1,10 @@
 //! The page docs/NOTATION.md: by the proved reader each text on it has the
-//! result that the page gives; each form and each number is there.
+//! result that the page gives; each form and each number is there; and an image
+//! goes back to the text that the page shows.
 
 use cavindorum_tests::dump::{inspect_text, Opened};
-use cavindorum_tests::notation::page::{blocks, Outcome};
+use cavindorum_tests::notation::page::{back_to_text, blocks, Outcome};
+use cavindorum_tests::program::{printed_by, TestDirectory};
 
 #[test]
 fn each_text_has_its_result() {
@@ -57,10 +59,22 @@ fn less(text: &[u8]) -> Vec<(Vec<u8>, Opened)> {
     all.into_iter().zip(read).collect()
 }
 
+/// What `pack` makes of the first text, `unpack` makes the second of.
+#[test]
+fn an_image_goes_back_to_text() {
+    let [text, back] = back_to_text();
+    let here = TestDirectory::holding([("net.txt", text.as_bytes())]);
+    let printed = printed_by("pack", &here.path);
+    assert!(printed.starts_with(b"packed "));
+    let unpacked = printed_by("unpack", &here.path);
+    assert_eq!(String::from_utf8_lossy(&unpacked), back);
+}
+
 /// Words that show the forms of rows, processes, actions, targets, fields,
 /// and tuples.
-const FORMS: [&[&str]; 6] = [
+const FORMS: [&[&str]; 7] = [
     &["has\n", "has n 0:", "has 0:i", ":o", "oe", ":iro"],
+    &["0 from 0 has", "0 from 1 has\n", "@{0,2}.", "@{}.", "@{1}."],
     &[
         ":: nil", ".nil", ":: A", ".A", "A0 = ", " = A", ":: (", " | (",
     ],

@@ -46,6 +46,17 @@ pub fn blocks() -> Vec<Block> {
     blocks_of(&page)
 }
 
+/// The text that the page packs and the one that it unpacks to: the last that is
+/// the same as the text before it, and that one.
+pub fn back_to_text() -> [String; 2] {
+    let blocks = blocks();
+    let last = blocks
+        .iter()
+        .rposition(|block| block.outcome == Outcome::Same);
+    let at = last.expect("the page has such a text");
+    [at - 1, at].map(|at| blocks[at].text.clone())
+}
+
 // The fenced blocks: each opens with its result and closes with a bare
 // fence.
 fn blocks_of(page: &str) -> Vec<Block> {
@@ -85,5 +96,34 @@ fn outcome(opening: &str) -> Outcome {
         ["refused", text] => Outcome::Refused(number(text)),
         ["refused", text, "shortest"] => Outcome::Shortest(number(text)),
         _ => panic!("{opening}: no result"),
+    }
+}
+
+#[cfg(test)]
+mod tests {
+    use super::*;
+    use crate::notation::{read_text, text_of};
+
+    /// By the model, as the proved reader has to have it too.
+    #[test]
+    fn each_text_has_its_result() {
+        let mut before = None;
+        for block in blocks() {
+            let read = read_text(&block.bytes());
+            let number = read.as_ref().err().copied().unwrap_or(0);
+            assert_eq!(number, block.outcome.number(), "line {}", block.line);
+            match block.outcome {
+                Outcome::Accepted => before = read.ok(),
+                Outcome::Same => assert!(read.ok() == before, "line {}", block.line),
+                _ => {}
+            }
+        }
+    }
+
+    #[test]
+    fn an_image_goes_back_to_text() {
+        let [text, back] = back_to_text();
+        let net = read_text(text.as_bytes()).expect("it is accepted");
+        assert_eq!(text_of(&net), Ok(back.into_bytes()));
     }
 }
