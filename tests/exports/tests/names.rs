@@ -39,11 +39,10 @@ fn compare_lists(site: &[u8], office: &[u8]) -> u8 {
         compare(&register_named(&image, &picks, &names), |out| {
             named_register_in(&image, &picks, lists, out)
         });
-        if let Some(text) = example.text().map(str::as_bytes) {
-            compare(&register_text_named(text, &picks, &names), |out| {
-                named_register_text_in(text, &picks, lists, out)
-            });
-        }
+        let text = example.text.as_bytes();
+        compare(&register_text_named(text, &picks, &names), |out| {
+            named_register_text_in(text, &picks, lists, out)
+        });
     }
     number
 }
