@@ -6,8 +6,8 @@ use crate::net::{Net, Rights, Row, ADDRESSES, ROW_BY_ORIGIN};
 use crate::random::Random;
 
 /// Puts one fault into the rows: rows wanting, over, out of order, of another
-/// node or origin, without rights, with a right over an address that the net
-/// has not, or one more than there can be.
+/// node or origin, with a right over an address that the net has not, or one
+/// more than there can be.
 pub fn put_row_fault(random: &mut Random, source: &mut Source) {
     if source.rows.is_empty() {
         return;
