@@ -1,5 +1,5 @@
--- Readings, addresses, tuples, templates and targets (`Fields.antt` of `fields`): what is read is what is printed. n is the
--- number of rows. Assumes nothing.
+-- Readings, addresses and tuples (`Fields.antt` of `fields`): what is read is what is printed. n is the
+-- number of addresses. Assumes nothing.
 use Prim.Native.Nat.{ℕ, suc, _+_, _-_, _<_, _≤_}
 use mathlib.Core.Path.{_≡_, refl, sym, ap, subst, _∙_}
 use mathlib.Core.Logic.{inl, inr}
@@ -14,10 +14,10 @@ use borrow.Author.Tests.{leb-true, le-leb, ltb-true, lt-ltb}
 use Rattle.net.specs.Choice.{both}
 use Rattle.net.specs.Records.{addressOf, zeroField, zeroTuple, withField}
 use Rattle.net.proofs.Laws.{choose-true}
-use Rattle.readers.specs.Reader.{Parsed, got, fault, Reader, pure, andThen, _>>=_, _>>_}
+use Rattle.readers.specs.Reader.{Parsed, got, fault, Reader, pure, andThen, _>>=_}
 use Rattle.text.specs.Bytes.{bytes}
 use Rattle.text.specs.Decimal.{decimal, signedDecimal}
-use Rattle.lexemes.specs.Lexemes.{isDigit, number}
+use Rattle.lexemes.specs.Lexemes.{isDigit}
 use Rattle.fields.specs.Fields.{address, variable, negative, positive, reading, atAddress, addressItem, readingItem, item}
 use Rattle.fields.specs.Fields.{tupleField, tuple}
 use Rattle.sound.specs.Soundness.{itemSound}
@@ -27,7 +27,7 @@ use Rattle.sources.specs.Printed.{separated, addressText, itemText, tupl
 use Rattle.sources.specs.WellFormed.{ItemFormed, tupleOf, TupleFormed}
 use Rattle.sources.proofs.ReadsPrints.{Reads, Any, After, Or, Image, reads-as, reads-from-byte}
 use Rattle.sources.proofs.ReadsPrints.{reads-map, reads-tested, reads-closed, reads-choice, reads-last}
-use Rattle.sources.proofs.Listed.{FieldEnd, Fields, reads-fields}
+use Rattle.sources.proofs.Listed.{FieldEnd, Parts, reads-fields}
 use Rattle.sources.proofs.Numbers.{low-byte, high-byte, NoDigit, reads-number, decimal-opens, no-other}
 
 -- ---- addresses and variables
@@ -211,7 +211,7 @@ pub record TupleText (n : ℕ) (t : Tuple) (u : List ℕ) : Type 0 where
 module _ (n : ℕ) where
   -- the fields of a tuple in their brackets
   abbrev Bracketed : Tuple → List ℕ → Type 0
-  Bracketed = After (60 ∷ []) (Image (λ t. t) (λ t v. (u : List ℕ) × Fields tupleOf itemText (ItemFormed n) [] t u × (u ++ (62 ∷ []) ≡ v)))
+  Bracketed = After (60 ∷ []) (Image (λ t. t) (λ t v. (u : List ℕ) × Parts 4 tupleOf itemText (ItemFormed n) [] t u × (u ++ (62 ∷ []) ≡ v)))
 
   tuple-to : (t : Tuple) (u : List ℕ) → Bracketed t u → TupleText n t u
   tuple-to t u (w, (b, (v, f, e), is), g) =
@@ -243,6 +243,6 @@ module _ (n : ℕ) where
       reads-as
       (reads-from-byte 60
       (reads-closed 62 (λ t. t)
-      (reads-fields tupleOf itemText (ItemFormed n) (tupleField n) (λ xs. item n) tuple-step (λ xs l. reads-item n xs h) 4 [] refl)
+      (reads-fields tupleOf itemText (ItemFormed n) (tupleField n) (λ xs. item n) tuple-step (λ xs l. reads-item n xs h))
       bracket))
       tuple-to tuple-from (λ d e. e)

@@ -1,4 +1,4 @@
--- The rights of a row, address by address (`grants` of `Rows.antt` of `notation`): what is read is what is printed.
+-- The rights of a row, address by address (`grants` of `Rows.antt` of `rows`): what is read is what is printed.
 -- Assumes nothing.
 use Prim.Native.Nat.{ℕ, zero, suc, _+_, _-_, _<_, _≤_}
 use mathlib.Core.Path.{_≡_, refl, sym, ap, subst, _∙_}

@@ -1,5 +1,5 @@
--- The rights over an address (`rights` of `Rows.antt` of `notation`): what is read is what is printed. Assumes nothing.
-use Prim.Native.Nat.{ℕ, _+_, _-_}
+-- The rights over an address (`rights` of `Rows.antt` of `rows`): what is read is what is printed. Assumes nothing.
+use Prim.Native.Nat.{ℕ}
 use mathlib.Core.Path.{_≡_, refl, sym, ap, subst, _∙_}
 use mathlib.Core.Logic.{inl, inr}
 use mathlib.Core.Bool.{Bool, true, false, not}
@@ -11,7 +11,7 @@ use Rattle.net.specs.Choice as Choice
 use Rattle.net.specs.Records.{noRights}
 use Rattle.net.proofs.ReadingLaws.{never}
 use Rattle.sound.specs.Soundness.{isNone}
-use Rattle.readers.specs.Reader.{Reader, _>>=_, _>>_}
+use Rattle.readers.specs.Reader.{Reader, _>>=_}
 use Rattle.text.specs.Bytes.{bytes}
 use Rattle.lexemes.specs.Lexemes.{optional}
 use Rattle.rows.specs.Rows.{anyRight, rights}

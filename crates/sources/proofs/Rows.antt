@@ -1,5 +1,6 @@
--- One row, with its newline (`row` of `Rows.antt` of `notation`): what is read is what is printed. Assumes nothing.
-use Prim.Native.Nat.{ℕ, _+_, _-_, _<_, _≤_}
+-- One row, with its newline (`row` of `Rows.antt` and `originRow` of `OriginRows.antt` of `rows`): what is read is what is
+-- printed. Assumes nothing.
+use Prim.Native.Nat.{ℕ, _+_, _≤_}
 use mathlib.Core.Path.{_≡_, refl, sym, ap, subst, _∙_}
 use mathlib.Core.Logic.{_⊎_, inl, inr}
 use mathlib.Core.Bool.{Bool, true, false}
@@ -11,19 +12,22 @@ use lib.Dec.{eqb}
 use borrow.Author.Tests.{eqb-true, eq-eqb}
 use Rattle.net.specs.Choice.{choose}
 use Rattle.net.specs.Records.{noRights, zeroRow}
-use Rattle.net.proofs.Laws.{choose-true, choose-false}
 use Rattle.net.proofs.Past.{pastRights}
-use Rattle.readers.specs.Reader.{Parsed, got, fault, Reader, pure, andThen, _>>=_, _>>_}
+use Rattle.readers.specs.Reader.{Parsed, got, fault, Reader, pure, andThen, _>>=_, _>>_, requireIn, require}
 use Rattle.text.specs.Bytes.{bytes}
 use Rattle.text.specs.Decimal.{decimal}
-use Rattle.lexemes.specs.Lexemes.{byteAt, isDigit, byte, word, number}
-use Rattle.rows.specs.Rows.{isGot, standsAt, grants, creates, opening, row}
+use Rattle.lexemes.specs.Lexemes.{isDigit, byte, word, number}
+use Rattle.rows.specs.Rows.{standsAt, grants, creates, opening, rowRest, row}
+use Rattle.rows.specs.OriginRows.{numbered, originRow}
 use Rattle.sources.specs.Types.{Rights, Row}
-use Rattle.sources.specs.Printed.{newline, given, grantsText, rowText}
+use Rattle.sources.specs.Printed.{newline, given, grantsText, rowRestText, rowText, originRowText}
 use Rattle.sources.proofs.Stands.{Stands, stands-first}
-use Rattle.sources.proofs.ReadsPrints.{Bears, bears-as, Reads, Any, After, Image, reads-as, reads-then, reads-behind}
-use Rattle.sources.proofs.ReadsPrints.{reads-word, reads-from-word, reads-require, reads-closed}
+use Rattle.sources.proofs.ReadsBefore.{before-choice}
+use Rattle.sources.proofs.ReadsPrints.{opens-with, Reads, Any, After, Or, Image, before, by-byte, reads-as, reads-equal, reads-then, reads-behind}
+use Rattle.sources.proofs.ReadsPrints.{reads-word, reads-from-word, reads-require, reads-tested, reads-closed}
 use Rattle.sources.proofs.Numbers.{low-byte, high-byte, NoDigit, reads-number, no-other}
+use Rattle.sources.proofs.Fields.{then-same}
+use Rattle.sources.proofs.Openings.{stands-word, stands-no-word, stands-agree}
 use Rattle.sources.proofs.Grants.{Blank, GrantsText, GrantEnd, filled, grants-open, reads-grants}
 
 -- ---- the number of the row's address, and ` has`
@@ -47,32 +51,20 @@ reads-opening i h =
     })
     (λ d e. e)
 
--- ---- a word stands here, or does not
-got-fault : (b : Bool) → true ≡ b → false ≡ b → ⊥
-got-fault b e f = let z : _≡_ {A = ℕ} 0 1 = cc in omega arith
+-- ---- a number that is given
+required : (ok : Bool) (n : ℕ) (s : List ℕ) (p : ℕ) → require ok n s p ≡ (require ok n >> pure tt) s p
+unfolding require requireIn _>>_ _>>=_ andThen pure choose
+required true n s p = refl
+required false n s p = refl
 
-pub stands-word : (w s : List ℕ) (p : ℕ) → Stands s p w → standsAt w s p ≡ true
-unfolding standsAt isGot
-stands-word w s p st = ap isGot (reads-word w .back s p tt w refl st tt)
-
-word-stands : (w s : List ℕ) (p : ℕ) → standsAt w s p ≡ true → Stands s p w
-unfolding standsAt isGot
-word-stands w s p e = go (word w s p) refl e
-  where
-    go : (o : Parsed (Unit {0})) → word w s p ≡ o → isGot o ≡ true → Stands s p w
-    go (got a q) d f = let x = reads-word w .only s p a q d in subst (Stands s p) (sym (x .prints)) (x .stands)
-    go (fault n) d f = absurd (got-fault false (sym f) refl)
-
-pub stands-no-word : (w s : List ℕ) (p : ℕ) → (Stands s p w → ⊥) → standsAt w s p ≡ false
-stands-no-word w s p f = go (standsAt w s p) refl
-  where
-    go : (b : Bool) → standsAt w s p ≡ b → standsAt w s p ≡ false
-    go true e = absurd (f (word-stands w s p e))
-    go false e = e
-
--- two texts that stand at one place agree
-pub stands-agree : (s : List ℕ) (p : ℕ) (u v : List ℕ) (i : ℕ) → i < length u → i < length v → Stands s p u → Stands s p v → getD u i 0 ≡ getD v i 0
-stands-agree s p u v i h g f e = sym (f .each i h) ∙ e .each i g
+reads-numbered : (i : ℕ) → i ≤ 15 → Reads (numbered i) (λ a u. decimal i ≡ u) NoDigit
+unfolding numbered
+reads-numbered i h =
+    reads-as
+    (reads-equal _ (λ s p. then-same (number 15) _ _ s p (λ v q. required (eqb v i) 31 s q))
+    (reads-tested (λ v. eqb v i) 31 (λ v. tt) (reads-number 15 (omega arith))))
+    (λ a u (v, ((l, e), t), is). ap decimal (sym (eqb-true v i t)) ∙ e)
+    (λ a u e. (i, ((h, e), eq-eqb i i refl), refl)) (λ d e. e)
 
 -- ---- ` n` where it is held, and what follows
 module _ {A : Type 0} (f : Bool → Reader A) (R : Bool → A → List ℕ → Type 0)
@@ -89,32 +81,36 @@ module _ {A : Type 0} (f : Bool → Reader A) (R : Bool → A → List ℕ → T
       go (got a q) = refl
       go (fault n) = refl
 
-  reads-creates : Reads (creates >>= f) Created Any
-  unfolding creates _>>=_ choose given pure andThen
-  reads-creates = record {
-    only = λ s p a q e. only s p a q (standsAt (bytes " n") s p) e;
-    back = back;
-  }
+  creates-then : (s : List ℕ) (p : ℕ)
+      → (creates >>= f) s p ≡ choose (standsAt (bytes " n") s p) (word (bytes " n") >> f true) (f false) s p
+  unfolding creates _>>=_ choose pure andThen
+  creates-then s p = go (standsAt (bytes " n") s p)
     where
-      only : (s : List ℕ) (p : ℕ) (a : A) (q : ℕ) (b : Bool)
-          → andThen (choose b (word (bytes " n") >> pure true) (pure false) s p) s f ≡ got a q → Bears Created s p a q
-      only s p a q true e =
-          bears-as (λ u (v, x, d). (true, v, x, d)) (reads-from-word (bytes " n") (r true) .only s p a q (sym (held-then s p) ∙ e))
-      only s p a q false e = bears-as (λ u x. (false, u, x, refl)) (r false .only s p a q e)
+      go : (b : Bool) → andThen (choose b (word (bytes " n") >> pure true) (pure false) s p) s f ≡ choose b (word (bytes " n") >> f true) (f false) s p
+      go true = held-then s p
+      go false = refl
 
-      back : (s : List ℕ) (p : ℕ) (a : A) (u : List ℕ) → Created a u → Stands s p u → Any (byteAt s (p + length u))
-          → andThen (choose (standsAt (bytes " n") s p) (word (bytes " n") >> pure true) (pure false) s p) s f ≡ got a (p + length u)
-      back s p a u (true, v, x, e) st d =
-          let st′ : Stands s p (bytes " n" ++ v) = subst (Stands s p) (sym e) st in
-          ap (λ (m : Reader Bool). andThen (m s p) s f)
-          (choose-true _ _ _ (stands-word (bytes " n") s p (stands-first s p (bytes " n") v st′)))
-          ∙ held-then s p ∙ reads-from-word (bytes " n") (r true) .back s p a u (v, x, e) st tt
-      back s p a u (false, v, x, e) st d =
-          ap (λ (m : Reader Bool). andThen (m s p) s f)
-          (choose-false _ _ _ (stands-no-word (bytes " n") s p (other a v s p x (subst (Stands s p) (sym e) st))))
-          ∙ r false .back s p a u (subst (R false a) e x) st tt
+  created-to : (a : A) (u : List ℕ) → Or (After (bytes " n") (R true)) (R false) a u → Created a u
+  unfolding given choose
+  created-to a u (inl (v, x, e)) = (true, v, x, e)
+  created-to a u (inr x) = (false, u, x, refl)
 
--- ---- the row
+  created-from : (a : A) (u : List ℕ) → Created a u → Or (After (bytes " n") (R true)) (R false) a u
+  unfolding given choose
+  created-from a u (true, v, x, e) = inl (v, x, e)
+  created-from a u (false, v, x, e) = inr (subst (R false a) e x)
+
+  reads-creates : Reads (creates >>= f) Created Any
+  reads-creates =
+      reads-as
+      (reads-equal _ creates-then
+      (by-byte Any
+      (before-choice (standsAt (bytes " n")) (before (reads-from-word (bytes " n") (r true))) (before (r false))
+      (λ a u s p (v, x, e) st d. stands-word (bytes " n") s p (stands-first s p (bytes " n") v (subst (Stands s p) (sym e) st)))
+      (λ a u s p x st d. stands-no-word (bytes " n") s p (other a u s p x st)))))
+      created-to created-from (λ d e. e)
+
+-- ---- what stands behind ` has`
 blank-row : Blank 0 (zeroRow .rights)
 unfolding zeroRow
 blank-row = record {
@@ -161,59 +157,97 @@ filled-all : (b : Bool) (zs : List Rights) → length zs ≡ 16 → filled (star
 filled-all b zs e =
     ap (λ ys. record { create = b; rights = ys }) (sets-all (zeroRow .rights) zs (e ∙ sym (blank-row .size-is)))
 
-pub record RowText (i : ℕ) (r : Row) (u : List ℕ) : Type 0 where
+pub record RestText (r : Row) (u : List ℕ) : Type 0 where
   pub whole : length (r .rights) ≡ 16
-  pub prints : rowText i r ≡ u
+  pub prints : rowRestText r ≡ u
 
-abbrev Opened : ℕ → Row → List ℕ → Type 0
-Opened i = After (decimal i ++ bytes " has") (λ r t. (b : Bool) × (v : List ℕ) × Granted b r v × (given b (bytes " n") ++ v ≡ t))
+abbrev Rest : Row → List ℕ → Type 0
+Rest r t = (b : Bool) × (v : List ℕ) × Granted b r v × (given b (bytes " n") ++ v ≡ t)
 
-row-to : (i : ℕ) (r : Row) (u : List ℕ) → Opened i r u → RowText i r u
-unfolding rowText newline
-row-to i r u (w, (b, v, (r′, (y, g, e₁), is), e₂), e₃) =
+rest-to : (r : Row) (u : List ℕ) → Rest r u → RestText r u
+unfolding rowRestText newline
+rest-to r u (b, v, (r′, (y, g, e₁), is), e₂) =
     let size : length (g .later) ≡ 16 = let s = g .size in omega arith in
-    subst (λ (z : Row). RowText i z u) (sym (filled-all b (g .later) size) ∙ g .is ∙ is) (record {
+    subst (λ (z : Row). RestText z u) (sym (filled-all b (g .later) size) ∙ g .is ∙ is) (record {
       whole = size;
       prints =
-          sym (append-assoc (decimal i) (bytes " has") _)
-          ∙ ap (λ (z : List ℕ). (decimal i ++ bytes " has") ++ (given b (bytes " n") ++ (z ++ (10 ∷ [])))) (g .prints)
-          ∙ ap (λ (z : List ℕ). (decimal i ++ bytes " has") ++ (given b (bytes " n") ++ z)) e₁
-          ∙ ap (λ (z : List ℕ). (decimal i ++ bytes " has") ++ z) e₂
-          ∙ e₃;
+          ap (λ (z : List ℕ). given b (bytes " n") ++ (z ++ (10 ∷ []))) (g .prints)
+          ∙ ap (λ (z : List ℕ). given b (bytes " n") ++ z) e₁
+          ∙ e₂;
     })
 
-row-from : (i : ℕ) (r : Row) (u : List ℕ) → RowText i r u → Opened i r u
-unfolding rowText newline
-row-from i r u x =
-    let gs = grantsText 0 (r .rights) in
-    let n = given (r .create) (bytes " n") in (
-      n ++ (gs ++ (10 ∷ [])),
+rest-from : (r : Row) (u : List ℕ) → RestText r u → Rest r u
+unfolding rowRestText newline
+rest-from r u x =
+    let gs = grantsText 0 (r .rights) in (
+      r .create,
+      gs ++ (10 ∷ []),
       (
-        r .create,
-        gs ++ (10 ∷ []),
+        r,
         (
-          r,
-          (
-            gs,
-            record {
-              later = r .rights;
-              size = let w = x .whole in omega arith;
-              is = filled-all (r .create) (r .rights) (x .whole);
-              prints = refl;
-            },
-            refl,
-          ),
+          gs,
+          record {
+            later = r .rights;
+            size = let w = x .whole in omega arith;
+            is = filled-all (r .create) (r .rights) (x .whole);
+            prints = refl;
+          },
           refl,
         ),
         refl,
       ),
-      append-assoc (decimal i) (bytes " has") (n ++ (gs ++ (10 ∷ []))) ∙ x .prints,
+      x .prints,
     )
 
+reads-rest : Reads rowRest RestText Any
+unfolding rowRest
+reads-rest =
+    reads-as (reads-creates (λ c. grants 16 0 (started c) >>= (λ r. byte 10 >> pure r)) Granted reads-granted not-held)
+    rest-to rest-from (λ d e. e)
+
+-- ---- the row of address i
+pub record RowText (i : ℕ) (r : Row) (u : List ℕ) : Type 0 where
+  pub whole : length (r .rights) ≡ 16
+  pub prints : rowText i r ≡ u
+
 pub reads-row : (i : ℕ) → i ≤ 15 → Reads (row i) (RowText i) Any
-unfolding row
+unfolding row rowText
 reads-row i h =
+    reads-as (reads-behind (decimal i ++ bytes " has") tt (reads-opening i h) reads-rest (λ r u d x e. tt))
+    (λ r u (v, x, e). record {
+      whole = x .whole;
+      prints =
+          sym (append-assoc (decimal i) (bytes " has") _) ∙ ap (λ (z : List ℕ). (decimal i ++ bytes " has") ++ z) (x .prints) ∙ e;
+    })
+    (λ r u x.
+    (rowRestText r, record { whole = x .whole; prints = refl }, append-assoc (decimal i) (bytes " has") (rowRestText r) ∙ x .prints))
+    (λ d e. e)
+
+-- ---- the row of node i for origin j
+pub record OriginRowText (i j : ℕ) (r : Row) (u : List ℕ) : Type 0 where
+  pub whole : length (r .rights) ≡ 16
+  pub prints : originRowText i j r ≡ u
+
+-- a word that opens with a space ends a number
+space-opens : (w u : List ℕ) (d : ℕ) → 32 ∷ w ≡ u → NoDigit (getD u 0 d)
+space-opens w u d e = subst NoDigit (sym (opens-with (32 ∷ w) u d e)) (low-byte 32 (omega arith))
+
+pub reads-originRow : (i j : ℕ) → i ≤ 15 → j ≤ 15 → Reads (originRow i j) (OriginRowText i j) Any
+unfolding originRow originRowText bytes
+reads-originRow i j h g =
     reads-as
-    (reads-behind (decimal i ++ bytes " has") tt (reads-opening i h)
-    (reads-creates (λ c. grants 16 0 (started c) >>= (λ r. byte 10 >> pure r)) Granted reads-granted not-held))
-    (row-to i) (row-from i) (λ d e. e)
+    (reads-behind (decimal i) tt (reads-numbered i h)
+    (reads-from-word (bytes " from ")
+    (reads-behind (decimal j) tt (reads-numbered j g) (reads-from-word (bytes " has") reads-rest) (λ r u d x e. space-opens _ u d (x .2))))
+    (λ r u d x e. space-opens _ u d (x .2)))
+    (λ r u (v₁, (v₂, (v₃, (v₄, x, e₄), e₃), e₂), e₁). record {
+      whole = x .whole;
+      prints =
+          ap (λ (z : List ℕ). decimal i ++ (bytes " from " ++ (decimal j ++ (bytes " has" ++ z)))) (x .prints)
+          ∙ ap (λ (z : List ℕ). decimal i ++ (bytes " from " ++ (decimal j ++ z))) e₄
+          ∙ ap (λ (z : List ℕ). decimal i ++ (bytes " from " ++ z)) e₃
+          ∙ ap (λ (z : List ℕ). decimal i ++ z) e₂
+          ∙ e₁;
+    })
+    (λ r u x. (_, (_, (_, (rowRestText r, record { whole = x .whole; prints = refl }, refl), refl), refl), x .prints))
+    (λ d e. e)

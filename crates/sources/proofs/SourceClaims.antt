@@ -47,9 +47,7 @@ judged-only text net x f e h =
     record {
       source = x;
       formed = record {
-        some = f .some;
-        few = f .few;
-        each-row = f .each-row;
+        policies = f .policies;
         each-line = f .each-line;
         names = names;
         least = in-range-low 1 (total (x .lines)) 512 size;
@@ -66,7 +64,7 @@ judged-back x w =
     choose-true _ _ _ (w .names) ∙ choose-true _ _ _ (in-range 1 (total (x .lines)) 512 (w .least) (w .most)) ∙ choose-true _ _ _ (w .admitted)
 
 formed-of : (x : Source) → WellFormed x → Formed x
-formed-of x w = record { some = w .some; few = w .few; each-row = w .each-row; each-line = w .each-line }
+formed-of x w = record { policies = w .policies; each-line = w .each-line }
 
 read-only : (text : List ℕ) (net : Net) → readOf text ≡ accepted net → SourceOf text net
 unfolding readOf judged

@@ -1,4 +1,4 @@
--- Templates and targets (`Fields.antt` of `fields`): what is read is what is printed. n is the number of rows.
+-- Templates and targets (`Fields.antt` of `fields`): what is read is what is printed. n is the number of addresses.
 -- Assumes nothing.
 use Prim.Native.Nat.{ℕ, _+_, _-_, _<_, _≤_}
 use mathlib.Core.Path.{_≡_, refl, sym, ap, subst, _∙_}
@@ -11,7 +11,7 @@ use borrow.Author.Tests.{ltb-true, lt-ltb}
 use Rattle.net.specs.Records.{zeroTemplateField, zeroInstruction, withPattern}
 use Rattle.net.proofs.Laws.{choose-true}
 use Rattle.net.proofs.ReadingLaws.{never}
-use Rattle.readers.specs.Reader.{pure, _>>=_, _>>_}
+use Rattle.readers.specs.Reader.{pure, _>>=_}
 use Rattle.text.specs.Bytes.{bytes}
 use Rattle.text.specs.Decimal.{decimal}
 use Rattle.lexemes.specs.Lexemes.{isDigit}
@@ -25,7 +25,7 @@ use Rattle.sources.specs.WellFormed.{PatternFormed, templateOf, Template
 use Rattle.sources.proofs.ReadsPrints.{opens-with, Reads, Is, After, Or, Image, reads-as, reads-pure, reads-from-byte, reads-from-word, reads-require}
 use Rattle.sources.proofs.ReadsPrints.{reads-map, reads-tested, reads-choice, reads-last}
 use Rattle.sources.proofs.Numbers.{low-byte, high-byte, NoDigit, no-other}
-use Rattle.sources.proofs.Listed.{FieldEnd, Fields, reads-fields}
+use Rattle.sources.proofs.Listed.{FieldEnd, Parts, reads-fields}
 use Rattle.sources.proofs.Fields.{AddressText, reads-address, address-opens, VariableText, reads-variable, ReadingText, reads-reading}
 use Rattle.sources.proofs.Fields.{reading-opens, filled-next, filled-text, then-same}
 
@@ -185,14 +185,14 @@ pub record TemplateText (formals : Bool) (n : ℕ) (c : Instruction) (u : List �
   pub prints : templateText c ≡ u
 
 module _ (formals : Bool) (n : ℕ) where
-  template-to : (c : Instruction) (u : List ℕ) → Fields templateOf patternText (PatternFormed formals n) [] c u → TemplateText formals n c u
+  template-to : (c : Instruction) (u : List ℕ) → Parts 4 templateOf patternText (PatternFormed formals n) [] c u → TemplateText formals n c u
   template-to c u f =
       let few = f .few in record {
         formed = record { patterns = f .ys; some = f .some; few = omega arith; each = f .each; is = f .is };
         prints = ap templateText (sym (f .is)) ∙ template-text (f .ys) ∙ f .prints;
       }
 
-  template-from : (c : Instruction) (u : List ℕ) → TemplateText formals n c u → Fields templateOf patternText (PatternFormed formals n) [] c u
+  template-from : (c : Instruction) (u : List ℕ) → TemplateText formals n c u → Parts 4 templateOf patternText (PatternFormed formals n) [] c u
   template-from c u x =
       let y = x .formed in
       let few = y .few in record {
@@ -215,7 +215,7 @@ module _ (formals : Bool) (n : ℕ) where
   reads-template h =
       reads-as
       (reads-fields templateOf patternText (PatternFormed formals n) (templateField formals n) (λ xs. pattern formals n (templateOf xs))
-      template-step (λ xs l. reads-pattern formals n xs h) 4 [] refl)
+      template-step (λ xs l. reads-pattern formals n xs h))
       template-to template-from (λ d e. e)
 
 -- ---- targets
@@ -250,6 +250,17 @@ module _ (n : ℕ) where
     target-other : (t : Target) (u : List ℕ) (d : ℕ) → Target₂ t u → getD u 0 d ≡ 115 → ⊥
     target-other t u d (inl y) e = let g = opens-with _ u d (y .1 .2) in omega arith
     target-other t u d (inr y) e = no-other _ 115 (address-opens n h (y .0) u d (y .1)) (high-byte 115 (omega arith)) e
+
+    -- a target opens with none of other bytes
+    pub target-opens : (c : ℕ) → isDigit c ≡ false → (118 ≡ c → ⊥) → (115 ≡ c → ⊥) → (t : Target) (u : List ℕ) (d : ℕ) → TargetText n t u
+        → getD u 0 d ≡ c → ⊥
+    unfolding bytes
+    target-opens c g₁ g₂ g₃ t u d x = go (target-from t u (x .formed .in-range) (x .prints))
+      where
+        go : Or (Self Target.Own) Target₂ t u → getD u 0 d ≡ c → ⊥
+        go (inl y) e = g₃ (sym (opens-with _ u d (y .2)) ∙ e)
+        go (inr (inl y)) e = g₂ (sym (opens-with _ u d (y .1 .2)) ∙ e)
+        go (inr (inr y)) e = no-other _ c (address-opens n h (y .0) u d (y .1)) g₁ e
 
     pub reads-target : Reads (target n) (TargetText n) NoDigit
     unfolding target ownTarget heldTarget writtenTarget own held bytes

@@ -1,5 +1,6 @@
 -- The types of the crates below that the definitions of this crate speak of.
 pub use Rattle.net.specs.declared.locality.Locality.{Locality}
+pub use Rattle.net.specs.declared.locality.Group.{Group}
 pub use Rattle.net.specs.declared.tuple.Item.{Item}
 pub use Rattle.net.specs.declared.tuple.Field.{Field}
 pub use Rattle.net.specs.declared.tuple.Tuple.{Tuple}
@@ -13,3 +14,4 @@ pub use Rattle.net.specs.declared.network.Net.{Net}
 pub use Rattle.readers.specs.declared.fault.Fault.{Fault}
 pub use Rattle.notation.specs.declared.reading.Verdict.{Verdict}
 pub use Rattle.notation.specs.declared.reading.Opened.{Opened}
+pub use Rattle.fields.specs.declared.scope.Scope.{Scope}
