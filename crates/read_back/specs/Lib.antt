@@ -1,0 +1,3 @@
+pub mod NetSource
+pub mod ReadBackClaims
+pub mod Types
