@@ -1,5 +1,5 @@
 -- Laws of sets (`specs/Sets.antt`), run from a step. Assumes nothing.
-use Prim.Native.Nat.{ℕ, suc, _+_, _-_, _*_, _^_, _<_, _≤_}
+use Prim.Native.Nat.{ℕ, zero, suc, _+_, _-_, _*_, _/_, _%_, _^_, _<_, _≤_}
 use mathlib.Core.Path.{_≡_, refl, sym, ap, _∙_}
 use mathlib.Core.Bool.{Bool, true, false}
 use mathlib.Core.List.{List}
@@ -7,11 +7,14 @@ use native.Mathlib.Omega.{arith}
 use lib.ListN.{getD, set, length}
 use lib.Seq.{set-out}
 use lib.Pow.{pow-mono}
-use lib.Dec.{leb}
+use lib.Dec.{eqb, leb}
 use mir.Syntax.{w16, w64}
 use mir.Val.{Fits}
 use Rattle.net.specs.Choice.{choose, fold}
+use Rattle.net.specs.Records.{addressOf}
+use Rattle.net.specs.Groups.{halved, member}
 use Rattle.net.proofs.FoldLaws.{fold-none, fold-more, fold-end, fold-keeps}
+use Rattle.net.proofs.GroupLaws.{halved-more, has-in}
 use Rattle.readers.specs.Reader.{require}
 use Rattle.readers.specs.Progress.{Went}
 use Rattle.readers.proofs.ReaderLaws.{on, next, stop, stop-as, either, otherwise}
@@ -28,6 +31,17 @@ bit-most : (b : Bool) → choose b 1 0 ≤ 1
 unfolding choose
 bit-most true = omega arith
 bit-most false = omega arith
+
+bit-told : (b : Bool) → eqb (choose b 1 0) 1 ≡ b
+unfolding choose
+bit-told true = refl
+bit-told false = refl
+
+bit-kept : (x : ℕ) → x < 2 → choose (eqb x 1) 1 0 ≡ x
+unfolding choose
+bit-kept zero h = refl
+bit-kept (suc zero) h = refl
+bit-kept (suc (suc x)) h = absurd (omega arith)
 
 -- ---- the bits of the marks below i, which v stands for
 module _ (marks : List Bool) where
@@ -69,6 +83,58 @@ module _ (marks : List Bool) where
   pub bits-all : (i v : ℕ) → 16 ≤ i → Bits i v → record { 0 = v } ≡ groupOf marks
   unfolding groupOf with-bit
   bits-all i v h b = ap (λ (x : ℕ). record { 0 = x }) (fold-end with-bit 0 i 16 v (b .is) (b .within) h)
+
+  -- ---- the members of the set are the marked addresses
+  last-bit : (n : ℕ) → fold (suc n) with-bit 0 ≡ fold n with-bit 0 * 2 + choose (getD marks n false) 1 0
+  unfolding fold with-bit
+  last-bit n = refl
+
+  halved-bits : (k n : ℕ) → halved k (fold (k + n) with-bit 0) ≡ fold n with-bit 0
+  unfolding halved
+  halved-bits zero n = let e : 0 + n ≡ n = omega arith in ap (λ (m : ℕ). fold m with-bit 0) e
+  halved-bits (suc k) n =
+      let e : suc k + n ≡ k + suc n = omega arith in
+      ap (λ (m : ℕ). halved k (fold m with-bit 0) / 2) e ∙ ap (λ (v : ℕ). v / 2) (halved-bits k (suc n))
+      ∙ omega (arith, last-bit n, bit-most (getD marks n false))
+
+  pub member-marked : (l : ℕ) → l < 16 → member (groupOf marks) (addressOf l) ≡ getD marks l false
+  unfolding groupOf with-bit
+  member-marked l h =
+      let e : 16 ≡ 15 - l + suc l = omega arith in
+      let last : fold (suc l) with-bit 0 % 2 ≡ choose (getD marks l false) 1 0 = omega (arith, last-bit l, bit-most (getD marks l false)) in
+      let rest = ap (λ (m : ℕ). halved (15 - l) (fold m with-bit 0)) e ∙ halved-bits (15 - l) (suc l) in
+      sym (has-in (groupOf marks) (addressOf l) (fold (suc l) with-bit 0) h (sym rest)) ∙ ap (λ (x : ℕ). eqb x 1) last ∙ bit-told (getD marks l false)
+
+  -- ---- and every set is that of its members' marks
+  module _ (g : Group) (fits : g .0 < 65536) (same : (l : ℕ) → l < 16 → getD marks l false ≡ member g (addressOf l)) where
+    halved-out : (v : ℕ) → v < 65536 → halved 16 v ≡ 0
+    unfolding halved
+    halved-out v h = omega arith
+
+    -- a bit more of the number
+    bits-up : (n rest : ℕ) → fold n with-bit 0 ≡ rest / 2 → choose (getD marks n false) 1 0 ≡ rest % 2 → fold (suc n) with-bit 0 ≡ rest
+    bits-up n rest e d = let f = last-bit n in omega arith
+
+    half-is : (n : ℕ) → n < 16 → halved (16 - n) (g .0) ≡ halved (15 - n) (g .0) / 2
+    half-is n h =
+        let e : 16 - n ≡ 15 - n + 1 = omega arith in
+        ap (λ (m : ℕ). halved m (g .0)) e ∙ sym (halved-more (15 - n) (g .0) (halved (15 - n) (g .0)) refl)
+
+    last-is : (n : ℕ) → n < 16 → choose (getD marks n false) 1 0 ≡ halved (15 - n) (g .0) % 2
+    last-is n h =
+        ap (λ (b : Bool). choose b 1 0) (same n h ∙ sym (has-in g (addressOf n) (halved (15 - n) (g .0)) h refl))
+        ∙ bit-kept (halved (15 - n) (g .0) % 2) (omega arith)
+
+    bits-are : (n : ℕ) → n ≤ 16 → fold n with-bit 0 ≡ halved (16 - n) (g .0)
+    unfolding fold
+    bits-are zero h = sym (halved-out (g .0) fits)
+    bits-are (suc n) h =
+        let f : 15 - n ≡ 16 - suc n = omega arith in
+        bits-up n (halved (15 - n) (g .0)) (bits-are n (omega arith) ∙ half-is n h) (last-is n h) ∙ ap (λ (m : ℕ). halved m (g .0)) f
+
+    pub group-marked : groupOf marks ≡ g
+    unfolding groupOf with-bit halved
+    group-marked = ap (λ (v : ℕ). record { 0 = v }) (bits-are 16 (omega arith))
 
 -- ---- members, one after another
 pub member-parts : (s : List ℕ) (p q r : Step) (n low : ℕ) (l : Locality) → Went s p (address n) q l

@@ -43,7 +43,7 @@ one-filled rs n r rows e c h =
     ∙ set-append-seam rs zeroRow (replicate rest zeroRow) r
     ∙ sym (append-snoc rs r (replicate rest zeroRow)))
 
-padded-at : (rs : List Row) (m j : ℕ) (r d : Row) → j < length rs + m → getD (rs ++ replicate m r) j d ≡ getD rs j r
+pub padded-at : (rs : List Row) (m j : ℕ) (r d : Row) → j < length rs + m → getD (rs ++ replicate m r) j d ≡ getD rs j r
 padded-at [] m j r d h = getD-replicate m j r d (omega arith)
 padded-at (x ∷ rs) m zero r d h = refl
 padded-at (x ∷ rs) m (suc j) r d h = padded-at rs m j r d (omega arith)

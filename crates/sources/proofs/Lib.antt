@@ -1,6 +1,5 @@
 pub mod Actions
 pub mod AllRows
-pub mod Bits
 pub mod Elements
 pub mod Fields
 pub mod Grants

@@ -20,7 +20,7 @@ use Rattle.sound.specs.Soundness.{groupSound}
 use Rattle.fields.specs.Sets.{groupOf, noMembers}
 use Rattle.sources.specs.Types.{Group}
 use Rattle.sources.specs.WellFormed.{GroupFormed}
-use Rattle.sources.proofs.Bits.{member-marked, marks-fit, group-marked}
+use Rattle.fields.proofs.SetLaws.{member-marked, group-low, group-marked}
 
 -- addresses from `low` on, ascending, below n
 pub data Ascending (n : ℕ) : ℕ → List ℕ → Type 0 where
@@ -205,7 +205,7 @@ module _ (n : ℕ) (few : n ≤ 16) (xs : List ℕ) (ascend : Ascending n 0 xs) 
     in-range =
         members-all (groupOf (marked noMembers xs)) _
         (λ l m. let h = member-low _ l m in lt-ltb (l .0) n (has-low n 0 (l .0) xs ascend (sym (marked-member (l .0) h) ∙ m)));
-    fits = marks-fit (marked noMembers xs);
+    fits = group-low (marked noMembers xs);
   }
 
 -- ---- the addresses of a set, ascending

@@ -3,28 +3,23 @@
 use Prim.Native.Nat.{ℕ, suc, _+_, _<_, _≤_}
 use mathlib.Core.Path.{_≡_, refl, ap, _∙_}
 use mathlib.Core.Bool.{Bool, true, false}
-use mathlib.Core.List.{List, [], _∷_, _++_}
+use mathlib.Core.List.{List}
 use native.Mathlib.Omega.{arith}
 use lib.ListN.{length, length-append}
-use borrow.Author.Tests.{eq-eqb}
+use borrow.Author.Tests.{eq-eqb, lt-ltb}
 use Rattle.net.specs.Choice.{choose}
 use Rattle.net.specs.Records.{zeroInstruction, withAction}
 use Rattle.net.proofs.ReadingLaws.{never}
 use Rattle.sound.proofs.CodeFacts.{Acts}
-use Rattle.sound.proofs.Drafts.{stop-ok, Communicates, out-ok, in-ok, read-ok}
+use Rattle.sound.proofs.Drafts.{stop-ok, Communicates, out-ok, in-ok, read-ok, out-all-ok}
 use Rattle.fresh.specs.Fresh.{actionFits}
 use Rattle.fresh.proofs.FitLaws.{zero-instruction-fits}
-use Rattle.terms.specs.Terms.{Process, Action, nil, name, fork, act, out, input, read, eval, newloc}
+use Rattle.terms.specs.Terms.{Process, Action, nil, name, fork, act, out, input, read, eval, newloc, outAll}
 use Rattle.terms.specs.Numbering.{size, sizeIn, Start, here, called, startOf, instructionOf, forkOf, codeOf, codeIn, uses, usesIn}
-use Rattle.texts.specs.Types.{Place, Instruction}
+use Rattle.texts.specs.Types.{Scope, Place, Instruction}
 use Rattle.texts.proofs.Terms.{Fit, FitIn}
-use Rattle.texts.proofs.Rows.{Each, none, more}
+use Rattle.texts.proofs.Each.{Each, none, more, each-both}
 use Rattle.texts.proofs.FreshParts.{InstructionFresh, bare-fits}
-
--- ---- lists, each of whose elements is good
-pub each-both : {A : Type 0} {P : A → Type 0} (xs ys : List A) → Each P xs → Each P ys → Each P (xs ++ ys)
-each-both [] ys none e = e
-each-both (x ∷ xs) ys (more h d) e = more h (each-both xs ys d e)
 
 -- ---- how many instructions there are
 mutual
@@ -48,6 +43,7 @@ mutual
   inner-length place m (read c t) = refl
   inner-length place m (eval p t) = code-length place m p
   inner-length place m (newloc v) = refl
+  inner-length place m (outAll c g) = refl
 
 -- a name that one of two uses, both use
 pub in-first : (a b : Bool) → a ≡ true → choose a true b ≡ true
@@ -60,8 +56,9 @@ unfolding choose
 in-second true b e = refl
 in-second false b e = e
 
--- ---- instructions in range: n addresses, k instructions, and every start that is called is resolved to one of them
-module _ (n k : ℕ) (place : Start → Place) (Right : ℕ → Type 0)
+-- ---- instructions in range: k of them, x what addresses and sets are judged by, and every start that is called is resolved to one
+-- of them
+module _ (x : Scope) (k : ℕ) (place : Start → Place) (Right : ℕ → Type 0)
     (at-here : (m : ℕ) → m < k → place (here m) .0 < k) (at-name : (j : ℕ) → Right j → place (called j) .0 < k) where
   -- the names that a process uses are right
   abbrev pub Uses : Process → Type 0
@@ -78,27 +75,29 @@ module _ (n k : ℕ) (place : Start → Place) (Right : ℕ → Type 0)
   start-below m (act a p) h u = at-here m (omega arith)
 
   instruction-good :
-      (m : ℕ) (a : Action) (q : Start) → suc m + sizeIn a ≤ k → FitIn n a → UsesIn a → place q .0 < k
-      → InstructionFresh n k (instructionOf place m a q)
+      (m : ℕ) (a : Action) (q : Start) → suc m + sizeIn a ≤ k → FitIn x a → UsesIn a → place q .0 < k
+      → InstructionFresh x k (instructionOf place m a q)
   unfolding instructionOf sizeIn FitIn usesIn Acts withAction zeroInstruction Communicates actionFits
-  instruction-good m (out c t) q h f u l = (out-ok 1 n k t (place q) c (f .1) l (f .0 .sound _), f .0 .fits _ refl)
-  instruction-good m (input c t) q h f u l = (in-ok 1 n k t (place q) c (f .1) l (f .0 .sound _), f .0 .fits _ refl)
-  instruction-good m (read c t) q h f u l = (read-ok 1 n k t (place q) c (f .1) l (f .0 .sound _), f .0 .fits _ refl)
+  instruction-good m (out c t) q h f u l = (out-ok (x .format) (x .addresses) k t (place q) c (f .1) l (f .0 .sound _), f .0 .fits _ refl)
+  instruction-good m (input c t) q h f u l = (in-ok (x .format) (x .addresses) k t (place q) c (f .1) l (f .0 .sound _), f .0 .fits _ refl)
+  instruction-good m (read c t) q h f u l = (read-ok (x .format) (x .addresses) k t (place q) c (f .1) l (f .0 .sound _), f .0 .fits _ refl)
   instruction-good m (eval p t) q h f u l = ((f .1, start-below (suc m) p h u, l, refl), bare-fits _ refl)
   instruction-good m (newloc v) q h f u l = ((f, l, refl), bare-fits _ refl)
+  instruction-good m (outAll c g) q h (ok, s, two) u l =
+      (out-all-ok (x .format) (x .addresses) k g (place q) c two (s .sound) l (ok .sound _), ok .fits _ (lt-ltb _ 65536 (s .fits)))
 
-  fork-good : (p q : Start) → place p .0 < k → place q .0 < k → InstructionFresh n k (forkOf place p q)
+  fork-good : (p q : Start) → place p .0 < k → place q .0 < k → InstructionFresh x k (forkOf place p q)
   unfolding forkOf Acts withAction zeroInstruction actionFits
   fork-good p q h g = ((h, g, refl), bare-fits _ refl)
 
   abbrev pub Good : List Instruction → Type 0
-  Good = Each (InstructionFresh n k)
+  Good = Each (InstructionFresh x k)
 
   mutual
     unfolding codeOf size Fit uses
 
-    pub code-good : (m : ℕ) (p : Process) → m + size p ≤ k → Fit n p → Uses p → Good (codeOf place m p)
-    code-good m nil h f u = more (stop-ok 1 n k, zero-instruction-fits) none
+    pub code-good : (m : ℕ) (p : Process) → m + size p ≤ k → Fit x p → Uses p → Good (codeOf place m p)
+    code-good m nil h f u = more (stop-ok (x .format) (x .addresses) k, zero-instruction-fits) none
     code-good m (name j) h f u = none
     code-good m (fork p q) h f u =
         let up : Uses p = λ j e. u j (in-first (uses j p) (uses j q) e) in
@@ -113,9 +112,10 @@ module _ (n k : ℕ) (place : Start → Place) (Right : ℕ → Type 0)
         more (instruction-good m a (startOf (suc m + sizeIn a) p) (omega arith) (f .0) ua (start-below (suc m + sizeIn a) p (omega arith) up))
         (each-both _ _ (inner-good (suc m) a (omega arith) (f .0) ua) (code-good (suc m + sizeIn a) p (omega arith) (f .1) up))
 
-    inner-good : (m : ℕ) (a : Action) → m + sizeIn a ≤ k → FitIn n a → UsesIn a → Good (codeIn place m a)
+    inner-good : (m : ℕ) (a : Action) → m + sizeIn a ≤ k → FitIn x a → UsesIn a → Good (codeIn place m a)
     inner-good m (out c t) h f u = none
     inner-good m (input c t) h f u = none
     inner-good m (read c t) h f u = none
     inner-good m (eval p t) h f u = code-good m p h (f .0) u
     inner-good m (newloc v) h f u = none
+    inner-good m (outAll c g) h f u = none

@@ -4,7 +4,6 @@ use Prim.Native.Nat.{ℕ, _<_, _≤_}
 use mathlib.Core.Path.{_≡_, sym, ap, _∙_}
 use mathlib.Core.Bool.{true}
 use native.Mathlib.Omega.{arith}
-use lib.ListN.{length}
 use lib.Dec.{ltb}
 use Rattle.net.specs.Choice.{both, all}
 use Rattle.net.specs.Records.{addressOf, processAt, nodeAt}
@@ -17,22 +16,29 @@ use Rattle.keeping.specs.Admission.{admits}
 use Rattle.fresh.specs.Fresh.{nodeFits, instructionFits, netFits, ownOrigins, ownMarks, startsAt, freshOf}
 use Rattle.fresh.proofs.FitLaws.{net-fits, zero-node-fits, zero-instruction-fits}
 use Rattle.fresh.proofs.StartLaws.{node-starts}
-use Rattle.linking.specs.Source.{Source}
+use Rattle.linking.specs.Source.{Policy, plain, by-origin, Source}
 use Rattle.linking.specs.Names.{namesRight}
-use Rattle.linking.specs.Compiled.{total, placeIn, withCode, compiled}
+use Rattle.linking.specs.Compiled.{total, formatOf, placeIn, withCode, compiled}
 use Rattle.linking.specs.NodeCounts.{Counts}
-use Rattle.linking.proofs.NodeCounts.{counts-rows, counts-all}
+use Rattle.linking.proofs.NodeCounts.{counts-governed, counts-all}
+use Rattle.notation.specs.Scopes.{scopeOf}
 use Rattle.texts.specs.Types.{Locality}
 use Rattle.texts.proofs.FreshParts.{zero-fresh, node-fits, own-origins, own-marks, NetFresh}
 use Rattle.texts.proofs.Lines.{SourceOk}
 use Rattle.texts.proofs.CompiledNet.{compiled-parts}
 
-module _ (x : Source) (ok : SourceOk x) (right : namesRight (x .lines) ≡ true) where
-  parts : NetFresh (length (x .rows)) (total (x .lines)) (compiled x)
-  parts = compiled-parts x ok right
+format-range : (x : Policy) → (1 ≤ formatOf x) × (formatOf x ≤ 2)
+unfolding formatOf
+format-range (plain rs) = omega arith
+format-range (by-origin rss) = omega arith
 
-  pub compiled-format : compiled x .format ≡ 1
-  compiled-format = parts .format-is
+module _ (f : ℕ) (x : Source) (ok : SourceOk f x) (right : namesRight (x .lines) ≡ true) where
+  parts : NetFresh (scopeOf (x .policy)) (total (x .lines)) (compiled x)
+  parts = compiled-parts f x ok right
+
+  pub compiled-format : compiled x .format ≡ f
+  unfolding scopeOf
+  compiled-format = parts .format-is ∙ ok .policy-ok .format-is
 
   fits : netFits (compiled x) ≡ true
   fits =
@@ -47,13 +53,14 @@ module _ (x : Source) (ok : SourceOk x) (right : namesRight (x .lines) ≡ true)
       })
 
   sound : 1 ≤ total (x .lines) → total (x .lines) ≤ 512 → soundOf (compiled x) ≡ true
+  unfolding scopeOf
   sound some few =
       net-sound (compiled x)
       (rw (parts .format-is, parts .addresses-are, parts .length-is) (record {
-        format-least = omega arith;
-        format-most = omega arith;
-        addresses-least = ok .rows-ok .some;
-        addresses-most = ok .rows-ok .few;
+        format-least = format-range (x .policy) .0;
+        format-most = format-range (x .policy) .1;
+        addresses-least = ok .policy-ok .some;
+        addresses-most = ok .policy-ok .few;
         length-least = some;
         length-most = few;
         nodes-ok = filled-map (λ y g. g .sound) (λ y e. e) (parts .nodes);
@@ -64,14 +71,14 @@ module _ (x : Source) (ok : SourceOk x) (right : namesRight (x .lines) ≡ true)
   counts : Counts (x .lines) (compiled x)
   unfolding compiled withCode nodeAt
   counts =
-      let c = counts-all _ (counts-rows (x .rows) _ _ (ok .rows-ok .few)) (placeIn (x .lines)) (x .lines) (ok .room) in
+      let c = counts-all _ (counts-governed (x .policy) _ (ok .policy-ok .few)) (placeIn (x .lines)) (x .lines) (ok .room) in
       record { nodes-are = c .nodes-are; at = c .at }
 
   unset : (a : Locality) → a .0 < 16 → (i : ℕ) → i < 4 → allUnset (processAt (nodeAt (compiled x) a) i) ≡ true
   unfolding nodeAt processAt
   unset a h =
       filled-each {Q = λ y. (i : ℕ) → i < 4 → allUnset (processAt y i) ≡ true} (parts .nodes)
-      (λ y g. g .unset .holds) (of-zero _ (zero-fresh 1 1 .unset .holds)) (a .0) h
+      (λ y g. g .unset .holds) (of-zero _ (zero-fresh (scopeOf (x .policy)) 1 .unset .holds)) (a .0) h
 
   own : (a : Locality) → a .0 < 16 → both (ownOrigins a (nodeAt (compiled x) a)) (ownMarks a (nodeAt (compiled x) a)) ≡ true
   unfolding nodeAt

@@ -1,21 +1,21 @@
--- The nodes and instructions of a net that a text gives: sound in format 1 (`NodeFacts.antt` and `CodeFacts.antt` of `sound`),
--- each variable unset, each reading of 32 bits, each process with its own node as origin and each tuple with its own node's mark;
+-- The nodes and instructions of a net that a text gives: sound (`NodeFacts.antt` and `CodeFacts.antt` of `sound`), each variable
+-- unset, each reading of 32 bits and each set of 16, each process with its own node as origin and each tuple with its own node's mark;
 -- and what keeps them so. Assumes nothing.
 use Prim.Native.Nat.{ℕ, _<_, _≤_}
-use mathlib.Core.Path.{_≡_, refl, sym, _∙_}
+use mathlib.Core.Path.{_≡_, refl}
 use mathlib.Core.Bool.{true}
 use mathlib.Core.List.{List}
 use native.Mathlib.Omega.{arith}
 use borrow.Author.Tests.{ltb-true, eq-eqb}
 use Rattle.net.specs.Records.{freeProcess, startingAt, zeroTuple, zeroNode, zeroInstruction, addressOf, rowAt, processAt, tupleAt, nodeAt}
-use Rattle.net.specs.Records.{emptyNet, alike, marked, withRows, withProcess, withTuple, withNode, withCounts, withFormat, withAction}
+use Rattle.net.specs.Records.{emptyNet, marked, withRows, withProcess, withTuple, withNode, withCounts, withFormat, withAction}
 use Rattle.net.proofs.Laws.{both-i, implies-i, all-i}
 use Rattle.net.proofs.Every.{chosen-lt, Every, Filled, every-replicate, every-set, filled-set}
 use Rattle.net.proofs.Past.{pastRow, pastProcess, pastTuple, pastNode, pastInstruction}
 use Rattle.net.proofs.ReadingLaws.{never}
 use Rattle.sound.specs.Soundness.{allUnset}
-use Rattle.sound.proofs.NodeFacts.{RowOk, NodeOk, node-shaped}
-use Rattle.sound.proofs.NodeChanges.{alike-rows, runs, starting, zero-node, with-rows, with-process, with-tuple}
+use Rattle.sound.proofs.NodeFacts.{RowsOk, NodeOk, node-shaped}
+use Rattle.sound.proofs.NodeChanges.{runs, starting, zero-node, with-rows, with-process, with-tuple}
 use Rattle.sound.proofs.CodeFacts.{InstructionOk}
 use Rattle.sound.proofs.NetChanges.{zero-instruction}
 use Rattle.fresh.specs.Fresh.{tupleFits, rowFits, processFits, nodeFits, actionFits, instructionFits}
@@ -23,73 +23,72 @@ use Rattle.fresh.specs.Fresh.{ownOrigin, ownOrigins, ownMark, ownMarks}
 use Rattle.fresh.proofs.FitLaws.{array-fits, action-fits, zero-instruction-fits}
 use Rattle.fresh.proofs.StartLaws.{free-unset, starting-unset}
 use Rattle.linking.specs.Compiled.{unruled}
-use Rattle.texts.specs.Types.{Locality, Place, Row, Tuple, Node, Action, Instruction, Net}
+use Rattle.texts.specs.Types.{Scope, Locality, Place, Row, Tuple, Node, Action, Instruction, Net}
 use Rattle.texts.proofs.Fields.{TupleRead}
 use Rattle.texts.proofs.Fits.{no-item, tuple-fits}
 
--- ---- instructions: sound in format 1, so that none is an out to a set
-abbrev pub InstructionFresh : ℕ → ℕ → Instruction → Type 0
-InstructionFresh n k c = InstructionOk 1 n k c × (instructionFits c ≡ true)
+-- ---- instructions; x has the format and the number of addresses
+abbrev pub InstructionFresh : Scope → ℕ → Instruction → Type 0
+InstructionFresh x k c = InstructionOk (x .format) (x .addresses) k c × (instructionFits c ≡ true)
 
 pub bare-fits : (a : Action) → actionFits a ≡ true → instructionFits (withAction zeroInstruction a) ≡ true
 bare-fits a e = action-fits zeroInstruction a e zero-instruction-fits
 
 -- ---- nodes
 abbrev pub AllUnset : Node → Type 0
-AllUnset x = Every (λ i p. allUnset p ≡ true) pastProcess 4 (x .processes)
+AllUnset y = Every (λ i p. allUnset p ≡ true) pastProcess 4 (y .processes)
 
 abbrev pub TuplesFit : Node → Type 0
-TuplesFit x = Every (λ i t. tupleFits t ≡ true) pastTuple 16 (x .tuples)
+TuplesFit y = Every (λ i t. tupleFits t ≡ true) pastTuple 16 (y .tuples)
 
-pub record NodeFresh (n k : ℕ) (x : Node) : Type 0 where
-  pub sound : NodeOk 1 n k x
-  pub unset : AllUnset x
-  pub fit : TuplesFit x
+pub record NodeFresh (x : Scope) (k : ℕ) (y : Node) : Type 0 where
+  pub sound : NodeOk (x .format) (x .addresses) k y
+  pub unset : AllUnset y
+  pub fit : TuplesFit y
 
-module _ (n k : ℕ) where
-  pub zero-fresh : NodeFresh n k zeroNode
+module _ (x : Scope) (k : ℕ) where
+  pub zero-fresh : NodeFresh x k zeroNode
   unfolding zeroNode
   zero-fresh = record {
-    sound = zero-node 1 n k;
+    sound = zero-node (x .format) (x .addresses) k;
     unset = every-replicate _ pastProcess 4 freeProcess (λ i h. free-unset);
     fit = every-replicate _ pastTuple 16 zeroTuple (λ i h. tuple-fits zeroTuple no-item);
   }
 
-  module _ (x : Node) (ok : NodeFresh n k x) where
-    -- one row for every origin
-    pub fresh-row : (r : Row) → RowOk n r → NodeFresh n k (withRows x (alike r))
+  module _ (y : Node) (ok : NodeFresh x k y) where
+    pub fresh-rows : (rs : List Row) → RowsOk (x .format) (x .addresses) rs → NodeFresh x k (withRows y rs)
     unfolding withRows
-    fresh-row r h = record {
-      sound = with-rows 1 n k x (ok .sound) (alike r) (alike-rows 1 n r h (λ e. never (sym e ∙ eq-eqb 1 1 refl)));
+    fresh-rows rs h = record {
+      sound = with-rows (x .format) (x .addresses) k y (ok .sound) rs h;
       unset = ok .unset;
       fit = ok .fit;
     }
 
-    pub fresh-process : (a : Locality) (i : ℕ) (p : Place) → a .0 < n → p .0 < k → NodeFresh n k (withProcess x i (startingAt a p))
+    pub fresh-process : (a : Locality) (i : ℕ) (p : Place) → a .0 < x .addresses → p .0 < k → NodeFresh x k (withProcess y i (startingAt a p))
     unfolding withProcess
     fresh-process a i p l h = record {
-      sound = with-process 1 n k x (ok .sound) i _ (runs n k _ (starting n k a p l h));
+      sound = with-process (x .format) (x .addresses) k y (ok .sound) i _ (runs (x .addresses) k _ (starting (x .addresses) k a p l h));
       unset = every-set i _ (ok .unset) (λ j q d e. e) (starting-unset a p);
       fit = ok .fit;
     }
 
-    pub fresh-tuple : (a : Locality) (t : Tuple) → a .0 < n → TupleRead n t → NodeFresh n k (withTuple x (marked a t))
+    pub fresh-tuple : (a : Locality) (t : Tuple) → a .0 < x .addresses → TupleRead (x .addresses) t → NodeFresh x k (withTuple y (marked a t))
     unfolding withTuple
     fresh-tuple a t l h = record {
-      sound = with-tuple 1 n k x (ok .sound) (marked a t) (h .sound a l);
-      unset = chosen-lt AllUnset (x .stored) 16 _ _ (λ _. ok .unset) (λ _. ok .unset);
+      sound = with-tuple (x .format) (x .addresses) k y (ok .sound) (marked a t) (h .sound a l);
+      unset = chosen-lt AllUnset (y .stored) 16 _ _ (λ _. ok .unset) (λ _. ok .unset);
       fit =
-          chosen-lt TuplesFit (x .stored) 16 _ _ (λ _. every-set (x .stored) (marked a t) (ok .fit) (λ j u d e. e) (h .fits a))
+          chosen-lt TuplesFit (y .stored) 16 _ _ (λ _. every-set (y .stored) (marked a t) (ok .fit) (λ j u d e. e) (h .fits a))
           (λ _. ok .fit);
     }
 
-    pub node-fits : nodeFits x ≡ true
+    pub node-fits : nodeFits y ≡ true
     unfolding nodeFits rowAt processAt tupleAt rowFits processFits
     node-fits =
-        let shape = node-shaped 1 n k x (ok .sound) in
-        let rows : Every (λ o r. rowFits r ≡ true) pastRow 16 (x .rows) =
+        let shape = node-shaped (x .format) (x .addresses) k y (ok .sound) in
+        let rows : Every (λ o r. rowFits r ≡ true) pastRow 16 (y .rows) =
         record { size-is = shape .rows-are; holds = λ o h. eq-eqb _ _ (shape .each-row (addressOf o) h .rights-are) } in
-        let processes : Every (λ i p. processFits p ≡ true) pastProcess 4 (x .processes) =
+        let processes : Every (λ i p. processFits p ≡ true) pastProcess 4 (y .processes) =
         record { size-is = shape .processes-are; holds = λ i h. eq-eqb _ _ (shape .each-process i h .variables-are) } in
         both-i _ _ (array-fits rowFits rows)
         (both-i _ _ (array-fits processFits processes) (array-fits tupleFits (ok .fit)))
@@ -133,33 +132,33 @@ module _ (a : Locality) (x : Node) (ok : Owned (a .0) x) where
   unfolding ownMarks ownMark tupleAt
   own-marks = all-i 16 _ (λ i h. implies-i _ _ (λ e. eq-eqb _ _ (ok .marks .holds i h (ltb-true _ _ e))))
 
--- ---- a net of format 1 with n addresses and k instructions
-abbrev pub CodeFresh : ℕ → ℕ → List Instruction → Type 0
-CodeFresh n k code = Every (Filled (InstructionFresh n k) (λ c. c ≡ zeroInstruction) k) pastInstruction 512 code
+-- ---- a net of that format, with so many addresses and k instructions
+abbrev pub CodeFresh : Scope → ℕ → List Instruction → Type 0
+CodeFresh x k code = Every (Filled (InstructionFresh x k) (λ c. c ≡ zeroInstruction) k) pastInstruction 512 code
 
-pub record NetFresh (n k : ℕ) (s : Net) : Type 0 where
-  pub format-is : s .format ≡ 1
-  pub addresses-are : s .addresses ≡ n
+pub record NetFresh (x : Scope) (k : ℕ) (s : Net) : Type 0 where
+  pub format-is : s .format ≡ x .format
+  pub addresses-are : s .addresses ≡ x .addresses
   pub length-is : s .length ≡ k
-  pub nodes : Every (Filled (NodeFresh n k) (λ x. x ≡ zeroNode) n) pastNode 16 (s .nodes)
+  pub nodes : Every (Filled (NodeFresh x k) (λ y. y ≡ zeroNode) (x .addresses)) pastNode 16 (s .nodes)
   pub owned : Every Owned pastNode 16 (s .nodes)
-  pub code : CodeFresh n k (s .code)
+  pub code : CodeFresh x k (s .code)
 
-pub empty-fresh : (n k : ℕ) → NetFresh n k (unruled n k)
+pub empty-fresh : (x : Scope) (k : ℕ) → NetFresh x k (unruled (x .format) (x .addresses) k)
 unfolding unruled withCounts withFormat emptyNet
-empty-fresh n k = record {
+empty-fresh x k = record {
   format-is = refl;
   addresses-are = refl;
   length-is = refl;
-  nodes = every-replicate _ pastNode 16 zeroNode (λ a _. record { used = λ _. zero-fresh n k; unused = λ _. refl });
+  nodes = every-replicate _ pastNode 16 zeroNode (λ a _. record { used = λ _. zero-fresh x k; unused = λ _. refl });
   owned = every-replicate _ pastNode 16 zeroNode (λ a _. zero-owned a);
   code =
       every-replicate _ pastInstruction 512 zeroInstruction
-      (λ p _. record { used = λ _. (zero-instruction 1 n k, zero-instruction-fits); unused = λ _. refl });
+      (λ p _. record { used = λ _. (zero-instruction (x .format) (x .addresses) k, zero-instruction-fits); unused = λ _. refl });
 }
 
-module _ {n k : ℕ} (few : n ≤ 16) (s : Net) (ok : NetFresh n k s) (a : Locality) (h : a .0 < n) where
-  pub fresh-at : NodeFresh n k (nodeAt s a)
+module _ {x : Scope} {k : ℕ} (few : x .addresses ≤ 16) (s : Net) (ok : NetFresh x k s) (a : Locality) (h : a .0 < x .addresses) where
+  pub fresh-at : NodeFresh x k (nodeAt s a)
   unfolding nodeAt
   fresh-at = ok .nodes .holds (a .0) (omega arith) .used h
 
@@ -167,13 +166,13 @@ module _ {n k : ℕ} (few : n ≤ 16) (s : Net) (ok : NetFresh n k s) (a : Local
   unfolding nodeAt
   owned-at = ok .owned .holds (a .0) (omega arith)
 
-  pub fresh-with : (x : Node) → NodeFresh n k x → Owned (a .0) x → NetFresh n k (withNode s a x)
+  pub fresh-with : (y : Node) → NodeFresh x k y → Owned (a .0) y → NetFresh x k (withNode s a y)
   unfolding withNode
-  fresh-with x g o = record {
+  fresh-with y g o = record {
     format-is = ok .format-is;
     addresses-are = ok .addresses-are;
     length-is = ok .length-is;
-    nodes = filled-set (a .0) x h g (ok .nodes);
-    owned = every-set (a .0) x (ok .owned) (λ j y d e. e) o;
+    nodes = filled-set (a .0) y h g (ok .nodes);
+    owned = every-set (a .0) y (ok .owned) (λ j z d e. e) o;
     code = ok .code;
   }

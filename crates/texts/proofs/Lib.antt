@@ -1,11 +1,14 @@
 pub mod Compiled
 pub mod CompiledNet
+pub mod Each
 pub mod Fields
 pub mod Fits
 pub mod Fresh
 pub mod FreshParts
 pub mod Gives
 pub mod Lines
+pub mod OriginRows
 pub mod Rows
+pub mod Sets
 pub mod Terms
 pub mod TextClaims

@@ -1,26 +1,29 @@
--- What the reader of rows gives (`Rows.antt` of `notation`): 1 to 16 rows, with no right over an address without a row.
--- Assumes nothing.
+-- What the reader of rows of format 1 gives (`Rows.antt` of `rows`): 1 to 16 rows, with no right over an address without a row, so
+-- that the sixteen rows of each node are sound. Assumes nothing.
 use Prim.Native.Nat.{ℕ, zero, suc, _+_, _<_, _≤_}
-use mathlib.Core.Path.{_≡_, refl}
+use mathlib.Core.Path.{_≡_, refl, sym, _∙_}
 use mathlib.Core.Bool.{Bool, true, false, not}
 use mathlib.Core.List.{List, [], _∷_, _++_}
 use native.Mathlib.Omega.{arith}
-use lib.ListN.{getD, length, length-append}
+use lib.ListN.{length, length-append}
 use lib.Dec.{leb}
-use borrow.Author.Tests.{leb-true, le-leb}
+use borrow.Author.Tests.{leb-true, le-leb, eq-eqb}
 use Rattle.net.specs.Choice.{choose}
-use Rattle.net.specs.Records.{noRights, zeroRow, rightsAt, withRights}
+use Rattle.net.specs.Records.{noRights, zeroRow, alike, rightsAt, withRights}
 use Rattle.net.proofs.Laws.{implies-e, all-e}
 use Rattle.net.proofs.Every.{filled-set}
 use Rattle.net.proofs.ReadingLaws.{never}
-use Rattle.sound.proofs.NodeFacts.{RowOk}
-use Rattle.sound.proofs.NodeChanges.{zero-row}
-use Rattle.rows.specs.Rows.{isRow, anyRight, rights, granted, grants, creates, opening, row, rowsAfter, within, allWithin, rows}
+use Rattle.sound.proofs.NodeFacts.{RowOk, RowsOk}
+use Rattle.sound.proofs.NodeChanges.{zero-row, alike-rows}
+use Rattle.linking.specs.Source.{Policy, plain}
+use Rattle.linking.specs.Compiled.{formatOf, addressesOf, rowsOf}
+use Rattle.rows.specs.Rows.{isRow, anyRight, rights, granted, grants, creates, opening, rowRest, row, rowsAfter, within, allWithin, rows}
 use Rattle.texts.specs.Types.{Row}
 use Rattle.texts.specs.TextClaims.{count, astray}
 use Rattle.texts.specs.TextClaims as Number
 use Rattle.texts.proofs.Gives.{Any, Gives, gives-pure, gives-then, gives-and, gives-choice, gives-require}
 use Rattle.texts.proofs.Gives.{gives-fail, gives-byte, gives-word, gives-optional, gives-number}
+use Rattle.texts.proofs.Each.{Each, none, each-append, each-at, each-map}
 
 -- ---- one row
 gives-rights : Gives rights Any
@@ -55,36 +58,15 @@ unfolding opening
 gives-opening i =
     gives-then (gives-number 15) (λ l _. gives-and (gives-require _ 31 astray) (λ _ _. gives-word _))
 
+pub gives-rowRest : Gives rowRest (RowOk 16)
+unfolding rowRest
+gives-rowRest =
+    gives-then gives-creates (λ c _. gives-then (gives-grants 16 0 _ (zero-row 16)) (λ r ok.
+    gives-and (gives-byte 10) (λ _ _. gives-pure _ r ok)))
+
 gives-row : (i : ℕ) → Gives (row i) (RowOk 16)
 unfolding row
-gives-row i =
-    gives-and (gives-opening i) (λ _ _. gives-then gives-creates (λ c _.
-    gives-then (gives-grants 16 0 _ (zero-row 16)) (λ r ok. gives-and (gives-byte 10) (λ _ _. gives-pure _ r ok))))
-
--- ---- all rows
-pub data Each {A : Type 0} (P : A → Type 0) : List A → Type 0 where
-  none : Each P []
-  more : {x : A} {xs : List A} → P x → Each P xs → Each P (x ∷ xs)
-
-pub each-append : {A : Type 0} {P : A → Type 0} (xs : List A) (x : A) → Each P xs → P x → Each P (xs ++ (x ∷ []))
-each-append [] x none h = more h none
-each-append (y ∷ xs) x (more g e) h = more g (each-append xs x e h)
-
-record Some (rs : List Row) : Type 0 where
-  few : length rs ≤ 16
-  each : Each (RowOk 16) rs
-
-gives-rowsAfter : (k : ℕ) (rs : List Row) → k + length rs ≡ 16 → Each (RowOk 16) rs → Gives (rowsAfter k rs) Some
-unfolding rowsAfter
-gives-rowsAfter zero rs e ok = record {
-  run = λ s p. gives-choice Some (isRow s p) _ _ (gives-fail Some 22 count) (gives-pure Some rs (record { few = omega arith; each = ok })) .run s p;
-}
-gives-rowsAfter (suc k) rs e ok = record {
-  run = λ s p. gives-choice Some (isRow s p) _ _
-      (gives-then (gives-row (length rs)) (λ r h.
-      gives-rowsAfter k (rs ++ (r ∷ [])) (let l = length-append rs (r ∷ []) in omega arith) (each-append rs r ok h)))
-      (gives-pure Some rs (record { few = omega arith; each = ok })) .run s p;
-}
+gives-row i = gives-and (gives-opening i) (λ _ _. gives-rowRest)
 
 -- ---- no right over an address without a row
 no-rights : (take read put send : Bool)
@@ -97,7 +79,7 @@ no-rights false false true send h = never h
 no-rights false true put send h = never h
 no-rights true read put send h = never h
 
-row-within : (n : ℕ) (r : Row) → RowOk 16 r → within n r ≡ true → RowOk n r
+pub row-within : (n : ℕ) (r : Row) → RowOk 16 r → within n r ≡ true → RowOk n r
 unfolding within rightsAt
 row-within n r ok h = record {
   size-is = ok .size-is;
@@ -107,22 +89,52 @@ row-within n r ok h = record {
   };
 }
 
-rows-within :
-    (n : ℕ) (rs : List Row) → Each (RowOk 16) rs → ((i : ℕ) → i < length rs → within n (getD rs i zeroRow) ≡ true)
-    → Each (RowOk n) rs
-rows-within n [] none h = none
-rows-within n (r ∷ rs) (more ok e) h =
-    more (row-within n r ok (h 0 (omega arith))) (rows-within n rs e (λ i l. h (suc i) (omega arith)))
+-- ---- policies of format f: 1 to 16 addresses, each with sixteen sound rows
+pub record PolicyOk (f : ℕ) (x : Policy) : Type 0 where
+  pub format-is : formatOf x ≡ f
+  pub some : 1 ≤ addressesOf x
+  pub few : addressesOf x ≤ 16
+  pub each : Each (RowsOk (formatOf x) (addressesOf x)) (rowsOf x)
 
--- 1 to 16 rows
-pub record RowsOk (rs : List Row) : Type 0 where
-  pub some : 1 ≤ length rs
-  pub few : length rs ≤ 16
-  pub each : Each (RowOk (length rs)) rs
+-- from `low` to 16 rows
+pub record Some (low : ℕ) (rs : List Row) : Type 0 where
+  pub least : low ≤ length rs
+  pub most : length rs ≤ 16
+  pub each : Each (RowOk 16) rs
 
-pub gives-rows : Gives rows RowsOk
-unfolding rows allWithin
+pub next-some : (low : ℕ) (rs : List Row) (r : Row) → length rs < 16 → Some low rs → RowOk 16 r → Some low (rs ++ (r ∷ []))
+next-some low rs r h ok g =
+    let l = length-append rs (r ∷ []) in
+    record { least = omega (arith, ok .least); most = omega arith; each = each-append rs r (ok .each) g }
+
+-- ---- format 1
+gives-rowsAfter : (k : ℕ) (rs : List Row) → k + length rs ≡ 16 → Some 0 rs → Gives (rowsAfter k rs) (Some 0)
+unfolding rowsAfter
+gives-rowsAfter zero rs e ok = record {
+  run = λ s p. gives-choice (Some 0) (isRow s p) _ _ (gives-fail (Some 0) 22 count) (gives-pure (Some 0) rs ok) .run s p;
+}
+gives-rowsAfter (suc k) rs e ok = record {
+  run = λ s p. gives-choice (Some 0) (isRow s p) _ _
+      (gives-then (gives-row (length rs)) (λ r h.
+      gives-rowsAfter k (rs ++ (r ∷ [])) (let l = length-append rs (r ∷ []) in omega arith) (next-some 0 rs r (omega arith) ok h)))
+      (gives-pure (Some 0) rs ok) .run s p;
+}
+
+plain-ok : (rs : List Row) → 1 ≤ length rs → Some 0 rs → allWithin rs ≡ true → PolicyOk 1 (plain rs)
+unfolding formatOf addressesOf rowsOf allWithin
+plain-ok rs some ok h = record {
+  format-is = refl;
+  some = some;
+  few = ok .most;
+  each =
+      each-map (RowsOk 1 (length rs)) alike rs
+      (each-at _ zeroRow rs (ok .each) (λ i l g.
+      alike-rows 1 (length rs) _ (row-within (length rs) _ g (all-e (length rs) _ h i l)) (λ e. never (sym e ∙ eq-eqb 1 1 refl))));
+}
+
+pub gives-rows : Gives rows (λ rs. PolicyOk 1 (plain rs))
+unfolding rows
 gives-rows =
-    gives-then (gives-rowsAfter 16 [] refl none) (λ rs ok.
+    gives-then (gives-rowsAfter 16 [] refl (record { least = omega arith; most = omega arith; each = none })) (λ rs ok.
     gives-and (gives-require _ 31 astray) (λ _ h. gives-and (gives-require _ 23 Number.address) (λ _ g.
-    gives-pure _ rs (record { some = leb-true 1 (length rs) h; few = ok .few; each = rows-within (length rs) rs (ok .each) (all-e (length rs) _ g) }))))
+    gives-pure _ rs (plain-ok rs (leb-true 1 (length rs) h) ok g))))

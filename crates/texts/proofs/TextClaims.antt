@@ -11,45 +11,50 @@ use Rattle.net.specs.Records.{emptyNet}
 use Rattle.keeping.specs.Admission.{admits}
 use Rattle.readers.specs.Reader.{Parsed, got, fault}
 use Rattle.linking.specs.Source.{Source}
+use Rattle.rows.specs.OriginRows.{isOriginRow}
 use Rattle.notation.specs.Lines.{source}
 use Rattle.linking.specs.Names.{namesRight}
 use Rattle.linking.specs.Compiled.{total, compiled}
 use Rattle.notation.specs.Text.{refused, accepted, judgedSource, judged, readOf}
 use Rattle.texts.specs.Types.{Verdict, Opened}
 use Rattle.texts.specs.TextClaims.{TextNumber, count, beyond-row, name}
-use Rattle.texts.specs.TextClaims.{TextIsSound, TextIsFresh, TextIsFormatOne, RefusedTextIsEmpty, RefusedTextIsNumbered}
+use Rattle.texts.specs.TextClaims.{TextIsSound, TextIsFresh, TextHasFormat, RefusedTextIsEmpty, RefusedTextIsNumbered}
 use Rattle.texts.proofs.Gives.{Fine, value, stopped}
-use Rattle.texts.proofs.Lines.{SourceOk, gives-source}
+use Rattle.texts.proofs.Lines.{SourceOk, source-fine}
 use Rattle.texts.proofs.Fresh.{compiled-format, compiled-fresh}
 
--- an answer of the reader: accepted with a fresh net of format 1, or refused with one of the numbers and the empty net
-data Answered : Opened → Type 0 where
-  took : {o : Opened} → o .answer ≡ Verdict.Accepted → o .net .format ≡ 1 → freshOf (o .net) ≡ true → Answered o
-  left : {n : ℕ} → TextNumber n → Answered (refused n)
+-- an answer of the reader: accepted with a fresh net of format f, or refused with one of the numbers and the empty net
+data Answered (f : ℕ) : Opened → Type 0 where
+  took : {o : Opened} → o .answer ≡ Verdict.Accepted → o .net .format ≡ f → freshOf (o .net) ≡ true → Answered f o
+  left : {n : ℕ} → TextNumber n → Answered f (refused n)
 
 -- the branch that a test takes, known to hold
-either : (b : Bool) (x y : Opened) → (b ≡ true → Answered x) → Answered y → Answered (choose b x y)
+either : (f : ℕ) (b : Bool) (x y : Opened) → (b ≡ true → Answered f x) → Answered f y → Answered f (choose b x y)
 unfolding choose
-either true x y h g = h refl
-either false x y h g = g
+either f true x y h g = h refl
+either f false x y h g = g
 
-judged-source : (x : Source) → SourceOk x → Answered (judgedSource x)
+judged-source : (f : ℕ) (x : Source) → SourceOk f x → Answered f (judgedSource x)
 unfolding judgedSource accepted
-judged-source x ok =
-    either (namesRight (x .lines)) _ _ (λ right.
-    either (inRange 1 (total (x .lines)) 512) _ _ (λ few.
-    either (admits (compiled x)) _ _ (λ kept.
-    took refl (compiled-format x ok right) (compiled-fresh x ok right (in-range-low 1 _ 512 few) (in-range-high 1 _ 512 few) kept))
+judged-source f x ok =
+    either f (namesRight (x .lines)) _ _ (λ right.
+    either f (inRange 1 (total (x .lines)) 512) _ _ (λ few.
+    either f (admits (compiled x)) _ _ (λ kept.
+    took refl (compiled-format f x ok right) (compiled-fresh f x ok right (in-range-low 1 _ 512 few) (in-range-high 1 _ 512 few) kept))
     (left beyond-row)) (left count)) (left name)
 
-answered-from : (o : Parsed Source) → Fine SourceOk o → Answered (judged o)
+answered-from : (f : ℕ) (o : Parsed Source) → Fine (SourceOk f) o → Answered f (judged o)
 unfolding judged
-answered-from (got x q) (value h) = judged-source x h
-answered-from (fault f) (stopped h) = left h
+answered-from f (got x q) (value h) = judged-source f x h
+answered-from f (fault n) (stopped h) = left h
 
-answered : (text : List ℕ) → Answered (readOf text)
-unfolding readOf
-answered text = answered-from (source text 0) (gives-source .run text 0)
+-- the format that the first line decides
+unfoldable formatFor : List ℕ → ℕ
+formatFor text = choose (isOriginRow text 0) 2 1
+
+answered : (text : List ℕ) → Answered (formatFor text) (readOf text)
+unfolding readOf formatFor
+answered text = answered-from _ (source text 0) (source-fine text 0)
 
 left-empty : (m : ℕ) → refused m .net ≡ emptyNet
 unfolding refused
@@ -73,15 +78,15 @@ pub textIsFresh : TextIsFresh
 unfolding TextIsFresh
 textIsFresh text = go (readOf text) (answered text)
   where
-    go : (o : Opened) → Answered o → o .answer ≡ Verdict.Accepted → freshOf (o .net) ≡ true
+    go : (o : Opened) → Answered (formatFor text) o → o .answer ≡ Verdict.Accepted → freshOf (o .net) ≡ true
     go o (took h f g) e = g
     go o (left {n = m} h) e = no-both (refused m .answer) m e (left-answer m)
 
-pub textIsFormatOne : TextIsFormatOne
-unfolding TextIsFormatOne
-textIsFormatOne text = go (readOf text) (answered text)
+pub textHasFormat : TextHasFormat
+unfolding TextHasFormat formatFor
+textHasFormat text = go (readOf text) (answered text)
   where
-    go : (o : Opened) → Answered o → o .answer ≡ Verdict.Accepted → o .net .format ≡ 1
+    go : (o : Opened) → Answered (formatFor text) o → o .answer ≡ Verdict.Accepted → o .net .format ≡ formatFor text
     go o (took h f g) e = f
     go o (left {n = m} h) e = no-both (refused m .answer) m e (left-answer m)
 
@@ -93,7 +98,7 @@ pub refusedTextIsEmpty : RefusedTextIsEmpty
 unfolding RefusedTextIsEmpty
 refusedTextIsEmpty text n = go (readOf text) (answered text)
   where
-    go : (o : Opened) → Answered o → o .answer ≡ Verdict.Refused n → o .net ≡ emptyNet
+    go : (o : Opened) → Answered (formatFor text) o → o .answer ≡ Verdict.Refused n → o .net ≡ emptyNet
     go o (took h f g) e = no-both (o .answer) n h e
     go o (left h) e = left-empty _
 
@@ -101,6 +106,6 @@ pub refusedTextIsNumbered : RefusedTextIsNumbered
 unfolding RefusedTextIsNumbered
 refusedTextIsNumbered text n = go (readOf text) (answered text)
   where
-    go : (o : Opened) → Answered o → o .answer ≡ Verdict.Refused n → TextNumber n
+    go : (o : Opened) → Answered (formatFor text) o → o .answer ≡ Verdict.Refused n → TextNumber n
     go o (took h f g) e = no-both (o .answer) n h e
     go o (left {n = m} h) e = subst TextNumber (same-number m n (left-number m n e)) h

@@ -1,11 +1,13 @@
--- What holds of every text, accepted or refused (document 01, "The planners' notation"; document 02, slip 3).
+-- What holds of every text, accepted or refused (document 01, "The planners' notation"; document 02, slips 3 and 13).
 use Prim.Native.Nat.{ℕ}
 use mathlib.Core.Path.{_≡_}
 use mathlib.Core.List.{List}
 use mathlib.Core.Bool.{true}
+use Rattle.net.specs.Choice.{choose}
 use Rattle.net.specs.Records.{emptyNet}
 use Rattle.sound.specs.Soundness.{soundOf}
 use Rattle.fresh.specs.Fresh.{freshOf}
+use Rattle.rows.specs.OriginRows.{isOriginRow}
 use Rattle.notation.specs.Text.{readOf}
 use Rattle.texts.specs.Types.{Verdict}
 
@@ -17,9 +19,11 @@ TextIsSound = (text : List ℕ) → readOf text .answer ≡ Verdict.Accepted →
 unfoldable pub TextIsFresh : Type 0
 TextIsFresh = (text : List ℕ) → readOf text .answer ≡ Verdict.Accepted → freshOf (readOf text .net) ≡ true
 
--- of format 1, so that one row of a node serves every origin (document 02, slip 10)
-unfoldable pub TextIsFormatOne : Type 0
-TextIsFormatOne = (text : List ℕ) → readOf text .answer ≡ Verdict.Accepted → readOf text .net .format ≡ 1
+-- "The first line decides" (document 02, slip 13): the net is of format 2 where the text opens with digits and ` from`, else of
+-- format 1
+unfoldable pub TextHasFormat : Type 0
+TextHasFormat =
+    (text : List ℕ) → readOf text .answer ≡ Verdict.Accepted → readOf text .net .format ≡ choose (isOriginRow text 0) 2 1
 
 -- a refused text gives the empty net
 unfoldable pub RefusedTextIsEmpty : Type 0

@@ -1,6 +1,7 @@
 -- The types of the crates below that the claims and proofs of this crate speak of.
 pub use Rattle.net.specs.declared.locality.Locality.{Locality}
 pub use Rattle.net.specs.declared.locality.Place.{Place}
+pub use Rattle.net.specs.declared.locality.Group.{Group}
 pub use Rattle.net.specs.declared.tuple.Item.{Item}
 pub use Rattle.net.specs.declared.tuple.Field.{Field}
 pub use Rattle.net.specs.declared.tuple.Tuple.{Tuple}
@@ -14,5 +15,6 @@ pub use Rattle.net.specs.declared.instruction.Action.{Action}
 pub use Rattle.net.specs.declared.instruction.Instruction.{Instruction}
 pub use Rattle.net.specs.declared.network.Net.{Net}
 pub use Rattle.readers.specs.declared.fault.Fault.{Fault}
+pub use Rattle.fields.specs.declared.scope.Scope.{Scope}
 pub use Rattle.notation.specs.declared.reading.Verdict.{Verdict}
 pub use Rattle.notation.specs.declared.reading.Opened.{Opened}

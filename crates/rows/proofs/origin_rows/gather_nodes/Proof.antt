@@ -1,5 +1,4 @@
--- `rows::origin_rows::gather_nodes` meets its contract: in what follows `read` is what is known after a node's rows are read,
--- and `test` after the loop's test. Assumes nothing.
+-- `rows::origin_rows::gather_nodes` meets its contract: in what follows `read` is what is known after a node's rows are read, and `test` after the loop's test. Assumes nothing.
 use Prim.Native.Nat.{_-_}
 use Rattle.net.specs.Records.{withCounts, withFormat}
 use Rattle.rows.specs.Progress.{NodesRuling}
