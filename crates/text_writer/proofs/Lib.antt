@@ -1,0 +1,4 @@
+pub mod Lengths
+pub mod ListLaws
+pub mod PartLaws
+pub mod TextLaws
