@@ -14,7 +14,7 @@ use Rattle.net.specs.Choice.{choose, fold}
 use Rattle.net.specs.Records.{addressOf}
 use Rattle.net.specs.Groups.{halved, member}
 use Rattle.net.proofs.FoldLaws.{fold-none, fold-more, fold-end, fold-keeps}
-use Rattle.net.proofs.GroupLaws.{halved-more, has-in}
+use Rattle.net.proofs.GroupLaws.{member-is}
 use Rattle.readers.specs.Reader.{require}
 use Rattle.readers.specs.Progress.{Went}
 use Rattle.readers.proofs.ReaderLaws.{on, next, stop, stop-as, either, otherwise}
@@ -103,7 +103,8 @@ module _ (marks : List Bool) where
       let e : 16 ≡ 15 - l + suc l = omega arith in
       let last : fold (suc l) with-bit 0 % 2 ≡ choose (getD marks l false) 1 0 = omega (arith, last-bit l, bit-most (getD marks l false)) in
       let rest = ap (λ (m : ℕ). halved (15 - l) (fold m with-bit 0)) e ∙ halved-bits (15 - l) (suc l) in
-      sym (has-in (groupOf marks) (addressOf l) (fold (suc l) with-bit 0) h (sym rest)) ∙ ap (λ (x : ℕ). eqb x 1) last ∙ bit-told (getD marks l false)
+      sym (member-is (groupOf marks) (addressOf l) h) ∙ ap (λ (v : ℕ). eqb (v % 2) 1) rest ∙ ap (λ (x : ℕ). eqb x 1) last
+      ∙ bit-told (getD marks l false)
 
   -- ---- and every set is that of its members' marks
   module _ (g : Group) (fits : g .0 < 65536) (same : (l : ℕ) → l < 16 → getD marks l false ≡ member g (addressOf l)) where
@@ -116,13 +117,12 @@ module _ (marks : List Bool) where
     bits-up n rest e d = let f = last-bit n in omega arith
 
     half-is : (n : ℕ) → n < 16 → halved (16 - n) (g .0) ≡ halved (15 - n) (g .0) / 2
-    half-is n h =
-        let e : 16 - n ≡ 15 - n + 1 = omega arith in
-        ap (λ (m : ℕ). halved m (g .0)) e ∙ sym (halved-more (15 - n) (g .0) (halved (15 - n) (g .0)) refl)
+    unfolding halved
+    half-is n h = let e : 16 - n ≡ suc (15 - n) = omega arith in ap (λ (m : ℕ). halved m (g .0)) e
 
     last-is : (n : ℕ) → n < 16 → choose (getD marks n false) 1 0 ≡ halved (15 - n) (g .0) % 2
     last-is n h =
-        ap (λ (b : Bool). choose b 1 0) (same n h ∙ sym (has-in g (addressOf n) (halved (15 - n) (g .0)) h refl))
+        ap (λ (b : Bool). choose b 1 0) (same n h ∙ sym (member-is g (addressOf n) h))
         ∙ bit-kept (halved (15 - n) (g .0) % 2) (omega arith)
 
     bits-are : (n : ℕ) → n ≤ 16 → fold n with-bit 0 ≡ halved (16 - n) (g .0)

@@ -1,8 +1,8 @@
 -- Laws of sets of addresses (`specs/Groups.antt`). Assumes nothing.
-use Prim.Native.Nat.{ℕ, suc, _+_, _-_, _<_, _≤_, _/_, _%_}
+use Prim.Native.Nat.{ℕ, zero, suc, _-_, _<_, _≤_, _/_, _%_, _^_}
 use mathlib.Core.Path.{_≡_, refl, sym, ap, _∙_}
 use mathlib.Core.Bool.{Bool, true, false}
-use native.Mathlib.Omega.{arith}
+use native.Mathlib.Nat.{div-one, div-div-eq-div-mul, pow-suc}
 use lib.Dec.{eqb, ltb}
 use borrow.Author.Tests.{lt-ltb, le-ltb, ltb-true}
 use Rattle.net.specs.Choice.{both, implies}
@@ -12,26 +12,20 @@ use Rattle.net.proofs.Laws.{both-l, implies-i, implies-e, all-i, all-e}
 use Rattle.net.proofs.AllLaws.{when-true, when-false}
 
 -- ---- halving
-pub halved-none : (v : ℕ) → v ≡ halved 0 v
+halved-is : (n v : ℕ) → v / 2 ^ n ≡ halved n v
 unfolding halved
-halved-none v = refl
-
-pub halved-more : (n v rest : ℕ) → rest ≡ halved n v → rest / 2 ≡ halved (n + 1) v
-unfolding halved
-halved-more n v rest e =
-    let one : suc n ≡ n + 1 = omega arith in
-    ap (λ x. x / 2) e ∙ ap (λ (m : ℕ). halved m v) one
-
-pub halved-all : (n i v rest : ℕ) → rest ≡ halved i v → i ≤ n → n ≤ i → rest ≡ halved n v
-halved-all n i v rest e l h =
-    let same : i ≡ n = omega arith in
-    e ∙ ap (λ (m : ℕ). halved m v) same
+halved-is zero v = div-one v
+halved-is (suc n) v =
+    ap (λ (x : ℕ). v / x) (pow-suc 2 n) ∙ sym (div-div-eq-div-mul v (2 ^ n) 2) ∙ ap (λ (x : ℕ). x / 2) (halved-is n v)
 
 -- ---- membership
 module _ (g : Group) (l : Locality) where
-  pub has-in : (rest : ℕ) → l .0 < 16 → rest ≡ halved (15 - l .0) (g .0) → eqb (rest % 2) 1 ≡ member g l
+  pub member-is : l .0 < 16 → eqb (halved (15 - l .0) (g .0) % 2) 1 ≡ member g l
   unfolding member both
-  has-in rest h e = rw (lt-ltb (l .0) 16 h, e) refl
+  member-is h = rw (lt-ltb (l .0) 16 h) refl
+
+  pub has-in : l .0 < 16 → eqb (g .0 / 2 ^ (15 - l .0) % 2) 1 ≡ member g l
+  has-in h = rw (halved-is (15 - l .0) (g .0)) (member-is h)
 
   pub has-out : 16 ≤ l .0 → false ≡ member g l
   unfolding member both

@@ -10,6 +10,7 @@ has-spec =
     (tie.spec
     (λ c. search needs)
     (λ c. search needs)
-    (λ c κs. search needs)
+    (λ c. search needs)
+    (λ c. search needs)
     (λ c. search (needs, has-in))
     (λ c. search (needs, has-out)))
