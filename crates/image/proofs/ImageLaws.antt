@@ -1,13 +1,14 @@
 -- What each turn of the image reader's loops comes to (`specs/Image.antt`), from what its parts came to.
 -- Assumes nothing.
-use Prim.Native.Nat.{ℕ}
-use mathlib.Core.Path.{_≡_, ap, _∙_}
+use Prim.Native.Nat.{ℕ, _+_, _<_, _≤_}
+use mathlib.Core.Path.{_≡_, sym, ap, _∙_}
 use mathlib.Core.Bool.{Bool}
 use mathlib.Core.List.{List}
 use lib.ListN.{set}
-use Rattle.image.specs.Types.{Step, Locality, Place, Item, Tuple, Rights, Row, Process, Node, Changed, Instruction, Net}
+use borrow.Author.Tests.{lt-ltb, le-ltb}
+use Rattle.image.specs.Types.{Step, Locality, Place, Item, Tuple, Rights, Row, Process, Node, Instruction, Net}
 use Rattle.net.specs.Records.{startingAt, processAt, nodeAt, alike, marked, withField, withRights, withRow, withRows, withProcess}
-use Rattle.net.specs.Records.{withTuple, putIn, withNode, withInstruction}
+use Rattle.net.specs.Records.{withTuple, withNode, withInstruction}
 use Rattle.net.specs.Records.{addressOf, placeOf}
 use Rattle.keeping.specs.Admission.{admitsProcess}
 use Rattle.readers.specs.Reader.{requireIn}
@@ -18,6 +19,8 @@ use Rattle.instructions.specs.Instruction.{instruction}
 use Rattle.image.specs.Image.{rightsOf, rights, row, singleRow, rowFrom, nodeRows, rowsOf}
 use Rattle.image.specs.Image.{process, processes, processesOf, entry, entries, entriesOf}
 use Rattle.image.specs.Image.{item, tupleField, tuple, stored, tuples, tuplesOf, instructionOf}
+use Rattle.image.specs.Progress.{netOf, uncoded}
+use Rattle.net.proofs.Laws.{choose-true, choose-false}
 use Rattle.readers.proofs.ReaderLaws.{on, stop, stop-as, passes}
 
 module _ (s : List ℕ) (p q : Step) where
@@ -36,20 +39,21 @@ module _ (s : List ℕ) (p q : Step) where
   unfolding rowFrom
   row-turn n i x r w = on s p q q _ _ r _ w (stop s q _)
 
-  pub rows-turn : (f n i : ℕ) (net : Net) (x : Node) → Went s p (nodeRows f n (nodeAt net (addressOf i))) q x
-      → net .format ≡ f → net .addresses ≡ n → Went s p (rowsOf (addressOf i) net) q (withNode net (addressOf i) x)
-  unfolding rowsOf nodeAt
-  rows-turn f n i net x w d e = on s p q q _ _ x _ (rw (d, e) w) (stop s q _)
+  pub rows-turn : (f n k i : ℕ) (xs : List Node) (x : Node) → Went s p (nodeRows f n (nodeAt (uncoded f n k xs) (addressOf i))) q x
+      → Went s p (rowsOf (addressOf i) (uncoded f n k xs)) q (uncoded f n k (set xs i x))
+  unfolding rowsOf withNode uncoded netOf
+  rows-turn f n k i xs x w = on s p q q _ _ x _ w (stop s q _)
 
   pub process-turn : (a : Locality) (k i : ℕ) (x : Node) (at : Place) (started : Process) → Went s p (place k) q at
       → started ≡ startingAt a at → Went s p (process a k i x) q (withProcess x i started)
   unfolding process
   process-turn a k i x at started w e = on s p q q _ _ at _ w (stop-as s q _ _ (ap (withProcess x i) e))
 
-  pub processes-turn : (k i : ℕ) (net : Net) (x : Node) → Went s p (processes (addressOf i) k (nodeAt net (addressOf i))) q x
-      → net .length ≡ k → Went s p (processesOf (addressOf i) net) q (withNode net (addressOf i) x)
-  unfolding processesOf nodeAt
-  processes-turn k i net x w e = on s p q q _ _ x _ (rw e w) (stop s q _)
+  pub processes-turn : (f n k i : ℕ) (xs : List Node) (x : Node)
+      → Went s p (processes (addressOf i) k (nodeAt (uncoded f n k xs) (addressOf i))) q x
+      → Went s p (processesOf (addressOf i) (uncoded f n k xs)) q (uncoded f n k (set xs i x))
+  unfolding processesOf withNode uncoded netOf
+  processes-turn f n k i xs x w = on s p q q _ _ x _ w (stop s q _)
 
   pub entry-parts : (r : Step) (k : ℕ) (code : List Instruction) (a : Locality) (x : Node) (slot at : ℕ) (v : Place) (ok : Bool)
       → Went s p (place k) q v → at ≡ placeOfStep p → ok ≡ admitsProcess code x a (processAt x slot)
@@ -67,18 +71,26 @@ module _ (s : List ℕ) (p q : Step) where
   unfolding tupleField
   field-turn n i t u x w e = on s p q q _ _ x _ w (stop-as s q _ _ e)
 
-  pub tuple-turn : (a : Locality) (n i : ℕ) (x : Node) (put : Changed) (t u : Tuple) → Went s p (tuple n) q t → u ≡ marked a t
-      → put ≡ putIn x u → Went s p (stored a n i x) q (put .node)
-  unfolding stored putIn
-  tuple-turn a n i x put t u w d e =
-      on s p q q _ _ t _ w (stop-as s q _ _ (ap (λ (c : Changed). c .node) e ∙ ap (λ (v : Tuple). withTuple x v) d))
+  pub tuple-turn : (a : Locality) (n i : ℕ) (x y : Node) (t u : Tuple) → Went s p (tuple n) q t → u ≡ marked a t → x .stored < 16
+      → y ≡ record { rows = x .rows; processes = x .processes; stored = x .stored + 1; tuples = set (x .tuples) (x .stored) u }
+      → Went s p (stored a n i x) q y
+  unfolding stored withTuple
+  tuple-turn a n i x y t u w d h e =
+      on s p q q _ _ t _ w (stop-as s q _ _ (e ∙ rw d (sym (choose-true _ _ _ (lt-ltb (x .stored) 16 h)))))
 
-  pub tuples-turn : (n i : ℕ) (net : Net) (x : Node) → Went s p (tuples (addressOf i) n (nodeAt net (addressOf i))) q x
-      → net .addresses ≡ n → Went s p (tuplesOf (addressOf i) net) q (withNode net (addressOf i) x)
-  unfolding tuplesOf nodeAt
-  tuples-turn n i net x w e = on s p q q _ _ x _ (rw e w) (stop s q _)
+  pub tuple-over : (a : Locality) (n i : ℕ) (x y : Node) (t : Tuple) → Went s p (tuple n) q t → 16 ≤ x .stored → y ≡ x
+      → Went s p (stored a n i x) q y
+  unfolding stored withTuple
+  tuple-over a n i x y t w h e =
+      on s p q q _ _ t _ w (stop-as s q _ _ (e ∙ sym (choose-false _ _ _ (le-ltb (x .stored) 16 h))))
 
-  pub instruction-turn : (f n k i : ℕ) (net : Net) (c : Instruction) → Went s p (instruction f n k) q c → net .format ≡ f
-      → net .addresses ≡ n → net .length ≡ k → Went s p (instructionOf (placeOf i) net) q (withInstruction net (placeOf i) c)
-  unfolding instructionOf
-  instruction-turn f n k i net c w d e g = on s p q q _ _ c _ (rw (d, e, g) w) (stop s q _)
+  pub tuples-turn : (f n k i : ℕ) (xs : List Node) (x : Node)
+      → Went s p (tuples (addressOf i) n (nodeAt (uncoded f n k xs) (addressOf i))) q x
+      → Went s p (tuplesOf (addressOf i) (uncoded f n k xs)) q (uncoded f n k (set xs i x))
+  unfolding tuplesOf withNode uncoded netOf
+  tuples-turn f n k i xs x w = on s p q q _ _ x _ w (stop s q _)
+
+  pub instruction-turn : (f n k i : ℕ) (xs : List Node) (cs : List Instruction) (c : Instruction) → Went s p (instruction f n k) q c
+      → Went s p (instructionOf (placeOf i) (netOf f n k xs cs)) q (netOf f n k xs (set cs i c))
+  unfolding instructionOf withInstruction netOf
+  instruction-turn f n k i xs cs c w = on s p q q _ _ c _ w (stop s q _)

@@ -1,7 +1,5 @@
 // Where a starting process reaches beyond its row (document 01, "Numbers for an image", number 30; document 02, slip 2): the
 // entries of part 3 are read again, in image order.
-use crate::header::read_header;
-use crate::rows::read_rows;
 use bitreader::bits::take;
 use bitreader::fields::read_place;
 use keeping::admission::admits_process;
@@ -17,8 +15,8 @@ ghost use mathlib.Core.Path.{_≡_};
 ghost use Rattle.readers.specs.Reader.{each, faultAt};
 ghost use Rattle.readers.specs.Progress.{Went};
 ghost use Rattle.bitreader.specs.Progress.{seen};
-ghost use Rattle.image.specs.Types.{Step};
-ghost use Rattle.image.specs.Image.{eachAddress, entry, entries, entriesOf, allEntries, beyondRow};
+ghost use Rattle.image.specs.Progress.{Begun};
+ghost use Rattle.image.specs.Image.{eachAddress, entry, entries, entriesOf, beyondRow};
 
 // An entry whose process, in that slot of the node, keeps within its row.
 fn read_entry(
@@ -96,19 +94,6 @@ fn read_nodes(s: &[u8], from: Step, n: usize, net: Net) -> Step
     step
 }
 
-// All entries, after the header and the rows.
-fn read_all(s: &[u8], net: Net) -> Step
-    ensures { λ r. ⌜ Went (seen (now (s .entry))) (Step.At 0) (allEntries net) r tt ⌝ }
-{
-    let headed = read_header(s);
-    let after_header = headed.next;
-    let counted = headed.net;
-    let n = counted.addresses;
-    let ruled = read_rows(s, after_header, counted);
-    let after_rows = ruled.next;
-    read_nodes(s, after_rows, n, net)
-}
-
 // The fault at an entry that begins at place p.
 fn at_entry(p: usize) -> Fault
     ensures { λ r. ⌜ r ≡ faultAt 30 p 9 ⌝ }
@@ -116,11 +101,13 @@ fn at_entry(p: usize) -> Fault
     Fault::at(30, p, 9)
 }
 
-// The fault at the first entry whose process does not keep within its row.
-pub(crate) fn beyond_row(s: &[u8], net: Net) -> Fault
+// The fault at the first entry whose process does not keep within its row, of the entries that begin at a step.
+pub(crate) fn beyond_row(s: &[u8], starts: Step, net: Net) -> Fault
+    requires { ⌜ Begun (seen (now s)) starts net ⌝ }
     ensures { λ r. ⌜ r ≡ beyondRow (seen (now (s .entry))) net ⌝ }
 {
-    let step = read_all(s, net);
+    let n = net.addresses;
+    let step = read_nodes(s, starts, n, net);
     match step {
         Step::At(p) => at_entry(p),
         Step::Failed(fault) => at_entry(fault.place),

@@ -3,6 +3,7 @@ mod built;
 mod code;
 mod entries;
 mod header;
+mod nodes;
 pub mod reader;
 mod rows;
 mod starts;

@@ -3,22 +3,17 @@ use crate::built::NetRead;
 use crate::code::read_code;
 use crate::entries::beyond_row;
 use crate::header::read_header;
-use crate::rows::read_rows;
-use crate::starts::read_all_processes;
-use crate::stores::read_all_tuples;
+use crate::nodes::read_nodes;
 use bitreader::ending::read_ending;
 use keeping::admission::admitted;
 use net::network::Net;
 use readers::fault::Fault;
 use readers::step::Step;
+use readers::step::is_place;
 ghost use mathlib.Core.Path.{_≡_};
-ghost use Rattle.net.specs.Choice.{choose};
-ghost use Rattle.image.specs.Image.{beyondRow, layout};
-ghost use Rattle.keeping.specs.Admission.{admits};
-ghost use Rattle.image.specs.Image.{refused, accepted, openedOf, numberOf, placeOfFault};
+ghost use Rattle.image.specs.Image.{refused, openedOf, numberOf, placeOfFault};
+ghost use Rattle.image.specs.Progress.{netRead, Laid, faultAfter};
 ghost use Rattle.bitreader.specs.Progress.{seen};
-ghost use Rattle.image.specs.Types.{Step};
-ghost use Rattle.readers.specs.Progress.{Went};
 
 // How many bytes the longest accepted image has, one of format 2: one byte more of an image decides what it gives (proved:
 // `FirstBytesDecide` of the crate `accepted`).
@@ -58,25 +53,29 @@ pub fn place_of(answer: Verdict) -> usize
 
 // The layout, part after part.
 fn read_layout(s: &[u8]) -> NetRead
-    ensures { λ r. ⌜ Went (seen (now (s .entry))) (Step.At 0) layout (r .next) (r .net) ⌝ }
+    ensures { λ r. ⌜ Laid (seen (now (s .entry))) r ⌝ }
 {
-    let headed = read_header(s);
-    let after_header = headed.next;
-    let counted = headed.net;
-    let ruled = read_rows(s, after_header, counted);
-    let after_rows = ruled.next;
-    let with_rows = ruled.net;
-    let peopled = read_all_processes(s, after_rows, with_rows);
-    let after_processes = peopled.next;
-    let with_processes = peopled.net;
-    let stocked = read_all_tuples(s, after_processes, with_processes);
-    let after_tuples = stocked.next;
-    let with_tuples = stocked.net;
-    let coded = read_code(s, after_tuples, with_tuples);
+    let counts = read_header(s);
+    let format = counts.format;
+    let n = counts.addresses;
+    let k = counts.length;
+    let after_header = counts.next;
+    let stocked = read_nodes(s, after_header, format, n, k);
+    let starts = stocked.starts;
+    let after_nodes = stocked.next;
+    let coded = read_code(s, after_nodes, format, n, k);
     let after_code = coded.next;
-    let net = coded.net;
+    let nodes = stocked.nodes;
+    let code = coded.code;
+    let net = Net {
+        format,
+        addresses: n,
+        length: k,
+        nodes,
+        code,
+    };
     let next = read_ending(s, after_code);
-    NetRead { net, next }
+    NetRead { net, starts, next }
 }
 
 // A refusal, which leaves the empty net.
@@ -88,16 +87,15 @@ fn refuse(fault: Fault) -> Opened
     Opened { answer, net }
 }
 
-// A net whose layout is right, judged by its starting processes.
-fn judge(image: &[u8], net: Net) -> Opened
-    ensures { λ r. ⌜ r ≡ choose (admits net) (accepted net) (refused (beyondRow (seen (now (image .entry))) net)) ⌝ }
+// The fault of an image that is not accepted, whose layout came to a step and a net: of its layout, or of the first entry whose
+// process does not keep within its row.
+fn fault_of(image: &[u8], starts: Step, next: Step, net: Net) -> Fault
+    requires { ⌜ Laid (seen (now image)) (netRead net starts next) ⌝ }
+    ensures { λ r. ⌜ r ≡ faultAfter (seen (now (image .entry))) next net ⌝ }
 {
-    if admitted(net) {
-        let answer = Verdict::Accepted;
-        Opened { answer, net }
-    } else {
-        let fault = beyond_row(image, net);
-        refuse(fault)
+    match next {
+        Step::At(_) => beyond_row(image, starts, net),
+        Step::Failed(fault) => fault,
     }
 }
 
@@ -107,9 +105,15 @@ pub fn read_image(image: &[u8]) -> Opened
 {
     let laid = read_layout(image);
     let next = laid.next;
+    let starts = laid.starts;
     let net = laid.net;
-    match next {
-        Step::At(_) => judge(image, net),
-        Step::Failed(fault) => refuse(fault),
+    let answer = Verdict::Accepted;
+    let mut opened = Opened { answer, net };
+    let whole = is_place(next);
+    let within = admitted(opened.net);
+    if !(whole & within) {
+        let fault = fault_of(image, starts, next, opened.net);
+        opened = refuse(fault);
     }
+    opened
 }

@@ -1,8 +1,6 @@
 // Rows of an image (document 01, "The image", part 2; document 02, slip 10).
-use crate::built::NetRead;
 use crate::built::NodeRead;
 use bitreader::bits::take;
-use net::network::Net;
 use net::node::Node;
 use net::policy::Rights;
 use net::policy::Row;
@@ -10,8 +8,7 @@ use readers::step::Step;
 ghost use Prim.Native.Nat.{_<_, _≤_};
 ghost use mathlib.Core.Path.{_≡_};
 ghost use Rattle.image.specs.Image.{isSetBit, rightsOf, creating, eachAddress, rights, row};
-ghost use Rattle.image.specs.Image.{singleRow, rowFrom, nodeRows, rows};
-ghost use Rattle.image.specs.Progress.{Built};
+ghost use Rattle.image.specs.Image.{singleRow, rowFrom, nodeRows};
 ghost use Rattle.bitreader.specs.Progress.{seen};
 ghost use Rattle.readers.specs.Progress.{Went};
 
@@ -117,7 +114,7 @@ fn read_by_origin(s: &[u8], from: Step, n: usize, start: Node) -> NodeRead
 }
 
 // The node with its rows.
-fn read_node_rows(s: &[u8], from: Step, format: usize, n: usize, start: Node) -> NodeRead
+pub(crate) fn read_node_rows(s: &[u8], from: Step, format: usize, n: usize, start: Node) -> NodeRead
     requires { ⌜ n ≤ 16 ⌝ }
     ensures { λ r. ⌜ Went (seen (now (s .entry))) from (nodeRows format n start) (r .next) (r .node) ⌝ }
 {
@@ -126,25 +123,4 @@ fn read_node_rows(s: &[u8], from: Step, format: usize, n: usize, start: Node) ->
     } else {
         read_by_origin(s, from, n, start)
     }
-}
-
-// The rows of each address.
-pub(crate) fn read_rows(s: &[u8], from: Step, start: Net) -> NetRead
-    requires { ⌜ start .addresses ≤ 16 ⌝ }
-    ensures { λ r. ⌜ Built (seen (now (s .entry))) from (rows start) start r ⌝ }
-{
-    let format = start.format;
-    let n = start.addresses;
-    let mut net = start;
-    let mut step = from;
-    let mut i = 0;
-    while i < n {
-        let node = net.nodes[i];
-        let got = read_node_rows(s, step, format, n, node);
-        let ruled = got.node;
-        net.nodes[i] = ruled;
-        step = got.next;
-        i += 1;
-    }
-    NetRead { net, next: step }
 }

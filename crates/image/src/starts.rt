@@ -1,17 +1,14 @@
 // Starting processes of an image (document 01, "The image", part 3).
-use crate::built::NetRead;
 use crate::built::NodeRead;
 use bitreader::bits::take;
 use bitreader::fields::read_place;
 use net::locality::Locality;
-use net::network::Net;
 use net::node::Node;
 use net::process::Process;
 use readers::step::Step;
 ghost use Prim.Native.Nat.{_≤_};
 ghost use Rattle.readers.specs.Reader.{each};
-ghost use Rattle.image.specs.Image.{process, processes, allProcesses};
-ghost use Rattle.image.specs.Progress.{Built};
+ghost use Rattle.image.specs.Image.{process, processes};
 ghost use Rattle.bitreader.specs.Progress.{seen};
 ghost use Rattle.readers.specs.Progress.{Went};
 
@@ -35,32 +32,10 @@ fn read_slots(s: &[u8], from: Step, a: Locality, k: usize, count: usize, start: 
 }
 
 // The processes of a node.
-fn read_processes(s: &[u8], from: Step, a: Locality, k: usize, start: Node) -> NodeRead
+pub(crate) fn read_processes(s: &[u8], from: Step, a: Locality, k: usize, start: Node) -> NodeRead
     ensures { λ r. ⌜ Went (seen (now (s .entry))) from (processes a k start) (r .next) (r .node) ⌝ }
 {
     let got = take(s, from, 3, 0, 5, 22);
     let next = got.next;
     read_slots(s, next, a, k, got.value, start)
-}
-
-// The processes of each address.
-pub(crate) fn read_all_processes(s: &[u8], from: Step, start: Net) -> NetRead
-    requires { ⌜ start .addresses ≤ 16 ⌝ }
-    ensures { λ r. ⌜ Built (seen (now (s .entry))) from (allProcesses start) start r ⌝ }
-{
-    let n = start.addresses;
-    let k = start.length;
-    let mut net = start;
-    let mut step = from;
-    let mut i: usize = 0;
-    while i < n {
-        let node = net.nodes[i];
-        let a = Locality(i as u8);
-        let got = read_processes(s, step, a, k, node);
-        let filled = got.node;
-        net.nodes[i] = filled;
-        step = got.next;
-        i += 1;
-    }
-    NetRead { net, next: step }
 }

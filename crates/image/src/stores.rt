@@ -1,11 +1,9 @@
 // Tuples of an image (document 01, "The image", part 4).
-use crate::built::NetRead;
 use crate::built::NodeRead;
 use bitreader::bits::take;
 use bitreader::fields::read_address;
 use bitreader::fields::read_reading;
 use net::locality::Locality;
-use net::network::Net;
 use net::node::Node;
 use net::tuple::Field;
 use net::tuple::Item;
@@ -13,8 +11,7 @@ use net::tuple::Tuple;
 use readers::step::Step;
 ghost use Prim.Native.Nat.{_≤_};
 ghost use Rattle.readers.specs.Reader.{each};
-ghost use Rattle.image.specs.Image.{readingItem, addressItem, item, tupleField, tuple, stored, tuples, allTuples};
-ghost use Rattle.image.specs.Progress.{Built};
+ghost use Rattle.image.specs.Image.{readingItem, addressItem, item, tupleField, tuple, stored, tuples};
 ghost use Rattle.bitreader.specs.Progress.{seen};
 ghost use Rattle.readers.specs.Progress.{Went};
 ghost use Rattle.net.specs.Records.{zeroTuple};
@@ -99,8 +96,11 @@ fn read_store(s: &[u8], from: Step, a: Locality, n: usize, count: usize, start: 
         let got = read_tuple(s, step, n);
         let read = got.tuple;
         let tuple = read.marked(a);
-        let put = node.put(tuple);
-        node = put.node;
+        let at = node.stored;
+        if at < 16 {
+            node.tuples[at] = tuple;
+            node.stored = at + 1;
+        }
         step = got.next;
         i += 1;
     }
@@ -108,31 +108,10 @@ fn read_store(s: &[u8], from: Step, a: Locality, n: usize, count: usize, start: 
 }
 
 // The tuples of a node.
-fn read_tuples(s: &[u8], from: Step, a: Locality, n: usize, start: Node) -> NodeRead
+pub(crate) fn read_tuples(s: &[u8], from: Step, a: Locality, n: usize, start: Node) -> NodeRead
     ensures { λ r. ⌜ Went (seen (now (s .entry))) from (tuples a n start) (r .next) (r .node) ⌝ }
 {
     let got = take(s, from, 5, 0, 17, 22);
     let next = got.next;
     read_store(s, next, a, n, got.value, start)
-}
-
-// The tuples of each address.
-pub(crate) fn read_all_tuples(s: &[u8], from: Step, start: Net) -> NetRead
-    requires { ⌜ start .addresses ≤ 16 ⌝ }
-    ensures { λ r. ⌜ Built (seen (now (s .entry))) from (allTuples start) start r ⌝ }
-{
-    let n = start.addresses;
-    let mut net = start;
-    let mut step = from;
-    let mut i: usize = 0;
-    while i < n {
-        let node = net.nodes[i];
-        let a = Locality(i as u8);
-        let got = read_tuples(s, step, a, n, node);
-        let filled = got.node;
-        net.nodes[i] = filled;
-        step = got.next;
-        i += 1;
-    }
-    NetRead { net, next: step }
 }

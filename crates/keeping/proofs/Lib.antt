@@ -1,7 +1,9 @@
 pub mod AdmissionClaims
+pub mod AdmissionLaws
 pub mod KeepingLaws
 pub mod KeepingPromise
 pub mod NeverMoreWait
+pub mod ReachLaws
 pub mod Reached
 pub mod Unmarked
 pub mod VisitLaws

@@ -1,14 +1,17 @@
 -- The loop of `keeps`: its locals stand for the search after some number of visits, and what it has judged, with the places
 -- that wait, is what is marked. That the places that wait are in range is `NeverMoreWait`. Assumes nothing.
-use Prim.Native.Nat.{ℕ, zero, suc, _+_, _-_, _*_, _<_, _≤_}
+use Prim.Native.Nat.{ℕ, zero, suc, _+_, _-_, _*_, _%_, _<_, _≤_}
 use mathlib.Core.Path.{_≡_, refl, sym, ap, _∙_}
-use mathlib.Core.Bool.{Bool, true, false, _&&_}
+use mathlib.Core.Bool.{Bool, true, false, not, _&&_}
 use mathlib.Core.Logic.{⊎-elim}
 use mathlib.Core.List.{List, [], _∷_}
-use native.Mathlib.Nat.{zero-add, suc-add}
+use native.Mathlib.Nat.{zero-add, suc-add, mod-eq-of-lt}
+use native.Mathlib.Decide.{decLe}
 use native.Mathlib.Omega.{arith}
 use lib.ListN.{length, getD, set, replicate, length-set}
 use lib.Seq.{getD-set-same}
+use lib.Dec.{leb}
+use borrow.Author.Tests.{le-leb, lt-leb}
 use mir.Syntax.{w64}
 use mir.Val.{Fits}
 use Rattle.net.specs.Choice.{choose, both}
@@ -26,7 +29,7 @@ use Rattle.keeping.proofs.NeverMoreWait.{neverMoreWait}
 use Rattle.keeping.proofs.WorklistLaws.{tops, tops-length, tops-last, searchOf, met-before, met-new, put-is}
 
 -- ---- truth values
-same : (a b : Bool) → (a ≡ true → b ≡ true) → (b ≡ true → a ≡ true) → a ≡ b
+pub same : (a b : Bool) → (a ≡ true → b ≡ true) → (b ≡ true → a ≡ true) → a ≡ b
 same true b f g = sym (f refl)
 same false true f g = g refl
 same false false f g = refl
@@ -109,12 +112,12 @@ unfolding visits
 visits-last code zero s = refl
 visits-last code (suc k) s = visits-last code k (visit code s)
 
-visits-more : (code : List Instruction) (k m : ℕ) (s : Search) → visits (k + m) code s ≡ visits m code (visits k code s)
+pub visits-more : (code : List Instruction) (k m : ℕ) (s : Search) → visits (k + m) code s ≡ visits m code (visits k code s)
 unfolding visits
 visits-more code zero m s = rw zero-add
 visits-more code (suc k) m s = rw suc-add (visits-more code k m (visit code s))
 
-nothing-waits : (code : List Instruction) (m : ℕ) (s : Search) → s .waiting ≡ [] → visits m code s .marks ≡ s .marks
+pub nothing-waits : (code : List Instruction) (m : ℕ) (s : Search) → s .waiting ≡ [] → visits m code s .marks ≡ s .marks
 unfolding visits visit visitFirst
 nothing-waits code zero s e = refl
 nothing-waits code (suc m) s e = rw e (nothing-waits code m (record { marks = s .marks; waiting = [] }) refl)
@@ -188,6 +191,28 @@ unfolding startedAt searchOf tops
 underway-first code p a row waiting low e =
     let met = met-new (record { marks = replicate 512 false; waiting = [] }) p low (unmarked-at 512 (p .0)) in
     rw e (rw met at (begun code p a row))
+
+unset-again : (n i : ℕ) → set (replicate n false) i false ≡ replicate n false
+unset-again zero i = refl
+unset-again (suc n) zero = refl
+unset-again (suc n) (suc i) = ap (λ (ms : List Bool). false ∷ ms) (unset-again n i)
+
+-- the same from any place: past the code nothing is marked, and none waits
+pub underway-from : (code : List Instruction) (p : Place) (a : Locality) (row : Row) (waiting : List Place) (count : ℕ)
+    → count ≡ choose (leb 512 (p .0)) 0 1 → getD waiting 0 (record { 0 = 0 }) ≡ p
+    → Underway code (placeOf (p .0)) a row (searchOf (set (replicate 512 false) (p .0 % 512) (not (leb 512 (p .0)))) waiting count) true
+unfolding choose startedAt searchOf tops
+underway-from code p a row waiting count c e =
+    elim (decLe 512 (p .0)) [
+      | yes h ↦
+          let none : count ≡ 0 = rw (le-leb 512 (p .0) h) at c in
+          let met = met-before (record { marks = replicate 512 false; waiting = [] }) p (λ low. absurd (omega arith)) in
+          rw (le-leb 512 (p .0) h, none, unset-again 512 (p .0 % 512)) (rw met at (begun code p a row))
+      | no n ↦
+          let low : p .0 < 512 = omega arith in
+          let one : count ≡ 1 = rw (lt-leb 512 (p .0) low) at c in
+          rw (lt-leb 512 (p .0) low, one, mod-eq-of-lt low) (underway-first code p a row waiting low e)
+    ]
 
 pub all-judged : (code : List Instruction) (p : Place) (a : Locality) (row : Row) (marks : List Bool) (waiting : List Place) (count : ℕ) (ok : Bool)
     → Underway code (placeOf (p .0)) a row (searchOf marks waiting count) ok → count ≤ 0 → ok ≡ keepsOf code p a row

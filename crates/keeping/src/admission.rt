@@ -1,14 +1,19 @@
 // Admission (document 01, "Reaching and rights"): whether the processes of a net keep within the rows of their nodes,
 // each within the row for its origin (document 02, slip 10).
+use crate::reaching::follow;
+use crate::reaching::waiting_more;
 use crate::rights::keeps;
+use crate::rights::permitted;
 use net::instruction::Instruction;
 use net::locality::Locality;
 use net::network::Net;
 use net::node::Node;
 use net::process::Process;
-ghost use Prim.Native.Nat.{_<_};
+ghost use Prim.Native.Nat.{_*_, _≤_};
 ghost use mathlib.Core.Path.{_≡_};
-ghost use Rattle.keeping.specs.Admission.{admitsProcess, admitsNode, admitsAt, admits};
+ghost use lib.Dec.{ltb};
+ghost use Rattle.net.specs.Choice.{choose};
+ghost use Rattle.keeping.specs.Admission.{admitsProcess, admits};
 
 // Whether a process of the node x at address a keeps within the row for its origin.
 pub fn admits_process(code: [Instruction; 512], x: Node, a: Locality, p: Process) -> bool
@@ -23,46 +28,62 @@ pub fn admits_process(code: [Instruction; 512], x: Node, a: Locality, p: Process
     }
 }
 
-// Whether each process of a node does.
-fn admits_node(code: [Instruction; 512], a: Locality, x: Node) -> bool
-    ensures { λ r. ⌜ r ≡ admitsNode code a x ⌝ }
+// How many process slots n addresses have, four each; of the addresses 16 count at most.
+fn slots_of(n: usize) -> usize
+    ensures { λ r. ⌜ (r ≡ choose (ltb n 16) (4 * n) 64) × (r ≤ 64) ⌝ }
 {
-    let mut ok = true;
-    let mut i = 0;
-    while i < 4 {
-        let p = x.processes[i];
-        let good = admits_process(code, x, a, p);
-        ok = ok & good;
-        i += 1;
-    }
-    ok
+    if n < 16 { 4 * n } else { 64 }
 }
 
-// The same at an address, where it is in use.
-fn admits_at(net: Net, a: Locality) -> bool
-    requires { ⌜ a .0 < 16 ⌝ }
-    ensures { λ r. ⌜ r ≡ admitsAt net a ⌝ }
-{
-    let at = a.0 as usize;
-    let code = net.code;
-    let node = net.nodes[at];
-    if at < net.addresses {
-        admits_node(code, a, node)
-    } else {
-        true
-    }
-}
-
-// Whether each starting process of a net does.
+// Whether each starting process of a net does: the search of `keeps` for each busy slot of the addresses in use, one after
+// the other. The net stays in this one function, because a parameter is copied.
 pub fn admitted(net: Net) -> bool
     ensures { λ r. ⌜ r ≡ admits net ⌝ }
 {
+    let slots = slots_of(net.addresses);
     let mut ok = true;
-    let mut i: usize = 0;
-    while i < 16 {
-        let good = admits_at(net, Locality(i as u8));
-        ok = ok & good;
-        i += 1;
+    let mut node = Node::zero();
+    let mut slot: usize = 0;
+    while slot < slots {
+        let host = slot / 4;
+        if slot % 4 == 0 {
+            node = net.nodes[host];
+        }
+        let process = node.processes[slot % 4];
+        if process.busy {
+            let a = Locality(host as u8);
+            let row = node.row_for(process);
+            let from = process.at;
+            let start = from.0 as usize;
+            let past = 512 <= start;
+            let mut marks = [false; 512];
+            let mut waiting = [from; 512];
+            let mut count = waiting_more(past);
+            let mut within = true;
+            marks[start % 512] = !past;
+            while 0 < count {
+                let top = count - 1;
+                let place = waiting[top];
+                let at = place.0 as usize;
+                let instruction = net.code[at];
+                let action = instruction.action;
+                let good = permitted(row, a, action);
+                within = within & good;
+                let on = follow(action, place);
+                let first = on.first;
+                let i = first.0 as usize;
+                let next = top + waiting_more(marks[i]);
+                marks[i] = true;
+                waiting[top] = first;
+                let second = on.second;
+                waiting[next] = second;
+                let j = second.0 as usize;
+                count = next + waiting_more(marks[j]);
+                marks[j] = true;
+            }
+            ok = ok & within;
+        }
+        slot += 1;
     }
     ok
 }

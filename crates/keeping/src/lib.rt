@@ -1,5 +1,5 @@
 // Reaching and rights (document 01, "Reaching and rights"). What the crates above may rest on is `KeepingPromise` of
 // specs/.
 pub mod admission;
-mod reaching;
+pub mod reaching;
 pub mod rights;

@@ -1,8 +1,10 @@
 // Reaching (document 01, "Reaching and rights"): where a process goes on from a place.
 use net::instruction::Action;
+use net::instruction::Instruction;
 use net::locality::Place;
 ghost use mathlib.Core.Path.{_≡_};
 ghost use Rattle.net.specs.Choice.{choose};
+ghost use Rattle.keeping.specs.Reaching.{reachedOf};
 ghost use Rattle.keeping.specs.Worklist.{lowOr, onwardTo, Leads};
 
 // The places that follow an action, each below 512. Where there is no first or no second one, or none below 512,
@@ -50,4 +52,37 @@ pub fn waiting_more(marked: bool) -> usize
     ensures { λ r. ⌜ r ≡ choose marked 0 1 ⌝ }
 {
     if marked { 0 } else { 1 }
+}
+
+// The places reached from a place: the search of `keeps` without its judgement.
+pub fn reached(code: [Instruction; 512], p: Place) -> [bool; 512]
+    ensures { λ r. ⌜ r ≡ reachedOf code p ⌝ }
+{
+    let mut marks = [false; 512];
+    let start = p.0 as usize;
+    if 512 <= start {
+        return marks;
+    }
+    let mut waiting = [p; 512];
+    let mut count: usize = 1;
+    marks[start] = true;
+    while 0 < count {
+        let top = count - 1;
+        let place = waiting[top];
+        let at = place.0 as usize;
+        let instruction = code[at];
+        let action = instruction.action;
+        let on = follow(action, place);
+        let first = on.first;
+        let i = first.0 as usize;
+        let next = top + waiting_more(marks[i]);
+        marks[i] = true;
+        waiting[top] = first;
+        let second = on.second;
+        waiting[next] = second;
+        let j = second.0 as usize;
+        count = next + waiting_more(marks[j]);
+        marks[j] = true;
+    }
+    marks
 }

@@ -133,7 +133,7 @@ fn may_send_at(row: Row, t: Target, a: Locality) -> bool
 }
 
 // Whether a row of address a grants what an action needs.
-fn permitted(row: Row, a: Locality, action: Action) -> bool
+pub(crate) fn permitted(row: Row, a: Locality, action: Action) -> bool
     ensures { λ r. ⌜ r ≡ permits row a action ⌝ }
 {
     match action {

@@ -1,5 +1,5 @@
 -- `image::entries::beyond_row` meets its contract. Assumes nothing.
-use Rattle.image.proofs.LayoutLaws.{beyond-end, beyond-entry}
+use Rattle.image.proofs.LayoutLaws.{all-entries, beyond-end, beyond-entry}
 use borrow.Author.Needs.{needs}
 use Rattle.image.proofs.entries.beyond_row.Statement.{statement}
 use Rattle.image.proofs.entries.beyond_row.Tie as tie
@@ -13,5 +13,5 @@ beyond-row-spec =
     (λ c κs. search needs)
     (λ c. search needs)
     (λ c κs. search needs)
-    (λ c. search (needs, beyond-end))
-    (λ c. search (needs, beyond-entry)))
+    (λ c. search (needs, beyond-end, all-entries))
+    (λ c. search (needs, beyond-entry, all-entries)))

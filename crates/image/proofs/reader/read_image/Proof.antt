@@ -1,5 +1,5 @@
 -- `image::reader::read_image` meets its contract. Assumes nothing.
-use Rattle.image.proofs.LayoutLaws.{opened-at, opened-failed}
+use Rattle.image.proofs.LayoutLaws.{opened-whole, opened-not}
 use borrow.Author.Needs.{needs}
 use Rattle.image.proofs.reader.read_image.Statement.{statement}
 use Rattle.image.proofs.reader.read_image.Tie as tie
@@ -9,9 +9,9 @@ read-image-spec =
     tie.close
     (tie.spec
     (λ c κs. search needs)
-    (λ c. search needs)
     (λ c κs. search needs)
-    (λ c. search needs)
     (λ c κs. search needs)
-    (λ c. search (needs, opened-at))
-    (λ c. search (needs, opened-failed)))
+    (λ c κs. search needs)
+    (λ c κs. search needs)
+    (λ c. search (needs, opened-not))
+    (λ c. search (needs, opened-whole)))

@@ -1,9 +1,10 @@
 -- `image::stores::read_store` meets its contract. Assumes nothing.
 use Rattle.readers.proofs.ReaderLaws.{begin, turn, every}
-use Rattle.image.proofs.ImageLaws.{tuple-turn}
+use Rattle.image.proofs.ImageLaws.{tuple-turn, tuple-over}
 use Rattle.bitreader.specs.Progress.{seen}
 use Rattle.readers.specs.Progress.{Loop}
 use Prim.Native.Nat.{_-_}
+use mathlib.Core.Logic.{⊎-elim}
 use Rattle.image.specs.Image.{stored}
 use borrow.Author.Needs.{needs}
 use Rattle.image.proofs.stores.read_store.Statement.{statement}
@@ -24,8 +25,10 @@ read-store-spec =
     (λ c. search (needs, begin))
     (λ c κs. search needs)
     (λ c κs. search needs)
-    (λ c κs. search needs)
     (λ c. search needs)
     (λ c. search needs)
-    (λ c. search (needs, turn, tuple-turn))
+    (λ c. search needs)
+    (λ c. search needs)
+    (λ c. search needs)
+    (λ c. ⊎-elim (λ w. search (needs, turn, tuple-turn)) (λ w. search (needs, turn, tuple-over)) (c .if1 .came))
     (λ c. search (needs, every)))
