@@ -32,10 +32,10 @@ use Rattle.step.proofs.SoundRequests.{bound, RequestOk, request-ok}
 use Rattle.step.proofs.Stores.{stored-same}
 
 -- ---- an answer's net
-record Kept (r : Picked) : Type 0 where
-  net-ok : NetOk (r .net)
+pub record Kept (r : Picked) : Type 0 where
+  pub net-ok : NetOk (r .net)
 
-same-kept : (s : Net) (x : Answer) → NetOk s → Kept (unchanged x s)
+pub same-kept : (s : Net) (x : Answer) → NetOk s → Kept (unchanged x s)
 unfolding unchanged
 same-kept s x ok = record { net-ok = ok }
 
@@ -117,7 +117,7 @@ module _
         chosen-lt Kept (s .addresses) 16 _ _
         (λ room. performed-kept _ (created-kept s ok a i p v q hosted room running h)) (λ _. same-kept s _ ok)
 
-    done-kept : (e : Evaluated) (r : Request) → RequestOk a (s .addresses) (s .length) e r → Kept (carriedOut s a i p e r)
+    pub done-kept : (e : Evaluated) (r : Request) → RequestOk a (s .addresses) (s .length) e r → Kept (carriedOut s a i p e r)
     unfolding carriedOut RequestOk input read eval fork
     done-kept e Request.Lack h = same-kept s _ ok
     done-kept e Request.Stop h = stopped-kept
@@ -138,7 +138,7 @@ module _
         (λ _. same-kept s _ ok)
 
 -- ---- a pick
-slot-below : (b : ℕ) → slotOf b < 4
+pub slot-below : (b : ℕ) → slotOf b < 4
 unfolding slotOf
 slot-below b = omega arith
 

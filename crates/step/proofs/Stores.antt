@@ -20,7 +20,7 @@ use Rattle.net.proofs.Past.{pastNode}
 use Rattle.step.specs.Types.{Locality, Group, Tuple, Process, Node, Net}
 use Rattle.step.specs.Pick.{withHost, added, addedAll}
 
--- ---- a change of a process leaves the tuples
+-- ---- a change of a process leaves the rows and the tuples
 same-at :
     {A B : Type 0} (f : A → B) (xs : List A) (a l : ℕ) (y d : A) → f y ≡ f (getD xs a d)
     → f (getD (set xs a y) l d) ≡ f (getD xs l d)
@@ -30,6 +30,10 @@ same-at {A} {B} f xs a l y d e =
     ∙ List·getD-map f xs l d
 
 module _ (s : Net) (a l : Locality) (i : ℕ) (p : Process) where
+  pub rows-same : nodeAt (withHost s a i p) l .rows ≡ nodeAt s l .rows
+  unfolding withHost withNode withProcess nodeAt
+  rows-same = same-at (λ x. x .rows) (s .nodes) (a .0) (l .0) _ _ refl
+
   pub stored-same : nodeAt (withHost s a i p) l .stored ≡ nodeAt s l .stored
   unfolding withHost withNode withProcess nodeAt
   stored-same = same-at (λ x. x .stored) (s .nodes) (a .0) (l .0) _ _ refl

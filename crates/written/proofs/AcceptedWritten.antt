@@ -7,8 +7,8 @@ use mathlib.Core.List.{List}
 use mathlib.Core.Logic.{_⊎_, inl, inr}
 use native.Mathlib.Omega.{arith}
 use lib.ListN.{length}
-use Rattle.net.specs.Choice.{choose, all}
-use Rattle.net.specs.Records.{emptyNet, addressOf}
+use Rattle.net.specs.Choice.{choose}
+use Rattle.net.specs.Records.{emptyNet}
 use Rattle.sound.specs.Soundness.{soundOf}
 use Rattle.written.specs.Types.{Net}
 use Rattle.readers.specs.Reader.{Parsed, got, fault, Reader, pure, andThen, requireIn, require, faultAt, _>>=_, _>>_}
@@ -20,15 +20,16 @@ use Rattle.keeping.specs.Admission.{admits}
 use Rattle.image.specs.Image.{beyondRow, refused, accepted, judgedNet, openedOf}
 use Rattle.accepted.specs.ImageClaims.{AcceptedIsSound}
 use Rattle.written.specs.ImageOf.{netBits, imageOf}
-use Rattle.fresh.specs.Fresh.{netFits, startsAt, freshOf}
+use Rattle.fresh.specs.Fresh.{freshOf}
 use Rattle.written.specs.WrittenClaims.{Bytes, AcceptedIsWritten, WrittenIsBytes, OneImage, OneNet}
-use Rattle.net.proofs.Laws.{both-i, both-l, both-r, choose-true}
+use Rattle.net.proofs.Laws.{both-i, choose-true}
 use Rattle.accepted.proofs.AcceptedSound.{accepted-is-sound}
 use Rattle.readers.proofs.ReaderLaws.{no-fault}
 use Rattle.written.proofs.BitsAt.{BitsAt}
 use Rattle.written.proofs.WrittenNet.{body}
 use Rattle.written.proofs.WrittenWhole.{NetOk, reads-body}
 use Rattle.written.proofs.WrittenBytes.{bytes-small, stands-bytes, bytes-stand, bytes-end}
+use Rattle.written.proofs.FreshFits.{fresh-apart}
 use Rattle.written.proofs.FreshNet.{net-fits, net-starts, fresh-ok}
 
 -- ---- the layout is its body, and then its end
@@ -134,19 +135,22 @@ unfolding freshOf
 fresh-all net ok h a = both-i _ _ (net-fits net ok) (both-i _ _ h (both-i _ _ (net-starts net ok) a))
 
 fresh-only : (net : Net) → freshOf net ≡ true → NetOk net × (admits net ≡ true)
-unfolding freshOf
-fresh-only net h =
-    let g = both-r (netFits net) _ h in
-    let i = both-r (soundOf net) _ g in
-    (fresh-ok net (both-l _ _ h) (both-l _ _ g) (both-l _ _ i), both-r (all 16 (λ a. startsAt net (addressOf a))) _ i)
+fresh-only net h = let g = fresh-apart net h in (fresh-ok net (g .fits) (g .sound) (g .starts), g .admitted)
+
+-- the net of an accepted image is fresh, whether the image is one of bytes or not
+pub accepted-fresh : (s : List ℕ) → openedOf s .answer ≡ Verdict.Accepted → freshOf (openedOf s .net) ≡ true
+unfolding openedOf accepted AcceptedIsSound
+accepted-fresh s e =
+    let (l, a) = judged-only s _ (layout s 0) refl (λ i. record { answer = e i; net = openedOf s .net }) in
+    fresh-all _ (l .net-ok) (accepted-is-sound s e) a
 
 only : (s : List ℕ) (net : Net) → Bytes s → openedOf s ≡ accepted net → (freshOf net ≡ true) × (s ≡ imageOf net)
-unfolding openedOf imageOf accepted AcceptedIsSound
+unfolding openedOf imageOf accepted
 only s net b e =
-    let (l, a) = judged-only s net (layout s 0) refl e in
-    let h : soundOf net ≡ true =
-    ap soundOf (sym (ap (λ (r : Opened). r .net) e)) ∙ accepted-is-sound s (ap (λ (r : Opened). r .answer) e) in
-    (fresh-all net (l .net-ok) h a, stands-bytes s (netBits net) (l .stands) (l .ends) b)
+    let (l, _) = judged-only s net (layout s 0) refl e in (
+      ap freshOf (sym (ap (λ (r : Opened). r .net) e)) ∙ accepted-fresh s (ap (λ (r : Opened). r .answer) e),
+      stands-bytes s (netBits net) (l .stands) (l .ends) b,
+    )
 
 pub fresh-accepted : (net : Net) → freshOf net ≡ true → openedOf (imageOf net) ≡ accepted net
 unfolding openedOf imageOf judgedNet

@@ -1,5 +1,5 @@
--- The test of fit (`specs/Fresh.antt`) taken apart: a record that passes it has the lengths of its type, its readings have
--- 32 bits and its sets 16. Assumes nothing.
+-- The test of fit (`Fresh.antt` of `fresh`) taken apart: a record that passes it has the lengths of its type, its readings have
+-- 32 bits and its sets 16; and a fresh net in its parts. Assumes nothing.
 use Prim.Native.Nat.{ℕ, _<_}
 use mathlib.Core.Path.{_≡_}
 use mathlib.Core.Bool.{true}
@@ -11,8 +11,10 @@ use Rattle.net.specs.Records.{fieldAt, patternAt, rowAt, processAt, tupleAt, no
 use Rattle.net.specs.Shape.{ShapedTuple, ShapedRow, ShapedProcess, ShapedNode, ShapedInstruction, Shaped}
 use Rattle.written.specs.Types.{Tuple, Row, Process, Node, Instruction, Net}
 use Rattle.fresh.specs.Fresh.{itemFits, patternFits, tupleFits, processFits, rowFits, nodeFits, actionFits, instructionFits}
-use Rattle.fresh.specs.Fresh.{netFits}
+use Rattle.fresh.specs.Fresh.{netFits, startsAt, freshOf}
 use Rattle.net.proofs.Laws.{both-l, both-r, all-e}
+use Rattle.keeping.specs.Admission.{admits}
+use Rattle.sound.specs.Soundness.{soundOf}
 
 pub record TupleFit (t : Tuple) : Type 0 where
   pub shaped : ShapedTuple t
@@ -93,4 +95,26 @@ net-fit s h =
       };
       each-node = each-node;
       each-instruction = each-instruction;
+    }
+
+-- ---- a fresh net
+pub record FreshParts (s : Net) : Type 0 where
+  pub fits : netFits s ≡ true
+  pub shaped : Shaped s
+  pub sound : soundOf s ≡ true
+  pub starts : all 16 (λ a. startsAt s (addressOf a)) ≡ true
+  pub admitted : admits s ≡ true
+
+pub fresh-apart : (s : Net) → freshOf s ≡ true → FreshParts s
+unfolding freshOf
+fresh-apart s h =
+    let fits = both-l _ _ h in
+    let rest = both-r (netFits s) _ h in
+    let last = both-r (soundOf s) _ rest in
+    record {
+      fits = fits;
+      shaped = net-fit s fits .shaped;
+      sound = both-l _ _ rest;
+      starts = both-l _ _ last;
+      admitted = both-r (all 16 (λ a. startsAt s (addressOf a))) _ last;
     }

@@ -1,0 +1,7 @@
+pub mod Covering
+pub mod LeanBlind
+pub mod LeanClaims
+pub mod LeanKept
+pub mod LeanStep
+pub mod Settled
+pub mod Within

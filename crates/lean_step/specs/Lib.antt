@@ -1,0 +1,4 @@
+pub mod LeanClaims
+pub mod LeanStep
+pub mod Settled
+pub mod Types
