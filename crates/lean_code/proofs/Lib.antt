@@ -1,0 +1,13 @@
+pub mod Admission
+pub mod BoundLaws
+pub mod CaseLaws
+pub mod FieldCode
+pub mod FieldLaws
+pub mod Firsts
+pub mod HeadLaws
+pub mod NeedLaws
+pub mod PutLaws
+pub mod Rewritten
+pub mod StoredLaws
+pub mod TemplateLaws
+pub mod WordLaws

@@ -1,0 +1,5 @@
+pub mod Fields
+pub mod Heads
+pub mod Needs
+pub mod Ranged
+pub mod Types
