@@ -1,0 +1,57 @@
+-- `lean::rounds::act` meets its contract. Assumes nothing.
+use Rattle.lean.proofs.RoundLaws.{act-stop, act-out, act-take, act-read, act-eval, act-create, act-fork, act-out-all}
+use borrow.Author.Needs.{needs}
+use Rattle.lean.proofs.rounds.act.Statement.{statement}
+use Rattle.lean.proofs.rounds.act.Tie as tie
+
+pub act-spec : {M : Type 1} → statement M
+act-spec =
+    tie.close
+    (tie.spec
+    (λ c. search needs)
+    (λ c. search needs)
+    (λ c. search needs)
+    (λ c κs. search needs)
+    (λ c. search needs)
+    (λ c. search needs)
+    (λ c. search needs)
+    (λ c. search needs)
+    (λ c κs. search needs)
+    (λ c. search needs)
+    (λ c. search needs)
+    (λ c. search needs)
+    (λ c. search needs)
+    (λ c κs. search needs)
+    (λ c. search needs)
+    (λ c. search needs)
+    (λ c. search needs)
+    (λ c. search needs)
+    (λ c κs. search needs)
+    (λ c. search needs)
+    (λ c. search needs)
+    (λ c. search needs)
+    (λ c. search needs)
+    (λ c. search needs)
+    (λ c. search needs)
+    (λ c κs. search needs)
+    (λ c. search needs)
+    (λ c. search needs)
+    (λ c κs. search needs)
+    (λ c. search needs)
+    (λ c. search needs)
+    (λ c κs. search needs)
+    (λ c. search needs)
+    (λ c. search needs)
+    (λ c. search needs)
+    (λ c. search needs)
+    (λ c. search needs)
+    (λ c. search needs)
+    (λ c κs. search needs)
+    (λ c. search (needs, act-stop))
+    (λ c. search (needs, act-out))
+    (λ c. search (needs, act-take))
+    (λ c. search (needs, act-read))
+    (λ c. search (needs, act-eval))
+    (λ c. search (needs, act-create))
+    (λ c. search (needs, act-fork))
+    (λ c. search (needs, act-out-all)))
