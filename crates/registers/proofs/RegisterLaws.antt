@@ -9,19 +9,20 @@ use native.Mathlib.Decide.{decLe}
 use lib.ListN.{length, getD, take, length-map, List·getD-append}
 use lib.Seq.{sets-eq}
 use lib.Dec.{leb}
-use borrow.Author.Tests.{lt-leb}
+use borrow.Author.Tests.{le-leb, lt-leb}
 use Rattle.net.specs.Choice.{choose}
-use Rattle.net.proofs.Laws.{choose-false}
+use Rattle.net.proofs.Laws.{choose-true, choose-false}
 use Rattle.text.specs.Buffer.{over}
 use Rattle.text.specs.Writing.{Wrote}
 use Rattle.text.proofs.WritingLaws.{wrote-length, joined-same}
 use Rattle.image.specs.Image.{openedOf}
 use Rattle.notation.specs.Text.{readOf}
 use Rattle.plans.specs.Answer.{numberOf}
-use Rattle.run.specs.Run.{Outcome, ran, ranFrom, numbers}
-use Rattle.run.specs.Making.{Made}
-use Rattle.run.proofs.CallLaws.{ran-is, refused-is, text-ran-is, text-refused-is, answers-length}
-use Rattle.registers.specs.Types.{Parts, Net, Fault, Opened, Verdict, TextOpened, TextVerdict}
+use Rattle.lean_step.specs.LeanStep.{leanRanFrom}
+use Rattle.lean.specs.Calls.{roomFor, netAfter, answersAfter}
+use Rattle.run.specs.Run.{Outcome, ran, numbers}
+use Rattle.run.proofs.CallLaws.{engine-ran, engine-refused, text-engine-ran, text-engine-refused, engine-length}
+use Rattle.registers.specs.Types.{Parts, Net, Fault, Verdict, TextVerdict}
 use Rattle.lines.specs.Words.{Word, printed}
 use Rattle.lines.specs.Shown.{Shown, unnamed, named, allParts, current}
 use Rattle.lines.specs.Lines.{refusalLine, refusedLine, netLine, madeLine}
@@ -74,31 +75,50 @@ unfolding over
 over-at xs text i h g =
     ap (λ (ys : List ℕ). getD ys i 0) (sets-eq text xs 0 (omega arith)) ∙ List·getD-append text _ 0 i g
 
-module _ (shown : Shown) (s : Net) (picks xs ys : List ℕ) (last : Net) (m : Made s picks xs ys last) (room : length picks ≤ length xs) where
-  numbers-length : length (numbers (ranFrom s picks)) ≡ length picks
-  unfolding numbers
-  numbers-length = length-map (ranFrom s picks .answers) numberOf ∙ answers-length s picks
+-- where there is room for the answers
+module _ (s : Net) (picks xs : List ℕ) (room : length picks ≤ length xs) where
+  pub picks-net : (last after : Net) → last ≡ after → after ≡ netAfter s picks xs → last ≡ leanRanFrom s picks .net
+  unfolding netAfter roomFor
+  picks-net last after d e = d ∙ e ∙ choose-true _ _ _ (le-leb _ _ room)
 
-  lines-same : pickLines picks ys ≡ pickLines picks (numbers (ranFrom s picks))
-  unfolding pickLines
-  lines-same =
-      joined-same (length picks) _ _
-      (λ i h. ap (λ (x : ℕ). madeLine (i + 1) (getD picks i 0) x ∷ [])
-      (ap (λ (zs : List ℕ). getD zs i 0) (m .left-is)
-      ∙ over-at xs _ i (omega (arith, numbers-length)) (omega (arith, numbers-length))))
+  pub picks-answers : (ys : List ℕ) → ys ≡ answersAfter s picks xs → ys ≡ over xs 0 (numbers (leanRanFrom s picks))
+  unfolding answersAfter roomFor
+  picks-answers ys e = e ∙ choose-true _ _ _ (le-leb _ _ room)
 
-  pub register-run :
-      (out₀ out₁ out₂ out₃ : List ℕ) (p q r : ℕ)
-      → Wrote out₀ 0 (printed (netLine (s .addresses) (s .length) ∷ [])) out₁ p
-      → Wrote out₁ p (printed (pickLines picks ys)) out₂ q
-      → Wrote out₂ q (printed (afterLines shown last)) out₃ r
-      → Wrote out₀ 0 (registerIn shown s picks (ran (ranFrom s picks))) out₃ r
-  unfolding registerIn registerLines
-  register-run out₀ out₁ out₂ out₃ p q r a b c =
-      lines-then _ _ _ _ _ _ _ _ a
-      (parts-then printed printed-none printed-both _ _ _ _ _ _ _ _
-      (subst (λ (t : List (List Word)). Wrote out₁ p (printed t) out₂ q) lines-same b)
-      (subst (λ (z : Net). Wrote out₂ q (printed (afterLines shown z)) out₃ r) (m .net-is) c))
+-- the line of a net
+pub start-line :
+    (s t : Net) (xs ys : List ℕ) (r : ℕ) → t ≡ s → Wrote xs 0 (printed (netLine (t .addresses) (t .length) ∷ [])) ys r
+    → Wrote xs 0 (printed (netLine (s .addresses) (s .length) ∷ [])) ys r
+start-line s t xs ys r e w = subst (λ (z : Net). Wrote xs 0 (printed (netLine (z .addresses) (z .length) ∷ [])) ys r) e w
+
+module _
+    (shown : Shown) (s : Net) (picks xs ys : List ℕ) (last : Net) (net-is : last ≡ leanRanFrom s picks .net)
+    (left-is : ys ≡ over xs 0 (numbers (leanRanFrom s picks))) (room : length picks ≤ length xs)
+  where
+    numbers-length : length (numbers (leanRanFrom s picks)) ≡ length picks
+    unfolding numbers
+    numbers-length = length-map (leanRanFrom s picks .answers) numberOf ∙ engine-length s picks
+
+    lines-same : pickLines picks ys ≡ pickLines picks (numbers (leanRanFrom s picks))
+    unfolding pickLines
+    lines-same =
+        joined-same (length picks) _ _
+        (λ i h. ap (λ (x : ℕ). madeLine (i + 1) (getD picks i 0) x ∷ [])
+        (ap (λ (zs : List ℕ). getD zs i 0) left-is
+        ∙ over-at xs _ i (omega (arith, numbers-length)) (omega (arith, numbers-length))))
+
+    pub register-run :
+        (out₀ out₁ out₂ out₃ : List ℕ) (p q r : ℕ)
+        → Wrote out₀ 0 (printed (netLine (s .addresses) (s .length) ∷ [])) out₁ p
+        → Wrote out₁ p (printed (pickLines picks ys)) out₂ q
+        → Wrote out₂ q (printed (afterLines shown last)) out₃ r
+        → Wrote out₀ 0 (registerIn shown s picks (ran (leanRanFrom s picks))) out₃ r
+    unfolding registerIn registerLines
+    register-run out₀ out₁ out₂ out₃ p q r a b c =
+        lines-then _ _ _ _ _ _ _ _ a
+        (parts-then printed printed-none printed-both _ _ _ _ _ _ _ _
+        (subst (λ (t : List (List Word)). Wrote out₁ p (printed t) out₂ q) lines-same b)
+        (subst (λ (z : Net). Wrote out₂ q (printed (afterLines shown z)) out₃ r) net-is c))
 
 -- of the net and the outcome that the image or the text has
 register-as :
@@ -106,37 +126,43 @@ register-as :
     → Wrote xs 0 (registerIn shown t picks y) ys r
 register-as shown picks xs ys r s t x y d e w = rw (← d, ← e) w
 
-module _ (parts : Parts) (site office image picks : List ℕ) (o : Opened) (read : o ≡ openedOf image) (xs ys : List ℕ) (r : ℕ) where
-  pub register-accepted :
-      o .answer ≡ Verdict.Accepted
-      → Wrote xs 0 (registerIn (named parts site office) (o .net) (take 65536 picks) (ran (ranFrom (o .net) (take 65536 picks)))) ys r
-      → Wrote xs 0 (registerAs (named parts site office) image picks) ys r
-  unfolding registerAs
-  register-accepted a w =
-      register-as _ _ xs ys r _ _ _ _ (ap (λ (z : Opened). z .net) read) (ran-is image o read (take 65536 picks) a) w
+module _
+    (parts : Parts) (site office image picks : List ℕ) (answer : Verdict) (s : Net) (judged : answer ≡ openedOf image .answer)
+    (net-is : s ≡ openedOf image .net) (xs ys : List ℕ) (r : ℕ)
+  where
+    pub register-accepted :
+        answer ≡ Verdict.Accepted
+        → Wrote xs 0 (registerIn (named parts site office) s (take 65536 picks) (ran (leanRanFrom s (take 65536 picks)))) ys r
+        → Wrote xs 0 (registerAs (named parts site office) image picks) ys r
+    unfolding registerAs
+    register-accepted a w =
+        register-as _ _ xs ys r _ _ _ _ net-is (engine-ran image answer s judged net-is (take 65536 picks) a) w
 
-  pub register-refused :
-      (f : Fault) → o .answer ≡ Verdict.Refused f → Wrote xs 0 (printed (refusedLine parts f ∷ [])) ys r
-      → Wrote xs 0 (registerAs (named parts site office) image picks) ys r
-  unfolding registerAs registerIn registerLines named
-  register-refused f a w =
-      register-as _ _ xs ys r _ _ _ _ (ap (λ (z : Opened). z .net) read) (refused-is image o read (take 65536 picks) f a) w
+    pub register-refused :
+        (f : Fault) → answer ≡ Verdict.Refused f → Wrote xs 0 (printed (refusedLine parts f ∷ [])) ys r
+        → Wrote xs 0 (registerAs (named parts site office) image picks) ys r
+    unfolding registerAs registerIn registerLines named
+    register-refused f a w =
+        register-as _ _ xs ys r _ _ _ _ net-is (engine-refused image answer s judged net-is (take 65536 picks) f a) w
 
-module _ (parts : Parts) (site office text picks : List ℕ) (o : TextOpened) (read : o ≡ readOf text) (xs ys : List ℕ) (r : ℕ) where
-  pub text-accepted :
-      o .answer ≡ TextVerdict.Accepted
-      → Wrote xs 0 (registerIn (named parts site office) (o .net) (take 65536 picks) (ran (ranFrom (o .net) (take 65536 picks)))) ys r
-      → Wrote xs 0 (registerTextAs (named parts site office) text picks) ys r
-  unfolding registerTextAs
-  text-accepted a w =
-      register-as _ _ xs ys r _ _ _ _ (ap (λ (z : TextOpened). z .net) read) (text-ran-is text o read (take 65536 picks) a) w
+module _
+    (parts : Parts) (site office text picks : List ℕ) (answer : TextVerdict) (s : Net) (judged : answer ≡ readOf text .answer)
+    (net-is : s ≡ readOf text .net) (xs ys : List ℕ) (r : ℕ)
+  where
+    pub text-accepted :
+        answer ≡ TextVerdict.Accepted
+        → Wrote xs 0 (registerIn (named parts site office) s (take 65536 picks) (ran (leanRanFrom s (take 65536 picks)))) ys r
+        → Wrote xs 0 (registerTextAs (named parts site office) text picks) ys r
+    unfolding registerTextAs
+    text-accepted a w =
+        register-as _ _ xs ys r _ _ _ _ net-is (text-engine-ran text answer s judged net-is (take 65536 picks) a) w
 
-  pub text-refused :
-      (n : ℕ) → o .answer ≡ TextVerdict.Refused n → Wrote xs 0 (printed (refusalLine n ∷ [])) ys r
-      → Wrote xs 0 (registerTextAs (named parts site office) text picks) ys r
-  unfolding registerTextAs registerIn registerLines
-  text-refused n a w =
-      register-as _ _ xs ys r _ _ _ _ (ap (λ (z : TextOpened). z .net) read) (text-refused-is text o read (take 65536 picks) n a) w
+    pub text-refused :
+        (n : ℕ) → answer ≡ TextVerdict.Refused n → Wrote xs 0 (printed (refusalLine n ∷ [])) ys r
+        → Wrote xs 0 (registerTextAs (named parts site office) text picks) ys r
+    unfolding registerTextAs registerIn registerLines
+    text-refused n a w =
+        register-as _ _ xs ys r _ _ _ _ net-is (text-engine-refused text answer s judged net-is (take 65536 picks) n a) w
 
 -- ---- without names
 module _ (parts : Parts) (source picks xs ys : List ℕ) (r : ℕ) where
@@ -174,7 +200,7 @@ module _ (parts : Parts) (all : parts ≡ allParts) (source picks xs ys : List �
 -- ---- the picks that count
 pub register-first :
     (picks : List ℕ) (n : ℕ) (shown : Shown) (s : Net) (xs ys : List ℕ) (r : ℕ) → take n picks ≡ take 65536 picks
-    → Wrote xs 0 (registerIn shown s (take n picks) (ran (ranFrom s (take n picks)))) ys r
-    → Wrote xs 0 (registerIn shown s (take 65536 picks) (ran (ranFrom s (take 65536 picks)))) ys r
+    → Wrote xs 0 (registerIn shown s (take n picks) (ran (leanRanFrom s (take n picks)))) ys r
+    → Wrote xs 0 (registerIn shown s (take 65536 picks) (ran (leanRanFrom s (take 65536 picks)))) ys r
 register-first picks n shown s xs ys r e w =
-    subst (λ (p : List ℕ). Wrote xs 0 (registerIn shown s p (ran (ranFrom s p))) ys r) e w
+    subst (λ (p : List ℕ). Wrote xs 0 (registerIn shown s p (ran (leanRanFrom s p))) ys r) e w

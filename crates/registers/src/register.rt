@@ -1,6 +1,6 @@
 // The register of an image or a text and its picks (document 01, "The register").
 use image::reader::Verdict;
-use image::reader::read_image;
+use lean::engine::Engine;
 use lines::lines::put_after;
 use lines::lines::put_net;
 use lines::lines::put_picks;
@@ -10,18 +10,18 @@ use lines::shown::Parts;
 use lines::shown::all_parts;
 use net::network::Net;
 use notation::reading::Verdict as TextVerdict;
-use notation::reading::read_text;
 use run::picks::first_picks;
-use run::run::make;
 ghost use Prim.Native.Nat.{_≤_};
-ghost use mathlib.Core.Bool.{true};
 ghost use mathlib.Core.Path.{_≡_};
+ghost use mathlib.Core.List.{[], _∷_};
 ghost use lib.ListN.{length, take};
 ghost use Rattle.text.specs.Buffer.{over};
 ghost use Rattle.text.specs.Writing.{Wrote};
-ghost use Rattle.sound.specs.Soundness.{soundOf};
-ghost use Rattle.run.specs.Run.{ran, ranFrom};
+ghost use Rattle.lean_step.specs.LeanStep.{leanRanFrom};
+ghost use Rattle.run.specs.Run.{ran, numbers};
 ghost use Rattle.registers.specs.Calls.{writtenIn, registeredOf, registeredNumber, roomNumber};
+ghost use Rattle.lines.specs.Words.{printed};
+ghost use Rattle.lines.specs.Lines.{netLine};
 ghost use Rattle.lines.specs.Shown.{unnamed, named};
 ghost use Rattle.registers.specs.Register.{registerIn, registerAs, registerOf, registerTextAs, registerTextOf, namedRegisterOf, namedRegisterTextOf};
 
@@ -31,39 +31,57 @@ pub enum Registered {
     NoRoom,
 }
 
-// The register of a sound net and at most 65,536 picks.
+// Makes the picks, and gives the net after them.
+fn make_picks(engine: Engine, picks: &[u8], answers: &mut [u8]) -> Net
+    requires { ⌜ length (now picks) ≤ length (now answers) ⌝ }
+    ensures { λ r. ⌜ r ≡ leanRanFrom (engine .net) (now (picks .entry)) .net ⌝ }
+    ensures { λ _. ⌜ now (answers .exit) ≡ over (now (answers .entry)) 0 (numbers (leanRanFrom (engine .net) (now (picks .entry)))) ⌝ }
+{
+    let made = engine.make(picks, answers);
+    let after = made.engine;
+    after.net()
+}
+
+// The line of an engine's net.
+fn put_start(engine: Engine, out: &mut [u8]) -> usize
+    ensures { λ r. ⌜ Wrote (now (out .entry)) 0 (printed (netLine (engine .net .addresses) (engine .net .length) ∷ [])) (now (out .exit)) r ⌝ }
+{
+    let net = engine.net();
+    put_net(out, 0, net.addresses, net.length)
+}
+
+// The register of an engine's net and at most 65,536 picks.
 fn put_run<'a>(
-    net: Net,
+    engine: Engine,
     picks: &[u8],
     parts: Parts,
     site: &'a [u8],
     office: &'a [u8],
     out: &mut [u8],
 ) -> usize
-    requires { ⌜ (soundOf net ≡ true) × (length (now picks) ≤ 65536) ⌝ }
-    ensures { λ r. ⌜ Wrote (now (out .entry)) 0 (registerIn (named parts (now (site .entry)) (now (office .entry))) net (now (picks .entry)) (ran (ranFrom net (now (picks .entry))))) (now (out .exit)) r ⌝ }
+    requires { ⌜ length (now picks) ≤ 65536 ⌝ }
+    ensures { λ r. ⌜ Wrote (now (out .entry)) 0 (registerIn (named parts (now (site .entry)) (now (office .entry))) (engine .net) (now (picks .entry)) (ran (leanRanFrom (engine .net) (now (picks .entry))))) (now (out .exit)) r ⌝ }
 {
     let mut answers = [0u8; 65536];
-    let last = make(net, picks, &mut answers);
-    let first = put_net(out, 0, net.addresses, net.length);
+    let last = make_picks(engine, picks, &mut answers);
+    let first = put_start(engine, out);
     let second = put_picks(out, first, picks, &answers);
     put_after(out, second, parts, site, office, last)
 }
 
-// The register of a sound net and the picks that count.
+// The register of an engine's net and the picks that count.
 fn put_first<'a>(
-    net: Net,
+    engine: Engine,
     picks: &[u8],
     parts: Parts,
     site: &'a [u8],
     office: &'a [u8],
     out: &mut [u8],
 ) -> usize
-    requires { ⌜ soundOf net ≡ true ⌝ }
-    ensures { λ r. ⌜ Wrote (now (out .entry)) 0 (registerIn (named parts (now (site .entry)) (now (office .entry))) net (take 65536 (now (picks .entry))) (ran (ranFrom net (take 65536 (now (picks .entry)))))) (now (out .exit)) r ⌝ }
+    ensures { λ r. ⌜ Wrote (now (out .entry)) 0 (registerIn (named parts (now (site .entry)) (now (office .entry))) (engine .net) (take 65536 (now (picks .entry))) (ran (leanRanFrom (engine .net) (take 65536 (now (picks .entry)))))) (now (out .exit)) r ⌝ }
 {
     let n = first_picks(picks);
-    put_run(net, &picks[..n], parts, site, office, out)
+    put_run(engine, &picks[..n], parts, site, office, out)
 }
 
 // The register of an image and its picks, from the buffer's start.
@@ -77,11 +95,11 @@ fn put_register<'a>(
 ) -> usize
     ensures { λ r. ⌜ Wrote (now (out .entry)) 0 (registerAs (named parts (now (site .entry)) (now (office .entry))) (now (image .entry)) (now (picks .entry))) (now (out .exit)) r ⌝ }
 {
-    let opened = read_image(image);
-    let answer = opened.answer;
-    let net = opened.net;
+    let started = Engine::open(image);
+    let answer = started.answer;
+    let engine = started.engine;
     match answer {
-        Verdict::Accepted => put_first(net, picks, parts, site, office, out),
+        Verdict::Accepted => put_first(engine, picks, parts, site, office, out),
         Verdict::Refused(fault) => put_refused(out, 0, parts, fault),
     }
 }
@@ -97,11 +115,11 @@ fn put_text_register<'a>(
 ) -> usize
     ensures { λ r. ⌜ Wrote (now (out .entry)) 0 (registerTextAs (named parts (now (site .entry)) (now (office .entry))) (now (text .entry)) (now (picks .entry))) (now (out .exit)) r ⌝ }
 {
-    let opened = read_text(text);
-    let answer = opened.answer;
-    let net = opened.net;
+    let started = Engine::open_text(text);
+    let answer = started.answer;
+    let engine = started.engine;
     match answer {
-        TextVerdict::Accepted => put_first(net, picks, parts, site, office, out),
+        TextVerdict::Accepted => put_first(engine, picks, parts, site, office, out),
         TextVerdict::Refused(n) => put_refusal(out, 0, n),
     }
 }

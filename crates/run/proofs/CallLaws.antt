@@ -1,33 +1,27 @@
 -- Laws by which the public calls meet their definitions (`specs/Calls.antt`). Assumes nothing.
-use Prim.Native.Nat.{ℕ, suc, _<_, _≤_}
+use Prim.Native.Nat.{ℕ, suc}
 use mathlib.Core.Path.{_≡_, refl, sym, ap, _∙_}
-use mathlib.Core.Bool.{true, false}
+use mathlib.Core.Bool.{Bool, true, false}
 use mathlib.Core.List.{List, [], _∷_}
 use lib.ListN.{length}
 use lib.Dec.{leb}
-use borrow.Author.Tests.{le-leb, lt-leb}
-use mir.Val.{Val}
-use denote.Laws.{Is}
-use denote.Struct.Declared.{row}
-use Rattle.net.proofs.network.Net as net
+use Rattle.net.specs.Choice.{choose}
 use Rattle.net.specs.Records.{emptyNet}
 use Rattle.sound.specs.Soundness.{soundOf}
 use Rattle.net.proofs.Laws.{choose-true, choose-false}
 use Rattle.image.specs.Image.{openedOf}
 use Rattle.accepted.specs.ImageClaims.{AcceptedIsSound}
 use Rattle.accepted.proofs.AcceptedSound.{accepted-is-sound}
-use Rattle.net.proofs.Lengths.{net-shaped}
 use Rattle.notation.specs.Text.{readOf}
 use Rattle.texts.specs.TextClaims.{TextIsSound}
 use Rattle.texts.proofs.TextClaims.{textIsSound}
+use Rattle.text.specs.Buffer.{over}
+use Rattle.lean_step.specs.LeanStep.{leanRanFrom}
+use Rattle.lean_step.proofs.LeanClaims.{leanIsFirst}
+use Rattle.lean.specs.Calls.{roomFor, netAfter, answersAfter}
 use Rattle.run.specs.Types.{Net, Fault, Opened, Verdict, TextOpened, TextVerdict}
-use Rattle.run.specs.Run.{Outcome, refused, refused-text, ran, answered, ranFrom, runIn, runOf, runTextIn, runTextOf}
+use Rattle.run.specs.Run.{Outcome, refused, refused-text, ran, numbers, answered, ranFrom, runIn, runOf, runTextIn, runTextOf}
 use Rattle.run.specs.Calls.{Finish, Finished, finished, finishedOf, answersIn}
-use Rattle.run.specs.Making.{Startable, Made}
-
--- ---- a net that a running program holds
-pub held-startable : (s : Net) (vs : List Val) → Is (row net.the-type) s vs → soundOf s ≡ true → Startable s
-held-startable s vs held sound = record { shaped = net-shaped s vs held; sound = sound }
 
 -- ---- an image that was read
 module _ (image : List ℕ) (o : Opened) (read : o ≡ openedOf image) where
@@ -47,10 +41,6 @@ module _ (image : List ℕ) (o : Opened) (read : o ≡ openedOf image) where
     unfolding runIn
     ran-is a = ap (λ (x : Verdict). runIn x (o .net) picks) (sym a) ∙ outcome
 
-    pub refused-is : (f : Fault) → o .answer ≡ Verdict.Refused f → refused f ≡ runOf image picks
-    unfolding runIn
-    refused-is f a = ap (λ (x : Verdict). runIn x (o .net) picks) (sym a) ∙ outcome
-
 -- ---- a text that was read
 module _ (text : List ℕ) (o : TextOpened) (read : o ≡ readOf text) where
   pub text-sound : o .answer ≡ TextVerdict.Accepted → soundOf (o .net) ≡ true
@@ -69,21 +59,39 @@ module _ (text : List ℕ) (o : TextOpened) (read : o ≡ readOf text) where
     unfolding runTextIn
     text-ran-is a = ap (λ (x : TextVerdict). runTextIn x (o .net) picks) (sym a) ∙ text-outcome
 
-    pub text-refused-is : (n : ℕ) → o .answer ≡ TextVerdict.Refused n → refused-text n ≡ runTextOf text picks
-    unfolding runTextIn
-    text-refused-is n a = ap (λ (x : TextVerdict). runTextIn x (o .net) picks) (sym a) ∙ text-outcome
+-- ---- what the engine's picks come to: those of the first engine (`LeanIsFirst` of `lean_step`)
+module _ (image : List ℕ) (answer : Verdict) (s : Net) (judged : answer ≡ openedOf image .answer) (net-is : s ≡ openedOf image .net) (picks : List ℕ) where
+  pub engine-ran : answer ≡ Verdict.Accepted → ran (leanRanFrom s picks) ≡ runOf image picks
+  unfolding runOf runIn
+  engine-ran a =
+      ap (λ (t : Net). ran (leanRanFrom t picks)) net-is
+      ∙ ap ran (leanIsFirst .of-image image (sym judged ∙ a) .one-call picks)
+      ∙ ap (λ (x : Verdict). runIn x (openedOf image .net) picks) (sym a ∙ judged)
+
+  pub engine-refused : (f : Fault) → answer ≡ Verdict.Refused f → refused f ≡ runOf image picks
+  unfolding runOf runIn
+  engine-refused f a = ap (λ (x : Verdict). runIn x (openedOf image .net) picks) (sym a ∙ judged)
+
+module _ (text : List ℕ) (answer : TextVerdict) (s : Net) (judged : answer ≡ readOf text .answer) (net-is : s ≡ readOf text .net) (picks : List ℕ) where
+  pub text-engine-ran : answer ≡ TextVerdict.Accepted → ran (leanRanFrom s picks) ≡ runTextOf text picks
+  unfolding runTextOf runTextIn
+  text-engine-ran a =
+      ap (λ (t : Net). ran (leanRanFrom t picks)) net-is
+      ∙ ap ran (leanIsFirst .of-text text (sym judged ∙ a) .one-call picks)
+      ∙ ap (λ (x : TextVerdict). runTextIn x (readOf text .net) picks) (sym a ∙ judged)
+
+  pub text-engine-refused : (n : ℕ) → answer ≡ TextVerdict.Refused n → refused-text n ≡ runTextOf text picks
+  unfolding runTextOf runTextIn
+  text-engine-refused n a = ap (λ (x : TextVerdict). runTextIn x (readOf text .net) picks) (sym a ∙ judged)
 
 -- ---- what the calls give and leave, by what a run comes to
 module _ (y : Outcome) where
-  module _ (s : Net) (picks : List ℕ) where
-    pub ran-finish :
-        (r : Finished) (room : ℕ) → r ≡ finishedOf (ran (ranFrom s picks)) room → ran (ranFrom s picks) ≡ y
-        → r ≡ finishedOf y room
-    ran-finish r room e a = e ∙ ap (λ (x : Outcome). finishedOf x room) a
+  module _ (s : Net) (picks : List ℕ) (a : ran (leanRanFrom s picks) ≡ y) where
+    pub ran-finish : (r : Finished) (room : ℕ) → r ≡ finishedOf (ran (leanRanFrom s picks)) room → r ≡ finishedOf y room
+    ran-finish r room e = e ∙ ap (λ (x : Outcome). finishedOf x room) a
 
-    pub ran-left :
-        (xs ys : List ℕ) → ys ≡ answersIn (ran (ranFrom s picks)) xs → ran (ranFrom s picks) ≡ y → ys ≡ answersIn y xs
-    ran-left xs ys e a = e ∙ ap (λ (x : Outcome). answersIn x xs) a
+    pub ran-left : (xs ys : List ℕ) → ys ≡ answersIn (ran (leanRanFrom s picks)) xs → ys ≡ answersIn y xs
+    ran-left xs ys e = e ∙ ap (λ (x : Outcome). answersIn x xs) a
 
   module _ (r : Finished) (f : Fault) (e : r ≡ finished (Finish.Refused f) emptyNet) (a : refused f ≡ y) where
     pub refused-finish : (room : ℕ) → r ≡ finishedOf y room
@@ -109,33 +117,34 @@ unfolding ranFrom answered
 answers-length s [] = refl
 answers-length s (b ∷ bs) = ap suc (answers-length _ bs)
 
-module _ (s : Net) (picks : List ℕ) where
-  enough : (room : ℕ) → length picks ≤ room → leb (length (ranFrom s picks .answers)) room ≡ true
-  enough room h = ap (λ (n : ℕ). leb n room) (answers-length s picks) ∙ le-leb (length picks) room h
+-- of the engine
+pub engine-length : (s : Net) (picks : List ℕ) → length (leanRanFrom s picks .answers) ≡ length picks
+unfolding leanRanFrom answered
+engine-length s [] = refl
+engine-length s (b ∷ bs) = ap suc (engine-length _ bs)
 
-  too-short : (room : ℕ) → room < length picks → leb (length (ranFrom s picks .answers)) room ≡ false
-  too-short room h = ap (λ (n : ℕ). leb n room) (answers-length s picks) ∙ lt-leb (length picks) room h
+module _ (s : Net) (picks xs : List ℕ) where
+  -- whether there is room for its answers, as `make` of the engine has it
+  room-for : roomFor picks xs ≡ leb (length (leanRanFrom s picks .answers)) (length xs)
+  unfolding roomFor
+  room-for = ap (λ (n : ℕ). leb n (length xs)) (sym (engine-length s picks))
 
-  pub made-finish :
-      (xs ys : List ℕ) (last : Net) → Made s picks xs ys last → length picks ≤ length xs
-      → record { finish = Finish.Complete; net = last } ≡ finishedOf (ran (ranFrom s picks)) (length xs)
-  unfolding finishedOf finished
-  made-finish xs ys last m h =
-      ap {B = Finished} (λ (z : Net). record { finish = Finish.Complete; net = z }) (m .net-is)
-      ∙ sym (choose-true _ _ _ (enough (length xs) h))
+  module _ (room : Bool) (judged : room ≡ roomFor picks xs) where
+    pub made-finish :
+        (last after : Net) → room ≡ true → last ≡ after → after ≡ netAfter s picks xs
+        → record { finish = Finish.Complete; net = last } ≡ finishedOf (ran (leanRanFrom s picks)) (length xs)
+    unfolding finishedOf finished netAfter
+    made-finish last after h d e =
+        ap {B = Finished} (λ (z : Net). record { finish = Finish.Complete; net = z })
+        (d ∙ e ∙ choose-true _ _ _ (sym judged ∙ h))
+        ∙ sym (choose-true _ _ _ (sym room-for ∙ sym judged ∙ h))
 
-  pub made-left :
-      (xs ys : List ℕ) (last : Net) → Made s picks xs ys last → length picks ≤ length xs
-      → ys ≡ answersIn (ran (ranFrom s picks)) xs
-  unfolding answersIn
-  made-left xs ys last m h = m .left-is ∙ sym (choose-true _ _ _ (enough (length xs) h))
+    pub short-finish :
+        (r : Finished) → room ≡ false → r ≡ finished Finish.NoRoom emptyNet
+        → r ≡ finishedOf (ran (leanRanFrom s picks)) (length xs)
+    unfolding finishedOf
+    short-finish r h e = e ∙ sym (choose-false _ _ _ (sym room-for ∙ sym judged ∙ h))
 
-  pub short-finish :
-      (room : ℕ) (r : Finished) → room < length picks → r ≡ finished Finish.NoRoom emptyNet
-      → r ≡ finishedOf (ran (ranFrom s picks)) room
-  unfolding finishedOf
-  short-finish room r h e = e ∙ sym (choose-false _ _ _ (too-short room h))
-
-  pub short-left : (xs : List ℕ) → length xs < length picks → xs ≡ answersIn (ran (ranFrom s picks)) xs
-  unfolding answersIn
-  short-left xs h = sym (choose-false _ _ _ (too-short (length xs) h))
+  pub made-left : (ys : List ℕ) → ys ≡ answersAfter s picks xs → ys ≡ answersIn (ran (leanRanFrom s picks)) xs
+  unfolding answersIn answersAfter numbers
+  made-left ys e = e ∙ ap (λ (b : Bool). choose b (over xs 0 (numbers (leanRanFrom s picks))) xs) room-for

@@ -1,4 +1,3 @@
 pub mod CallLaws
 pub mod FirstPicks
-pub mod RunLaws
 pub mod SoundRuns

@@ -1,4 +1,3 @@
 pub mod Calls
-pub mod Making
 pub mod Run
 pub mod Types

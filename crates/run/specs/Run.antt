@@ -1,28 +1,12 @@
 -- A run (demand 3; document 01, "The tenant rule"): the net of an accepted image, or of an accepted text (document 02,
 -- slip 3), then each pick on the net that the last one left, whatever its answer.
+pub use Rattle.step.specs.Ran.{Ran}
+unfoldable pub use Rattle.step.specs.Ran.{numbers, answered, ranFrom}
 use Prim.Native.Nat.{ℕ}
-use mathlib.Core.List.{List, [], _∷_, map}
+use mathlib.Core.List.{List}
 use Rattle.image.specs.Image.{openedOf}
 use Rattle.notation.specs.Text.{readOf}
-use Rattle.plans.specs.Answer.{numberOf}
-use Rattle.step.specs.Pick.{pickOf}
-use Rattle.run.specs.Types.{Net, Fault, Verdict, TextVerdict, Answer}
-
--- the answers in order, and the final net
-pub record Ran : Type 0 where
-  pub answers : List Answer
-  pub net : Net
-
--- the answers as bytes, by the paper's numbers
-unfoldable pub numbers : Ran → List ℕ
-numbers r = map numberOf (r .answers)
-
-unfoldable pub answered : Answer → Ran → Ran
-answered x r = record { answers = x ∷ r .answers; net = r .net }
-
-unfoldable pub ranFrom : Net → List ℕ → Ran
-ranFrom s [] = record { answers = []; net = s }
-ranFrom s (b ∷ bs) = answered (pickOf s b .answer) (ranFrom (pickOf s b .net) bs)
+use Rattle.run.specs.Types.{Net, Fault, Verdict, TextVerdict}
 
 -- what a run comes to: a refused image makes none, nor does a refused text, of which the number is known alone
 pub data Outcome : Type 0 where

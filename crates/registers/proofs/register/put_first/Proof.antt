@@ -11,6 +11,6 @@ put-first-spec =
     (tie.spec
     (λ c κs. search needs)
     (λ c. search (needs, first-count))
-    (λ c κs. (search needs, search (needs, first-few)))
+    (λ c κs. search (needs, first-few))
     (λ c. search needs)
     (λ c. search (needs, register-first)))

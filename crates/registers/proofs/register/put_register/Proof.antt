@@ -1,5 +1,4 @@
 -- `registers::register::put_register` meets its contract. Assumes nothing.
-use Rattle.run.proofs.CallLaws.{opened-sound}
 use Rattle.registers.proofs.RegisterLaws.{register-accepted, register-refused}
 use borrow.Author.Needs.{needs}
 use Rattle.registers.proofs.register.put_register.Statement.{statement}
@@ -11,7 +10,7 @@ put-register-spec =
     (tie.spec
     (λ c κs. search needs)
     (λ c. search needs)
-    (λ c κs. search (needs, opened-sound))
+    (λ c κs. search needs)
     (λ c. search needs)
     (λ c κs. search needs)
     (λ c. search needs)

@@ -1,5 +1,4 @@
 -- `registers::register::put_run` meets its contract. Assumes nothing.
-use Rattle.run.proofs.CallLaws.{held-startable}
 use Rattle.registers.proofs.RegisterLaws.{register-run}
 use borrow.Author.Needs.{needs}
 use Rattle.registers.proofs.register.put_run.Statement.{statement}
@@ -10,7 +9,7 @@ put-run-spec =
     tie.close
     (tie.spec
     (λ c. search needs)
-    (λ c κs. (search (needs, held-startable), search needs))
+    (λ c κs. search needs)
     (λ c κs. search needs)
     (λ c. search needs)
     (λ c κs. search needs)

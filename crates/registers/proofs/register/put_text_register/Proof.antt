@@ -1,5 +1,4 @@
 -- `registers::register::put_text_register` meets its contract. Assumes nothing.
-use Rattle.run.proofs.CallLaws.{text-sound}
 use Rattle.registers.proofs.RegisterLaws.{text-accepted, text-refused}
 use borrow.Author.Needs.{needs}
 use Rattle.registers.proofs.register.put_text_register.Statement.{statement}
@@ -11,7 +10,7 @@ put-text-register-spec =
     (tie.spec
     (λ c κs. search needs)
     (λ c. search needs)
-    (λ c κs. search (needs, text-sound))
+    (λ c κs. search needs)
     (λ c. search needs)
     (λ c κs. search needs)
     (λ c. search needs)

@@ -1,5 +1,5 @@
 -- `run::run::run` meets its contract. Assumes nothing.
-use Rattle.run.proofs.CallLaws.{opened-sound, ran-is, refused-is, ran-finish, refused-finish, ran-left, refused-left}
+use Rattle.run.proofs.CallLaws.{engine-ran, engine-refused, ran-finish, ran-left, refused-finish, refused-left}
 use borrow.Author.Needs.{needs}
 use Rattle.run.proofs.run.run.Statement.{statement}
 use Rattle.run.proofs.run.run.Tie as tie
@@ -10,9 +10,9 @@ run-spec =
     (tie.spec
     (λ c κs. search needs)
     (λ c. search needs)
-    (λ c κs. search (needs, opened-sound))
+    (λ c κs. search needs)
     (λ c. search needs)
     (λ c κs. search needs)
     (λ c. search needs)
-    (λ c. (search (needs, ran-finish, ran-is), search (needs, ran-left, ran-is)))
-    (λ c. (search (needs, refused-finish, refused-is), search (needs, refused-left, refused-is))))
+    (λ c. (search (needs, ran-finish, engine-ran), search (needs, ran-left, engine-ran)))
+    (λ c. (search (needs, refused-finish, engine-refused), search (needs, refused-left, engine-refused))))

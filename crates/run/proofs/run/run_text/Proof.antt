@@ -1,6 +1,5 @@
 -- `run::run::run_text` meets its contract. Assumes nothing.
-use Rattle.run.proofs.CallLaws.{text-sound, text-ran-is, text-refused-is}
-use Rattle.run.proofs.CallLaws.{ran-finish, text-refused-finish, ran-left, text-refused-left}
+use Rattle.run.proofs.CallLaws.{text-engine-ran, text-engine-refused, ran-finish, ran-left, text-refused-finish, text-refused-left}
 use borrow.Author.Needs.{needs}
 use Rattle.run.proofs.run.run_text.Statement.{statement}
 use Rattle.run.proofs.run.run_text.Tie as tie
@@ -11,9 +10,9 @@ run-text-spec =
     (tie.spec
     (λ c κs. search needs)
     (λ c. search needs)
-    (λ c κs. search (needs, text-sound))
+    (λ c κs. search needs)
     (λ c. search needs)
     (λ c κs. search needs)
     (λ c. search needs)
-    (λ c. (search (needs, ran-finish, text-ran-is), search (needs, ran-left, text-ran-is)))
-    (λ c. (search (needs, text-refused-finish, text-refused-is), search (needs, text-refused-left, text-refused-is))))
+    (λ c. (search (needs, ran-finish, text-engine-ran), search (needs, ran-left, text-engine-ran)))
+    (λ c. (search (needs, text-refused-finish, text-engine-refused), search (needs, text-refused-left, text-engine-refused))))
