@@ -39,6 +39,13 @@ pub fn put_four(out: &mut [u8], at: usize, x: u32) -> usize {
     put_two(out, next, high)
 }
 
+pub fn put_eight(out: &mut [u8], at: usize, x: u64) -> usize {
+    let low = (x % 4294967296) as u32;
+    let high = (x / 4294967296) as u32;
+    let next = put_four(out, at, low);
+    put_four(out, next, high)
+}
+
 // A kind in one byte, then a number in four.
 pub fn put_kind(out: &mut [u8], at: usize, kind: u8, value: u32) -> usize {
     let next = put(out, at, kind);

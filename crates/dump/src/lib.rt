@@ -37,7 +37,9 @@ use net::network::Net;
 
 pub mod bytes;
 mod code;
+pub mod digest;
 mod nodes;
+pub mod taken;
 
 fn put_nodes(out: &mut [u8], at: usize, net: Net) -> usize {
     let mut next = at;

@@ -1,9 +1,9 @@
 // Instructions from their bytes (the layout stands in the crate `dump`). Any byte gives some record.
-use crate::bytes::byte_at;
-use crate::bytes::count_at;
-use crate::bytes::past;
-use crate::bytes::reading_at;
-use crate::bytes::two_at;
+use dump::taken::byte_at;
+use dump::taken::count_at;
+use dump::taken::past;
+use dump::taken::reading_at;
+use dump::taken::two_at;
 use net::instruction::Action;
 use net::instruction::Instruction;
 use net::instruction::Pattern;

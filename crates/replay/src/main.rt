@@ -2,8 +2,9 @@
 // `dump` lays it out, the number of picks, 2 bytes little-endian, and the picks. For each pick it writes the
 // answer's number, 1 byte, and the digest of the counts and nodes after it, 8 bytes little-endian; after the
 // last pick of a record the whole net. It ends where the input does.
+use dump::digest::put_digest;
 use dump::put_net;
-use dump::put_state;
+use dump::taken::two_at;
 use files::print;
 use files::read_first;
 use net::network::Net;
@@ -12,51 +13,15 @@ use plans::answer::number_of;
 use restore::net_of;
 use step::machine::Machine;
 
-mod bytes;
 mod code;
 mod nodes;
 mod restore;
-
-// A digest with one byte more; the prime is 2^56 - 5.
-fn mixed(digest: u64, b: u8) -> u64 {
-    let low = digest % 72057594037927931;
-    let byte = b as u64;
-    low * 256 + byte
-}
-
-fn digest_of(s: &[u8]) -> u64 {
-    let mut digest = 0;
-    let mut i = 0;
-    while i < s.len() {
-        digest = mixed(digest, s[i]);
-        i += 1;
-    }
-    digest
-}
-
-// The digest of what a pick can change.
-fn digest_state(net: Net) -> u64 {
-    let mut out = [0u8; 12820];
-    put_state(&mut out, 0, net);
-    digest_of(&out)
-}
-
-// A number from the second byte on, little-endian.
-fn put_number(out: &mut [u8], number: u64) {
-    let mut rest = number;
-    let mut i = 1;
-    while i < out.len() {
-        out[i] = (rest % 256) as u8;
-        rest = rest / 256;
-        i += 1;
-    }
-}
 
 // Writes a pick's answer and the digest of the net after it; false where that fails.
 fn write_pick(answer: Answer, net: Net) -> bool {
     let mut out = [0u8; 9];
     out[0] = number_of(answer);
-    put_number(&mut out, digest_state(net));
+    put_digest(&mut out, 1, net);
     print(&out)
 }
 
@@ -118,7 +83,7 @@ fn run_next(net: Net, count: usize) -> bool {
 fn take_turn() -> bool {
     let mut head = [0u8; 27670];
     if read_first(&mut head, 27670) {
-        let count = bytes::two_at(&head, 27668);
+        let count = two_at(&head, 27668);
         run_next(net_of(&head), count as usize)
     } else {
         false

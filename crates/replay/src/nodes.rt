@@ -1,10 +1,10 @@
 // Nodes from their bytes (the layout stands in the crate `dump`). Any byte gives some record.
-use crate::bytes::byte_at;
-use crate::bytes::count_at;
-use crate::bytes::flag_at;
-use crate::bytes::past;
-use crate::bytes::reading_at;
-use crate::bytes::two_at;
+use dump::taken::byte_at;
+use dump::taken::count_at;
+use dump::taken::flag_at;
+use dump::taken::past;
+use dump::taken::reading_at;
+use dump::taken::two_at;
 use net::locality::Locality;
 use net::locality::Place;
 use net::node::Node;

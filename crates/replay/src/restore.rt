@@ -1,8 +1,8 @@
 // A net from its bytes (the layout stands in the crate `dump`).
-use crate::bytes::count_at;
-use crate::bytes::two_at;
 use crate::code::instruction_at;
 use crate::nodes::node_at;
+use dump::taken::count_at;
+use dump::taken::two_at;
 use net::network::Net;
 
 fn with_nodes(s: &[u8], net: Net) -> Net {

@@ -1,9 +1,9 @@
--- `replay::digest_of` is safe and ends. Nothing has to hold from turn to turn; the measure is the number of turns left. Assumes nothing.
+-- `dump::digest::digest_of` is safe and ends. Nothing has to hold from turn to turn; the measure is the number of turns left. Assumes nothing.
 use Prim.Native.Nat.{_-_}
 use lib.ListN.{length}
 use borrow.Author.Needs.{needs}
-use Rattle.replay.proofs.digest_of.Statement.{statement}
-use Rattle.replay.proofs.digest_of.Tie as tie
+use Rattle.dump.proofs.digest.digest_of.Statement.{statement}
+use Rattle.dump.proofs.digest.digest_of.Tie as tie
 
 abbrev Inv-loop : tie.InvT-loop
 Inv-loop s digest₀ i₀ digest i = Unit {0}
