@@ -1,11 +1,10 @@
-//! A net as the programs `inspect`, `inspect_text` and `replay` dump it (the
-//! layout stands in crates/dump/src/lib.rt), and what the first two make of
-//! images and of texts.
+//! A net as the programs `inspect`, `inspect_text`, `replay` and `poll` dump it
+//! (the layout stands in crates/dump/src/lib.rt), and what the first two make
+//! of images and of texts.
 
 use crate::net::*;
-use crate::program::start;
-use std::io::{Read, Write};
-use std::process::ChildStdout;
+use crate::program::{feed, Pipe};
+use std::io::Read;
 
 // The byte of a process that is its origin: after its busy mark and place.
 const ORIGIN: usize = 3;
@@ -169,8 +168,8 @@ fn target_bytes(target: Target) -> [u8; 2] {
     }
 }
 
-/// The record that a byte of a dump is of.
-pub fn record_at(byte: usize) -> String {
+// The record that a byte of a dump is of.
+fn record_at(byte: usize) -> String {
     let (counts, nodes, code) = (FORMAT, HEAD, STATE_BYTES);
     if byte < counts {
         "format".to_string()
@@ -182,6 +181,15 @@ pub fn record_at(byte: usize) -> String {
     } else {
         one_of("instruction", byte - code, INSTRUCTION)
     }
+}
+
+/// The first byte in which the dump that a program wrote is not that of a
+/// net, where there is one.
+pub fn difference_of(found: &[u8], net: &Net) -> Option<String> {
+    let expected = dump(net);
+    let at = (0..DUMP_BYTES).find(|at| found[*at] != expected[*at])?;
+    let (program, model, record) = (found[at], expected[at], record_at(at));
+    Some(format!("{record}: program {program}, model {model}"))
 }
 
 // The record that a byte of a node is of.
@@ -218,26 +226,9 @@ pub fn inspect_text(texts: &[Vec<u8>]) -> Vec<Opened> {
     inspect_by("inspect_text", texts, Opened::read)
 }
 
-// What a program makes of each of these. A missing program, or one that
-// writes too little or too much, is a failure.
-fn inspect_by<T>(name: &str, all: &[Vec<u8>], read: fn(&mut ChildStdout) -> T) -> Vec<T> {
-    let mut child = start(name);
-    let mut input = child.stdin.take().expect("the input is a pipe");
-    let mut output = child.stdout.take().expect("the output is a pipe");
-    let opened = std::thread::scope(|scope| {
-        scope.spawn(move || {
-            for one in all {
-                // A program that ends too early is found out below.
-                let _ = input.write_all(&framed(one));
-            }
-        });
-        let opened = all.iter().map(|_| read(&mut output)).collect();
-        assert_eq!(output.read(&mut [0]).ok(), Some(0), "more than the answers");
-        opened
-    });
-    let status = child.wait().expect("it ends");
-    assert!(status.success(), "{name}: {status}");
-    opened
+// What a program makes of each of these.
+fn inspect_by<T>(name: &str, all: &[Vec<u8>], read: fn(&mut Pipe) -> T) -> Vec<T> {
+    feed(name, all, |one| framed(one), |_, output| read(output))
 }
 
 /// An image or a text as these programs take it: its length, then its
@@ -258,7 +249,7 @@ impl Opened {
 
 impl OpenedImage {
     // The number in a byte, the bit in four, the lowest first, and the dump.
-    fn read(output: &mut impl Read) -> OpenedImage {
+    pub(crate) fn read(output: &mut impl Read) -> OpenedImage {
         let [number] = read_bytes(output);
         let bit = u32::from_le_bytes(read_bytes(output)) as usize;
         let dump = read_bytes::<DUMP_BYTES>(output).to_vec();
@@ -266,7 +257,8 @@ impl OpenedImage {
     }
 }
 
-fn read_bytes<const COUNT: usize>(output: &mut impl Read) -> [u8; COUNT] {
+/// The next bytes of a program's output; fewer are a failure.
+pub(crate) fn read_bytes<const COUNT: usize>(output: &mut impl Read) -> [u8; COUNT] {
     let mut bytes = [0; COUNT];
     output.read_exact(&mut bytes).expect("an answer for each");
     bytes

@@ -5,6 +5,7 @@
 pub mod bits;
 pub mod by_hand;
 pub mod by_origin;
+pub mod digest;
 pub mod dump;
 pub mod edges;
 pub mod examples;
@@ -16,6 +17,7 @@ pub mod matching;
 pub mod names;
 pub mod net;
 pub mod notation;
+pub mod poll;
 pub mod program;
 pub mod random;
 pub mod register;

@@ -2,8 +2,9 @@
 
 use crate::stored::repository;
 use std::ffi::OsStr;
+use std::io::{BufReader, Read, Write};
 use std::path::{Path, PathBuf};
-use std::process::{Child, Command, Output, Stdio};
+use std::process::{Child, ChildStdout, Command, Output, Stdio};
 use std::sync::atomic::{AtomicUsize, Ordering};
 use std::{fs, io};
 
@@ -16,11 +17,44 @@ pub fn program(name: &str) -> PathBuf {
     std::path::absolute(directory.join(name)).expect("the path is not empty")
 }
 
-/// Starts a program of the repository with its input and output as pipes.
-pub fn start(name: &str) -> Child {
+// Starts a program of the repository with its input and output as pipes.
+fn start(name: &str) -> Child {
     let mut command = Command::new(program(name));
     command.stdin(Stdio::piped()).stdout(Stdio::piped());
     started(name, command.spawn())
+}
+
+/// What a program writes while it is fed.
+pub type Pipe = BufReader<ChildStdout>;
+
+/// Feeds a program of the repository with records, and reads of its output
+/// what it makes of each. A missing program, or one that writes too little or
+/// too much, is a failure.
+pub fn feed<T: Sync, R>(
+    name: &str,
+    records: &[T],
+    framed: impl Fn(&T) -> Vec<u8> + Send,
+    read: impl Fn(&T, &mut Pipe) -> R,
+) -> Vec<R> {
+    let mut child = start(name);
+    let mut input = child.stdin.take().expect("the input is a pipe");
+    let mut output = BufReader::new(child.stdout.take().expect("the output is a pipe"));
+    // A failure drops the output, which ends the program and so the writing.
+    let made = std::thread::scope(move |scope| {
+        scope.spawn(move || {
+            for record in records {
+                // A program that ends too early is found out below.
+                let _ = input.write_all(&framed(record));
+            }
+        });
+        let read = |record| read(record, &mut output);
+        let made = records.iter().map(read).collect();
+        assert_eq!(output.read(&mut [0]).ok(), Some(0), "more than the answers");
+        made
+    });
+    let status = child.wait().expect("it ends");
+    assert!(status.success(), "{name}: {status}");
+    made
 }
 
 /// What the program `register` prints in a directory.

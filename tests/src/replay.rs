@@ -1,12 +1,13 @@
 //! Picks made by the program `replay`, each compared with the model's.
 
-use crate::dump::{dump, dump_state, record_at, DUMP_BYTES};
+use crate::digest::digest;
+use crate::dump::{difference_of, dump, dump_state, read_bytes, DUMP_BYTES};
 use crate::net::Net;
-use crate::program::start;
+use crate::program::feed;
 use crate::random::Random;
 use crate::sound::sound;
 use crate::step::{pick, step, STOPPED};
-use std::io::{BufReader, Read, Write};
+use std::io::Read;
 
 /// A net and the picks to be made from it, one after another.
 #[derive(Clone, Debug)]
@@ -51,37 +52,34 @@ pub struct Made {
 /// digest of format, counts and nodes are compared after each pick, and the
 /// whole net after each run; a difference is a failure.
 pub fn replay(runs: &[Run]) -> Vec<Made> {
-    let mut child = start("replay");
-    let mut input = child.stdin.take().expect("the input is a pipe");
-    let mut output = BufReader::new(child.stdout.take().expect("the output is a pipe"));
-    // A failure drops the output, which ends the program and so the writing.
-    let made = std::thread::scope(move |scope| {
-        scope.spawn(move || {
-            for run in runs {
-                // A program that ends too early is found out below.
-                let _ = input.write_all(&run.framed());
-            }
-        });
-        let made = runs.iter().map(|run| compare(run, &mut output)).collect();
-        assert_eq!(output.read(&mut [0]).ok(), Some(0), "more than the answers");
-        made
-    });
-    let status = child.wait().expect("replay ends");
-    assert!(status.success(), "replay: {status}");
-    made
+    feed("replay", runs, Run::framed, compare)
+}
+
+/// Makes so many runs, in batches, and says how often each answer was met.
+pub fn replay_many(seed: u64, count: usize, make: fn(&mut Random) -> Run) -> [usize; 11] {
+    met_in_batches(seed, count, make, |runs| {
+        let made = replay(runs).into_iter();
+        made.flat_map(|made| made.answers).collect()
+    })
 }
 
 /// Runs in a batch, which one program makes.
 const BATCH: usize = 100;
 
-/// Makes so many runs, in batches, and says how often each answer was met.
-pub fn replay_many(seed: u64, count: usize, make: fn(&mut Random) -> Run) -> [usize; 11] {
+/// Makes so many of what a program is fed with, in batches, and says how
+/// often each answer was met.
+pub fn met_in_batches<T>(
+    seed: u64,
+    count: usize,
+    make: fn(&mut Random) -> T,
+    answers: impl Fn(&[T]) -> Vec<u8>,
+) -> [usize; 11] {
     let mut random = Random::new(seed);
     let mut met = [0; 11];
     for _ in 0..count / BATCH {
-        let runs: Vec<_> = (0..BATCH).map(|_| make(&mut random)).collect();
-        for answer in replay(&runs).iter().flat_map(|made| &made.answers) {
-            met[*answer as usize] += 1;
+        let batch: Vec<T> = (0..BATCH).map(|_| make(&mut random)).collect();
+        for answer in answers(&batch) {
+            met[answer as usize] += 1;
         }
     }
     met
@@ -130,48 +128,15 @@ fn difference(run: &Run, index: usize, program: u8, model: u8) -> String {
 
 // An answer and a digest.
 fn read_pick(output: &mut impl Read) -> (u8, u64) {
-    let mut bytes = [0; 9];
-    output
-        .read_exact(&mut bytes)
-        .expect("an answer to each pick");
-    let digest = bytes[1..].try_into().expect("eight bytes");
-    (bytes[0], u64::from_le_bytes(digest))
+    let [answer] = read_bytes(output);
+    (answer, u64::from_le_bytes(read_bytes(output)))
 }
 
 fn compare_whole(net: &Net, output: &mut impl Read) {
-    let mut found = vec![0; DUMP_BYTES];
-    output.read_exact(&mut found).expect("a net after each run");
-    let expected = dump(net);
-    if let Some(at) = (0..DUMP_BYTES).find(|at| found[*at] != expected[*at]) {
-        let (program, model) = (found[at], expected[at]);
-        panic!("{}: program {program}, model {model}", record_at(at));
+    let found: [u8; DUMP_BYTES] = read_bytes(output);
+    if let Some(difference) = difference_of(&found, net) {
+        panic!("{difference}");
     }
-}
-
-const PRIME: u64 = (1 << 56) - 5;
-
-/// The digest of bytes, as in crates/replay/src/main.rt: from the first on,
-/// the remainder by the prime of what was made so far, times 256, and the
-/// byte.
-pub fn digest(bytes: &[u8]) -> u64 {
-    match bytes.split_last() {
-        None => 0,
-        Some((last, before)) => remainder(before) * 256 + u64::from(*last),
-    }
-}
-
-// The remainder by the prime of the number that these bytes write, the
-// highest first. As 2^56 leaves 5, seven bytes are taken at a time.
-fn remainder(bytes: &[u8]) -> u64 {
-    let number = |part: &[u8]| {
-        part.iter()
-            .fold(0, |number, byte| number << 8 | u64::from(*byte))
-    };
-    let (first, rest) = bytes.split_at(bytes.len() % 7);
-    let sevens = rest.chunks_exact(7);
-    sevens.fold(number(first), |left, seven| {
-        (left * 5 + number(seven)) % PRIME
-    })
 }
 
 #[cfg(test)]
@@ -214,33 +179,5 @@ mod tests {
         let first = 9 + 4 + 272 + 3;
         let after = |run: &[u8]| [run[first], run[first + 44]];
         assert_eq!([after(&own), after(&foreign)], [[0, 0], [1, 1]]);
-    }
-
-    // Byte by byte, as the program makes it.
-    fn plain_digest(bytes: &[u8]) -> u64 {
-        let add = |digest: u64, byte: &u8| digest % PRIME * 256 + u64::from(*byte);
-        bytes.iter().fold(0, add)
-    }
-
-    #[test]
-    fn seven_bytes_at_a_time_give_the_same_digest() {
-        let mut random = Random::new(26);
-        for length in (0..100).chain([12_819, 12_820]) {
-            let mut bytes = vec![0xFF; length];
-            assert_eq!(digest(&bytes), plain_digest(&bytes));
-            bytes.fill_with(|| random.byte());
-            assert_eq!(digest(&bytes), plain_digest(&bytes));
-        }
-    }
-
-    #[test]
-    fn digests_differ_where_bytes_do() {
-        let bytes = dump_state(&Net::empty());
-        let plain = digest(&bytes);
-        for at in 0..bytes.len() {
-            let mut other = bytes.clone();
-            other[at] += 1;
-            assert_ne!(digest(&other), plain, "byte {at}");
-        }
     }
 }

@@ -12,6 +12,7 @@ use crate::net::*;
 use crate::notation::edges::{deepest, deepest_of_format_2, widest, widest_of_format_2};
 use crate::notation::longest::longest_net;
 use crate::notation::{read_text, text_of};
+use crate::poll::{self, Call, Record, Source};
 use crate::program::{program, TestDirectory};
 use crate::random::Random;
 use crate::register::{register_named, register_text_named, MOST_PICKS};
@@ -23,18 +24,19 @@ use std::process::{Command, Output};
 
 /// Kilobytes of stack that each program has to do with. What it needs is
 /// less: `cargo run --bin measure_stack` says how much.
-pub const BOUNDS: [(&str, usize); 11] = [
-    ("register", 2_048),
+pub const BOUNDS: [(&str, usize); 12] = [
+    ("register", 3_072),
     ("repack", 1_024),
     ("edges", 1_024),
     ("inspect", 1_024),
     ("replay", 1_024),
+    ("poll", 2_048),
     ("inspect_text", 1_024),
     ("pack", 2_048),
     ("unpack", 1_024),
-    ("register_text", 3_072),
+    ("register_text", 4_096),
     ("check_listing", 6_144),
-    ("shares", 1_024),
+    ("shares", 2_048),
 ];
 
 /// A net, and as many picks as a register takes.
@@ -167,6 +169,7 @@ pub fn jobs(name: &str) -> Vec<Job> {
         "edges" => vec![edging()],
         "inspect" => vec![inspecting()],
         "replay" => loads().map(replaying).into(),
+        "poll" => vec![polling()],
         "inspect_text" => vec![inspecting_texts()],
         "register_text" => all_texts().map(|text| registering_text(&text)).collect(),
         "pack" => all_texts().map(|text| packing(&text)).collect(),
@@ -305,6 +308,26 @@ fn replaying(load: Load) -> Job {
     let (net, picks) = (load.net, load.picks[..2_000].to_vec());
     let run = Run { net, picks };
     Job::new(&[], &run.framed(), expected(&run))
+}
+
+// The images of all loads and all texts but the longest, each with a call that
+// has no room and one that has.
+fn polling() -> Job {
+    let images = loads().map(|load| Source::Image(load.image()));
+    let sources = images.into_iter().chain(texts().map(Source::Text));
+    let [_, Load { picks, .. }, ..] = loads();
+    let call = |length| Call {
+        picks: picks[..2_000].to_vec(),
+        length,
+    };
+    let record = |source| Record {
+        source,
+        calls: vec![call(1_999), call(2_000)],
+    };
+    let records: Vec<Record> = sources.map(record).collect();
+    let input: Vec<u8> = records.iter().flat_map(Record::framed).collect();
+    let printed = records.iter().flat_map(poll::expected);
+    Job::new(&[], &input, printed.collect())
 }
 
 /// The least number of kilobytes, to within 4 and at most 65,536, that is

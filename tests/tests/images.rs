@@ -5,7 +5,7 @@
 
 use cavindorum_tests::bits::Sort;
 use cavindorum_tests::by_hand::*;
-use cavindorum_tests::dump::{dump, inspect, record_at, OpenedImage};
+use cavindorum_tests::dump::{difference_of, dump, inspect, OpenedImage};
 use cavindorum_tests::faulty::faulty_images;
 use cavindorum_tests::generate::{damaged, damaged_image, image_net, set_image_net, valid_image};
 use cavindorum_tests::image::{read_image, write_image, write_with_fields};
@@ -45,11 +45,8 @@ fn compare(image: &[u8], found: &OpenedImage) {
     };
     let found_answer = answer_of(found);
     assert_eq!(found_answer, answer, "program, model; image {image:02X?}");
-    let expected = dump(&net);
-    if let Some(at) = (0..expected.len()).find(|at| found.dump[*at] != expected[*at]) {
-        let (program, model) = (found.dump[at], expected[at]);
-        let record = record_at(at);
-        panic!("{record}: program {program}, model {model}; image {image:02X?}");
+    if let Some(difference) = difference_of(&found.dump, &net) {
+        panic!("{difference}; image {image:02X?}");
     }
 }
 

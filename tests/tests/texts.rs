@@ -2,7 +2,7 @@
 //! `inspect_text`: each text, of either format, is compared in its number and in
 //! the whole net.
 
-use cavindorum_tests::dump::{dump, inspect_text, record_at, Opened};
+use cavindorum_tests::dump::{difference_of, inspect_text, Opened};
 use cavindorum_tests::net::{Net, ROW_BY_ORIGIN, SINGLE_ROW};
 use cavindorum_tests::notation::edges::{chain, edges, rows_by_origin};
 use cavindorum_tests::notation::generate::damage::*;
@@ -29,13 +29,8 @@ fn compare(text: &[u8], found: &Opened) {
         Err(number) => (number, Net::empty()),
     };
     assert_eq!(found.number, number, "program, model; {}", shown(text));
-    let expected = dump(&net);
-    if let Some(at) = (0..expected.len()).find(|at| found.dump[*at] != expected[*at]) {
-        let (program, model, record) = (found.dump[at], expected[at], record_at(at));
-        panic!(
-            "{record}: program {program}, model {model}; {}",
-            shown(text)
-        );
+    if let Some(difference) = difference_of(&found.dump, &net) {
+        panic!("{difference}; {}", shown(text));
     }
 }
 
