@@ -1,13 +1,15 @@
 //! The proved code and the model, called in the same way.
 
 use cavindorum_exports as exported;
-use cavindorum_tests::image::read_image;
+use cavindorum_tests::image::{answer, read_image};
 use cavindorum_tests::notation::read_text;
 use cavindorum_tests::register;
 use cavindorum_tests::step::step;
 
 /// One of the two, by what it can be asked.
 pub struct Machine {
+    /// Reads and judges an image. Gives the place of a refusal, or 0.
+    pub open: fn(image: &[u8]) -> usize,
     /// Reads an image and makes the picks. Gives 0 or the number of a
     /// refusal, and leaves the answer to each pick.
     pub run: fn(image: &[u8], picks: &[u8], answers: &mut [u8]) -> u8,
@@ -18,6 +20,7 @@ pub struct Machine {
 }
 
 pub const PROVED: Machine = Machine {
+    open: exported::refusal_place,
     run: exported::run,
     register: exported::register,
     // A run without picks, which copies the net besides.
@@ -25,6 +28,7 @@ pub const PROVED: Machine = Machine {
 };
 
 pub const MODEL: Machine = Machine {
+    open: |image| answer(image).1,
     run: model_run,
     register: |image, picks| register::register(image, picks).into_bytes(),
     read_text: |text| read_text(text).err().unwrap_or(0),

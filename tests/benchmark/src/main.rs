@@ -3,6 +3,7 @@
 
 mod machine;
 mod nets;
+mod openings;
 mod season;
 mod texts;
 
@@ -31,21 +32,27 @@ fn main() {
     let all = nets::all();
     all.iter().for_each(compare);
     println!("65,536 picks each; the least of {ROUNDS} rounds\n");
-    println!("{:<36}{:>12}{:>12}{:>8}", "", "proved", "model", "ratio");
+    heading();
     for work in &all {
         let times = both(|machine| a_pick(machine, work));
         row(&format!("a pick, {} (ns)", work.name), times);
     }
-    let work = &all[0];
-    let times = both(|machine| milliseconds(|| (machine.register)(&work.image, &work.picks)));
-    row("a register in memory (ms)", times);
-    row("the program register (ms)", programs(work));
-    println!("\n{:<36}{:>12}{:>12}{:>8}", "", "proved", "model", "ratio");
+    for (work, format) in [(&all[0], ""), (&all[1], ", format 2")] {
+        let times = both(|machine| milliseconds(|| (machine.register)(&work.image, &work.picks)));
+        row(&format!("a register in memory{format} (ms)"), times);
+        row(
+            &format!("the program register{format} (ms)"),
+            programs(work),
+        );
+    }
+    openings::rows(&all);
+    println!();
+    heading();
     for text in texts::all() {
         let (proved, model) = both(|machine| speed(machine, &text));
         let name = format!("a text, {} (MB/s)", text.name);
         println!(
-            "{name:<36}{proved:>12.1}{model:>12.1}{:>8.1}",
+            "{name:<52}{proved:>12.1}{model:>12.1}{:>8.1}",
             model / proved
         );
     }
@@ -120,13 +127,23 @@ fn milliseconds<T>(act: impl FnMut() -> T) -> f64 {
     least(act).as_secs_f64() * 1e3
 }
 
-/// Nanoseconds a pick; the time to read the image is taken off.
+/// Nanoseconds a pick; the time to open the image is taken off.
 fn a_pick(machine: &Machine, work: &Work) -> f64 {
     let Work { image, picks, .. } = work;
     let mut answers = vec![0; picks.len()];
-    let reading = least(|| (machine.run)(image, &[], &mut []));
+    let opening = least(|| (machine.open)(image));
     let whole = least(|| (machine.run)(image, picks, &mut answers));
-    whole.saturating_sub(reading).as_secs_f64() * 1e9 / picks.len() as f64
+    whole.saturating_sub(opening).as_secs_f64() * 1e9 / picks.len() as f64
+}
+
+/// Nanoseconds of a call, which is made so many times in a round.
+fn nanoseconds<T>(times: u32, mut act: impl FnMut() -> T) -> f64 {
+    let round = || {
+        for _ in 0..times {
+            black_box(act());
+        }
+    };
+    least(round).as_secs_f64() * 1e9 / f64::from(times)
 }
 
 /// Millions of bytes of a text read in a second, the text read as often as
@@ -158,7 +175,11 @@ fn programs(work: &Work) -> Both {
     (milliseconds(|| print_register(path)), milliseconds(model))
 }
 
+fn heading() {
+    println!("{:<52}{:>12}{:>12}{:>8}", "", "proved", "model", "ratio");
+}
+
 fn row(name: &str, (proved, model): Both) {
     let ratio = proved / model;
-    println!("{name:<36}{proved:>12.1}{model:>12.1}{ratio:>8.1}");
+    println!("{name:<52}{proved:>12.1}{model:>12.1}{ratio:>8.3}");
 }

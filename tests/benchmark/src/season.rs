@@ -4,7 +4,7 @@
 
 use crate::machine::Machine;
 use crate::nets::{communication, evals, refused, Work};
-use crate::{both, milliseconds, row, Both};
+use crate::{both, heading, milliseconds, row, Both};
 use cavindorum_tests::program::{printed_given, printed_in, TestDirectory};
 use cavindorum_tests::season::{printed, runs};
 use std::io::Write;
@@ -29,12 +29,12 @@ program doing the same.
 pub fn rows() {
     let works = works();
     println!("\n{MEASURED}");
-    println!("{:<36}{:>12}{:>12}{:>8}", "", "proved", "model", "ratio");
+    heading();
     let alone = both(|machine| milliseconds(|| make_runs(machine, &works)));
     row("the runs alone, in memory (ms)", alone);
     let whole = milliseconds(|| in_memory(&works));
     let name = "the season, in memory (ms)";
-    println!("{name:<36}{:>12}{whole:>12.1}", "");
+    println!("{name:<52}{:>12}{whole:>12.1}", "");
     let program = programs(&works);
     row("the program shares (ms)", program);
     let over = |whole: f64, alone: f64| 100.0 * (whole / alone - 1.0);
