@@ -23,7 +23,7 @@ pub const PROVED: Machine = Machine {
     open: exported::refusal_place,
     run: exported::run,
     register: exported::register,
-    // A run without picks, which copies the net besides.
+    // A run without picks: a call of the engine is in it besides.
     read_text: |text| exported::run_text(text, &[], &mut []),
 };
 
