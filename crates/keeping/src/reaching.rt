@@ -32,7 +32,7 @@ fn on_to(p: Place, q: Place, s: Place) -> Onward
 }
 
 // The places that follow an action at place p. The sent place of an eval does not.
-pub fn follow(action: Action, p: Place) -> Onward
+pub(crate) fn follow(action: Action, p: Place) -> Onward
     ensures { λ r. ⌜ Leads action p r ⌝ }
 {
     match action {
@@ -48,7 +48,7 @@ pub fn follow(action: Action, p: Place) -> Onward
 }
 
 // How many places wait more once a place with this mark is met.
-pub fn waiting_more(marked: bool) -> usize
+pub(crate) fn waiting_more(marked: bool) -> usize
     ensures { λ r. ⌜ r ≡ choose marked 0 1 ⌝ }
 {
     if marked { 0 } else { 1 }

@@ -27,6 +27,7 @@ ghost use Rattle.lean.specs.Loading.{tablesOf};
 ghost use Rattle.lean.specs.Words.{wordsWith};
 ghost use Rattle.lean.specs.Standing.{MadeEach};
 
+// Its field is private: an engine comes from an opened source, or from another engine's picks.
 pub struct Engine {
     net: Net,
 }
@@ -127,6 +128,7 @@ fn refuse_each(picks: &[u8], answers: &mut [u8])
 }
 
 impl Engine {
+    // The engine of an image's net.
     pub fn open(image: &[u8]) -> Started
         ensures { λ r. ⌜ r .answer ≡ openedOf (now (image .entry)) .answer ⌝ }
         ensures { λ r. ⌜ r .engine .net ≡ openedOf (now (image .entry)) .net ⌝ }
@@ -138,6 +140,7 @@ impl Engine {
         Started { answer, engine }
     }
 
+    // The engine of a text's net.
     pub fn open_text(text: &[u8]) -> StartedText
         ensures { λ r. ⌜ r .answer ≡ readOf (now (text .entry)) .answer ⌝ }
         ensures { λ r. ⌜ r .engine .net ≡ readOf (now (text .entry)) .net ⌝ }
@@ -149,6 +152,8 @@ impl Engine {
         StartedText { answer, engine }
     }
 
+    // The picks made one after another, their answers in the buffer. Without room for them nothing changes; on a net that is not
+    // sound, as the empty one is not, each is answered 10.
     pub fn make(self, picks: &[u8], answers: &mut [u8]) -> Made
         ensures { λ r. ⌜ r .room ≡ roomFor (now (picks .entry)) (now (answers .entry)) ⌝ }
         ensures { λ r. ⌜ r .engine .net ≡ netAfter (self .net) (now (picks .entry)) (now (answers .entry)) ⌝ }
@@ -166,6 +171,7 @@ impl Engine {
         Made { room, engine }
     }
 
+    // The net that the engine holds.
     pub fn net(self) -> Net
         ensures { λ r. ⌜ r ≡ self .net ⌝ }
     {
