@@ -10,6 +10,7 @@ use Rattle.net.specs.Choice.{choose, implies}
 use Rattle.net.specs.Groups.{member, allMembers}
 use Rattle.net.specs.Records.{addressOf, marked, movedTo}
 use Rattle.net.specs.declared.locality.Group.{Group}
+use Rattle.net.proofs.AllLaws.{all-same}
 use Rattle.net.proofs.Every.{chosen-lt}
 use Rattle.matching.specs.declared.template.Evaluated.{Evaluated}
 use Rattle.matching.specs.Matching.{evaluatedOf}
@@ -27,7 +28,6 @@ use Rattle.lean_code.specs.Fields.{templateWords, definedWords}
 use Rattle.lean_code.specs.Heads.{aloneWords, actionWords, headWords, memberFlags, flagsOf, setFlags}
 use Rattle.lean_code.specs.Ranged.{RangedTuple}
 use Rattle.lean_code.proofs.BoundLaws.{fold-pair}
-use Rattle.lean_code.proofs.Firsts.{all-same}
 use Rattle.lean_code.proofs.TemplateLaws.{defined-in}
 use Rattle.lean.specs.Types.{Place, Process, Action, Instruction, Net, Answer, Picked}
 use Rattle.lean.specs.Words.{Words, Sized, RangedTuples, netIn, withWord}

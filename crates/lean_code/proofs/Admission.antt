@@ -14,7 +14,7 @@ use borrow.Author.Tests.{lt-ltb, le-ltb, ltb-true}
 use Rattle.net.specs.Choice.{choose, both, implies, all}
 use Rattle.net.specs.Records.{rightsAt, instructionAt, addressOf, placeOf}
 use Rattle.net.specs.Groups.{member, allMembers}
-use Rattle.net.proofs.Laws.{both-i, both-l, both-r, implies-i, implies-e, choose-true, choose-false, all-i, all-e}
+use Rattle.net.proofs.Laws.{both-i, both-l, both-r, both-both, both-end, same-truth, implies-i, implies-e, choose-true, choose-false, all-i, all-e}
 use Rattle.net.proofs.FoldLaws.{fold-keeps}
 use Rattle.keeping.specs.Keeping.{mayTake, mayRead, mayPut, maySend, mayCreate, atTarget, mayPutAll, permits, permitsMarked, keepsOf}
 use Rattle.keeping.specs.Reaching.{reachedOf}
@@ -25,21 +25,6 @@ use Rattle.lean_code.specs.Types.{Locality, Place, Group, Rights, Row, T
 use Rattle.lean_code.specs.Needs.{addRight, addMember, addMembers, addAction, addWhere, addReached, needsOf}
 
 -- ---- truth values
-alike : (a b : Bool) → (a ≡ true → b ≡ true) → (b ≡ true → a ≡ true) → a ≡ b
-alike true b f g = sym (f refl)
-alike false true f g = g refl
-alike false false f g = refl
-
-both-end : (a : Bool) → both a true ≡ a
-unfolding both
-both-end true = refl
-both-end false = refl
-
-both-both : (a b c : Bool) → both (both a b) c ≡ both a (both b c)
-unfolding both
-both-both true b c = refl
-both-both false b c = refl
-
 or-true : (a : Bool) → (a || true) ≡ true
 or-true true = refl
 or-true false = refl
@@ -58,7 +43,7 @@ wanted-set :
     → wanted n test (set need j true) ≡ both (wanted n test need) (test j)
 unfolding wanted
 wanted-set n test need j size low =
-    alike _ _
+    same-truth _ _
     (λ h.
     both-i _ _ (all-i n _ (λ i l. implies-i _ _ (λ m. implies-e _ _ (all-e n _ h i l) (kept i m (ℕ-discrete i j)))))
     (implies-e _ _ (all-e n _ h j low) (getD-set-same need j true false (omega arith))))
@@ -324,7 +309,7 @@ module _ (fs : List Bool) where
     admits-is : admitsWords need fs l ≡ all-granted (rowIn fs) (addressOf l) need
     unfolding all-granted wanted
     admits-is =
-        alike _ _ (λ e. all-i 69 _ (λ i h. implies-i _ _ (each-granted e i h)))
+        same-truth _ _ (λ e. all-i 69 _ (λ i h. implies-i _ _ (each-granted e i h)))
         (λ e. admits-granted (λ i h. implies-e _ _ (all-e 69 _ e i h)))
 
   -- the claim

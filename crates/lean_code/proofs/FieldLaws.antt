@@ -3,7 +3,7 @@
 -- Assumes nothing.
 use Prim.Native.Nat.{ℕ, _%_, _<_, _≤_}
 use mathlib.Core.Path.{_≡_, refl, sym, ap, subst, _∙_}
-use mathlib.Core.Bool.{Bool, true, false, not}
+use mathlib.Core.Bool.{true, not}
 use mathlib.Core.List.{List}
 use native.Mathlib.Omega.{arith}
 use lib.Dec.{eqb, leb, ltb}
@@ -16,7 +16,7 @@ use Rattle.net.specs.declared.tuple.Item.{Item}
 use Rattle.net.specs.declared.process.Process.{Process}
 use Rattle.net.specs.declared.instruction.Pattern.{Pattern}
 use Rattle.net.specs.declared.instruction.Target.{Target}
-use Rattle.net.proofs.Laws.{choose-true}
+use Rattle.net.proofs.Laws.{both-end, choose-true}
 use Rattle.net.proofs.ReadingLaws.{never}
 use Rattle.matching.specs.Matching.{heldItem, definedField, wantOf, sameItem, fitsField}
 use Rattle.sound.specs.Soundness.{patternSound, isActual, targetSound}
@@ -58,14 +58,9 @@ module _ (ws : List ℕ) (a : ℕ) where
       rw (ne-eqb v 9 (λ z. omega (arith, z)), ne-eqb v 25 (λ z. omega (arith, z)), e)
 
 -- every word of a formal's sort fits it
-both-true : (b : Bool) → both b true ≡ b
-unfolding both
-both-true true = refl
-both-true false = refl
-
 any-reading : (x : ℕ) → x < 4294967553 → inRange 257 x 8589934592 ≡ leb 257 x
 unfolding inRange
-any-reading x h = ap (both (leb 257 x)) (le-leb x 8589934592 (omega arith)) ∙ both-true (leb 257 x)
+any-reading x h = ap (both (leb 257 x)) (le-leb x 8589934592 (omega arith)) ∙ both-end (leb 257 x)
 
 any-address : (x : ℕ) → inRange 0 x 256 ≡ leb x 256
 unfolding inRange both

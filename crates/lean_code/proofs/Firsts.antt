@@ -1,4 +1,4 @@
--- Tests that agree at each number below a bound (`all` and `firstBelow` of `Choice.antt` of `net`), and the lowest number at which one
+-- Tests that agree at each number below a bound (`firstBelow` of `Choice.antt` of `net`), and the lowest number at which one
 -- holds, as a number. Assumes nothing.
 use Prim.Native.Nat.{ℕ, zero, suc, _+_, _<_}
 use mathlib.Core.Path.{_≡_, refl, sym, ap, _∙_}
@@ -6,14 +6,8 @@ use mathlib.Core.Bool.{Bool, true, false}
 use native.Mathlib.Omega.{arith}
 use lib.Dec.{ltb}
 use borrow.Author.Tests.{lt-ltb, le-ltb}
-use Rattle.net.specs.Choice.{choose, both, implies, all, firstFrom, firstBelow}
+use Rattle.net.specs.Choice.{choose, both, implies, firstFrom, firstBelow}
 use Rattle.net.proofs.Laws.{choose-false}
-
-pub all-same : (n : ℕ) (f g : ℕ → Bool) → ((i : ℕ) → i < n → f i ≡ g i) → all n f ≡ all n g
-unfolding all
-all-same zero f g h = refl
-all-same (suc n) f g h =
-    ap (λ (b : Bool). both b (f n)) (all-same n f g (λ i l. h i (omega arith))) ∙ ap (both (all n g)) (h n (omega arith))
 
 -- the second of two tests, where the first holds
 pub both-as : (a b c : Bool) → (a ≡ true → b ≡ c) → both a b ≡ both a c

@@ -22,6 +22,7 @@ use Rattle.net.specs.declared.instruction.TemplateField.{TemplateField}
 use Rattle.net.specs.declared.instruction.Action.{Action}
 use Rattle.net.specs.declared.instruction.Instruction.{Instruction}
 use Rattle.net.proofs.Laws.{all-e, split}
+use Rattle.net.proofs.AllLaws.{all-same}
 use Rattle.net.proofs.Every.{chosen-lt, Every, every-replicate, every-set, every-weaken, filled-each}
 use Rattle.net.proofs.Past.{pastField}
 use Rattle.net.proofs.FoldLaws.{fold-keeps}
@@ -38,7 +39,7 @@ use Rattle.lean_words.proofs.FilledLaws.{filled-at}
 use Rattle.lean_code.specs.Fields.{fieldWords, templateWords, isThere, definedWords, lowest, highest, wantsWords}
 use Rattle.lean_code.specs.Ranged.{RangedSlot, RangedTuple}
 use Rattle.lean_code.proofs.FieldLaws.{fromOf, lowOf, highOf, field-there, field-fits}
-use Rattle.lean_code.proofs.Firsts.{all-same, both-as, implied}
+use Rattle.lean_code.proofs.Firsts.{both-as, implied}
 
 abbrev zeroPattern : Pattern
 zeroPattern = Pattern.Reading (ℤ.pos 0)

@@ -1,15 +1,8 @@
--- Tests at each number below a bound (`all` of net's `specs/Choice.antt`): two that agree, and two in one. Assumes nothing.
-use Prim.Native.Nat.{ℕ, zero, suc, _<_}
+-- Tests at each number below a bound (`all` of net's `specs/Choice.antt`): two in one. Assumes nothing.
+use Prim.Native.Nat.{ℕ, zero, suc}
 use mathlib.Core.Path.{_≡_, refl, ap, _∙_}
 use mathlib.Core.Bool.{Bool, true, false}
-use native.Mathlib.Omega.{arith}
 use Rattle.net.specs.Choice.{both, all}
-
-pub all-same : (n : ℕ) (f g : ℕ → Bool) → ((i : ℕ) → i < n → f i ≡ g i) → all n f ≡ all n g
-unfolding all
-all-same zero f g h = refl
-all-same (suc n) f g h =
-    ap (λ (b : Bool). both b (f n)) (all-same n f g (λ i l. h i (omega arith))) ∙ ap (both (all n g)) (h n (omega arith))
 
 four : (a b c d : Bool) → both (both a b) (both c d) ≡ both (both a c) (both b d)
 unfolding both

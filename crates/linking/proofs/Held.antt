@@ -11,6 +11,7 @@ use borrow.Author.Tests.{le-leb, lt-leb, eq-eqb, eqb-true}
 use Rattle.net.specs.Choice.{choose, both, all, fold}
 use Rattle.net.specs.Records.{placeOf}
 use Rattle.net.proofs.Laws.{choose-false, all-i, all-fails}
+use Rattle.net.proofs.AllLaws.{all-same}
 use Rattle.net.proofs.ReadingLaws.{never}
 use Rattle.net.proofs.FoldLaws.{fold-keeps}
 use Rattle.net.proofs.Every.{Every, every-set, every-replicate, chosen}
@@ -26,7 +27,6 @@ use Rattle.linking.specs.Names.{usesLine, used, defines, defined}
 use Rattle.linking.specs.NameTable.{startFrom, startIn, startFor, settleIn, settledIn, Held}
 use Rattle.linking.specs.Placing.{placeFor, placeAt}
 use Rattle.linking.specs.State.{State, ownNames, begun, entered, after, afterAll, FitsLine, FitAll}
-use Rattle.linking.proofs.Bounded.{all-same}
 use Rattle.linking.proofs.NameTableLaws.{start-name, start-instruction, settled-name}
 use Rattle.linking.proofs.Settles.{name-most}
 

@@ -10,14 +10,14 @@ use lib.Dec.{leb}
 use borrow.Author.Tests.{lt-ltb, le-ltb, ltb-true}
 use Rattle.net.specs.Choice.{choose, both, all, implies}
 use Rattle.net.proofs.Laws.{choose-true, choose-false}
-use Rattle.net.proofs.AllLaws.{and-both}
+use Rattle.net.proofs.AllLaws.{and-both, all-same}
 use Rattle.net.proofs.Every.{chosen}
 use Rattle.terms.specs.Numbering.{Start, here, called}
 use Rattle.linking.specs.Source.{Line}
 use Rattle.linking.specs.Compiled.{settle, isHere, numberOf, settled}
 use Rattle.linking.specs.Names.{defined, used, nameRight, namesRight}
 use Rattle.linking.specs.NameTable.{startFrom, startIn, startFor, settleIn, settledIn, Settling, nameRightIn, namesRightIn, Held}
-use Rattle.linking.proofs.Bounded.{all-same, all-both}
+use Rattle.linking.proofs.Bounded.{all-both}
 
 -- ---- an entry
 module _ (w : ℕ) where

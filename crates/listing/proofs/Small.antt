@@ -16,7 +16,7 @@ use Rattle.sound.proofs.NodeFacts.{TupleOk as TupleSound, NodeOk as NodeSound}
 use Rattle.sound.proofs.NetFacts.{NetOk as NetSound, sound-apart}
 use Rattle.sound.proofs.NetChanges.{node-at}
 use Rattle.fresh.specs.Fresh.{readingFits, itemFits}
-use Rattle.text.specs.Decimal.{decimal}
+use Rattle.text.proofs.DecimalLaws.{decimal-below}
 use Rattle.image.specs.Image.{openedOf, numberOf}
 use Rattle.accepted.specs.ImageClaims.{AcceptedIsSound, RefusedIsNumbered}
 use Rattle.accepted.specs.LengthClaims.{longestImage, FirstBytesDecide}
@@ -28,7 +28,7 @@ use Rattle.step.specs.Pick.{hostOf, slotOf}
 use Rattle.run.specs.Run.{Ran, ran, numbers, ranFrom, runIn, runOf}
 use Rattle.run.proofs.SoundRuns.{ran-sound}
 use Rattle.registers.specs.Types.{Item, Tuple, Node, Net, Fault, Opened, Verdict}
-use Rattle.registers.proofs.Longest.{digits-below, fewer-below, answers-small, take-small}
+use Rattle.registers.proofs.Longest.{fewer-below, answers-small, take-small}
 use Rattle.lines.specs.Lines.{fewer, itemWord, tuplesBelow, tupleCount}
 use Rattle.tenant.proofs.OpenedShaped.{opened-shaped}
 use Rattle.listing.proofs.Agreeing.{Fine, upward, downward, located, Short}
@@ -37,8 +37,7 @@ use Rattle.listing.proofs.Readings.{TupleOk, NodeOk, NetOk, ran-after, 
 
 -- ---- a number below a power of ten
 short : (n : ℕ) → n < 10000000000 → Short n
-unfolding decimal
-short n h = record { few = digits-below 20 9 n (omega arith) }
+short n h = record { few = decimal-below 9 n (omega arith) }
 
 -- ---- a refusal: its number is one of the table, and its place one of the first bytes' bits
 module _ (image : List ℕ) (f : Fault) (e : openedOf image .answer ≡ Verdict.Refused f) where

@@ -1,6 +1,6 @@
 -- Laws of tests, and of the loops that run one test at each number below a bound (`all` of `specs/Choice.antt`), stated
 -- over the test. The code joins truth values by `&`. Assumes nothing.
-use Prim.Native.Nat.{ℕ, suc, _+_, _<_, _≤_}
+use Prim.Native.Nat.{ℕ, zero, suc, _+_, _<_, _≤_}
 use mathlib.Core.Path.{_≡_, refl, ap, _∙_}
 use mathlib.Core.Bool.{Bool, true, false, _&&_}
 use native.Mathlib.Omega.{arith}
@@ -56,6 +56,13 @@ all-more i test ok good p q = rw add-one (more i test ok good p q)
 
 pub all-end : (i n : ℕ) (test : ℕ → Bool) (ok : Bool) → ok ≡ all i test → i ≤ n → n ≤ i → ok ≡ all n test
 all-end i n test ok p l g = let e : i ≡ n = omega arith in rw e at p
+
+-- two tests that agree at each number below n
+pub all-same : (n : ℕ) (f g : ℕ → Bool) → ((i : ℕ) → i < n → f i ≡ g i) → all n f ≡ all n g
+unfolding all
+all-same zero f g h = refl
+all-same (suc n) f g h =
+    ap (λ (b : Bool). both b (f n)) (all-same n f g (λ i l. h i (omega arith))) ∙ ap (both (all n g)) (h n (omega arith))
 
 -- ---- matches: an arm's pattern y stands for the value x, in a test f of one argument, or of more
 module _ {A : Type 0} (f : A → Bool) where

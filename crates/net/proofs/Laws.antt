@@ -36,6 +36,28 @@ pub both-false-r : (a b : Bool) → a ≡ true → b ≡ false → false ≡ bot
 unfolding both
 both-false-r a b p q = cc
 
+pub both-both : (a b c : Bool) → both (both a b) c ≡ both a (both b c)
+unfolding both
+both-both true b c = refl
+both-both false b c = refl
+
+pub both-swap : (a b c : Bool) → both a (both b c) ≡ both b (both a c)
+unfolding both
+both-swap true b c = refl
+both-swap false true c = refl
+both-swap false false c = refl
+
+pub both-end : (a : Bool) → both a true ≡ a
+unfolding both
+both-end true = refl
+both-end false = refl
+
+-- two truth values of which each makes the other true
+pub same-truth : (a b : Bool) → (a ≡ true → b ≡ true) → (b ≡ true → a ≡ true) → a ≡ b
+same-truth true b f g = sym (f refl)
+same-truth false true f g = g refl
+same-truth false false f g = refl
+
 pub implies-i : (a b : Bool) → (a ≡ true → b ≡ true) → implies a b ≡ true
 unfolding implies
 implies-i true b f = f refl

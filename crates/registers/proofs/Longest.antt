@@ -5,13 +5,13 @@ use mathlib.Core.Path.{_≡_, ap, _∙_}
 use mathlib.Core.Bool.{Bool}
 use mathlib.Core.List.{List, [], _∷_, _++_, map}
 use native.Mathlib.Omega.{arith}
-use native.Mathlib.Nat.{pow-suc, suc-mul, mul-le-mul-right, le-trans}
+use native.Mathlib.Nat.{suc-mul, mul-le-mul-right, le-trans}
 use lib.ListN.{length, getD, take, length-append, length-take}
-use lib.Dec.{ltb}
 use lib.IntN.{ℤ}
 use Rattle.text.specs.Bytes.{bytes}
-use Rattle.text.specs.Decimal.{digit, digits, decimal, signedDecimal}
+use Rattle.text.specs.Decimal.{signedDecimal}
 use Rattle.text.specs.Joined.{joined}
+use Rattle.text.proofs.DecimalLaws.{decimal-short, decimal-below}
 use Rattle.net.specs.Records.{fieldAt, tupleAt, nodeAt, addressOf}
 use Rattle.net.specs.Choice.{choose}
 use Rattle.net.proofs.Every.{chosen, chosen-lt}
@@ -31,34 +31,6 @@ use Rattle.registers.specs.Longest.{longest, LongestShowing, LongestName
 use Rattle.lines.proofs.WordLaws.{spaced-none, spaced-both, printed-none, printed-both}
 
 -- ---- numbers
-digits-short : (k n : ℕ) → length (digits k n) ≤ k
-unfolding digits
-digits-short zero n = omega arith
-digits-short (suc k) n =
-    chosen (λ (t : List ℕ). length t ≤ suc k) (ltb n 10) _ _ (λ _. omega arith)
-    (λ _. let inner = digits-short k (n / 10) in
-    let whole = length-append (digits k (n / 10)) (digit (n % 10) ∷ []) in omega (arith, inner, whole))
-
--- of a number below a power of ten
-pub digits-below : (k j n : ℕ) → n < 10 ^ suc j → length (digits k n) ≤ suc j
-unfolding digits
-digits-below zero j n h = omega arith
-digits-below (suc k) zero n h =
-    chosen-lt (λ (t : List ℕ). length t ≤ 1) n 10 _ _ (λ _. omega arith) (λ l. absurd (omega arith))
-digits-below (suc k) (suc j) n h =
-    let power : 10 ^ suc (suc j) ≡ 10 ^ suc j * 10 = pow-suc 10 (suc j) in
-    let inner = digits-below k j (n / 10) (omega (arith, power)) in
-    let whole = length-append (digits k (n / 10)) (digit (n % 10) ∷ []) in
-    chosen (λ (t : List ℕ). length t ≤ suc (suc j)) (ltb n 10) _ _ (λ _. omega arith) (λ _. omega (arith, inner, whole))
-
-pub decimal-short : (n : ℕ) → length (decimal n) ≤ 20
-unfolding decimal
-decimal-short n = digits-short 20 n
-
-pub decimal-below : (j n : ℕ) → n < 10 ^ suc j → length (decimal n) ≤ suc j
-unfolding decimal
-decimal-below j n h = digits-below 20 j n h
-
 pub fewer-below : (count size : ℕ) → fewer count size ≤ size
 unfolding fewer
 fewer-below count size = chosen-lt (λ (n : ℕ). n ≤ size) count size _ _ (λ l. omega arith) (λ l. omega arith)

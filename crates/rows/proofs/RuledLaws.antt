@@ -8,10 +8,10 @@ use lib.ListN.{getD, length, length-map, set, replicate, length-append, getD-rep
 use lib.Seq.{append-snoc, set-append-seam}
 use Rattle.net.specs.Choice.{all}
 use Rattle.net.specs.Records.{zeroRow, emptyNet, rowAt, nodeAt, alike, withNode, withRows, withCounts, withFormat, addressOf}
+use Rattle.net.proofs.AllLaws.{all-same}
 use Rattle.net.proofs.Past.{pastRow}
 use Rattle.linking.specs.Source.{Policy, plain, by-origin}
 use Rattle.linking.specs.Compiled.{formatOf, addressesOf, filled, rowsOf, ruled, unruled, governed}
-use Rattle.linking.proofs.Bounded.{all-same}
 use Rattle.linking.proofs.Governed.{putRows, ruled-more, ruled-counts, ruled-frame, governed-addresses, governed-rows}
 use Rattle.rows.specs.Types.{Locality, Row, Node, Net}
 use Rattle.rows.specs.Rows.{within, allWithin}

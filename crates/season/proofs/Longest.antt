@@ -10,9 +10,9 @@ use Rattle.net.proofs.Every.{chosen}
 use Rattle.text.specs.Bytes.{bytes}
 use Rattle.text.specs.Decimal.{decimal}
 use Rattle.text.specs.Joined.{joined}
+use Rattle.text.proofs.DecimalLaws.{decimal-short}
 use Rattle.lines.specs.Words.{Word, name, number, wordText, spaced, lineText, printed}
 use Rattle.lines.proofs.WordLaws.{printed-both}
-use Rattle.registers.proofs.Longest.{decimal-short}
 use Rattle.season.specs.Types.{Locality}
 use Rattle.season.specs.Fractions.{Fraction, Best}
 use Rattle.season.specs.Season.{fractionWord, shareWord, bestWord}

@@ -6,7 +6,7 @@ use mathlib.Core.Path.{_≡_, refl, ap}
 use mathlib.Core.Bool.{Bool, true, false, not}
 use native.Mathlib.Omega.{arith}
 use lib.Dec.{eqb, ltb}
-use borrow.Author.Tests.{ltb-true, lt-ltb}
+use borrow.Author.Tests.{ltb-true, lt-ltb, not-true}
 use Rattle.net.specs.Choice.{both, implies, inRange, all}
 use Rattle.net.specs.Records.{zeroTemplateField, zeroInstruction, patternAt, withAction}
 use Rattle.net.specs.Shape.{ShapedInstruction}
@@ -18,7 +18,7 @@ use Rattle.net.proofs.Laws.{both-i, both-l, both-r, implies-i, implies-e, all-i
 use Rattle.net.proofs.Laws.{in-range, in-range-low, in-range-high}
 use Rattle.net.proofs.Every.{Every, Filled, filled-all, all-filled}
 use Rattle.net.proofs.Past.{pastTemplate}
-use Rattle.sound.proofs.ZeroClaims.{zeroIsZero, not-true, no-template-passes}
+use Rattle.sound.proofs.ZeroClaims.{zeroIsZero, no-template-passes}
 use Rattle.sound.proofs.NodeFacts.{of-zero}
 
 -- ---- templates

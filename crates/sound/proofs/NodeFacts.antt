@@ -10,7 +10,7 @@ use native.Mathlib.Omega.{arith}
 use lib.Dec.{eqb, leb, ltb}
 use lib.ListN.{getD}
 use lib.Seq.{ext-getD}
-use borrow.Author.Tests.{ltb-true, leb-true, lt-ltb, le-leb}
+use borrow.Author.Tests.{ltb-true, leb-true, lt-ltb, le-leb, not-true}
 use Rattle.net.specs.Choice.{choose, both, inRange, all}
 use Rattle.net.specs.Records.{fieldAt, variableAt, rightsAt, rowAt, processAt, tupleAt, addressOf}
 use Rattle.net.specs.Records.{zeroField, zeroTuple, zeroRow, freeProcess, noRights}
@@ -23,7 +23,7 @@ use Rattle.net.proofs.Laws.{both-i, both-l, both-r, implies-i, implies-e, choos
 use Rattle.net.proofs.Laws.{in-range, in-range-low, in-range-high}
 use Rattle.net.proofs.Every.{chosen, Every, Filled, filled-each, filled-all, all-filled}
 use Rattle.net.proofs.Past.{pastField, pastVariable, pastRights, pastRow, pastProcess, pastTuple}
-use Rattle.sound.proofs.ZeroClaims.{zeroIsZero, not-true, tuple-passes, row-passes, process-passes}
+use Rattle.sound.proofs.ZeroClaims.{zeroIsZero, tuple-passes, row-passes, process-passes}
 
 -- what the zero record has
 pub of-zero : {A : Type 0} (Q : A → Type 0) {z : A} → Q z → (x : A) → x ≡ z → Q x

@@ -3,14 +3,14 @@
 use Prim.Native.Nat.{ℕ, _<_}
 use mathlib.Core.Path.{_≡_, refl, sym, ap, subst, _∙_}
 use mathlib.Core.Logic.{_↔_}
-use mathlib.Core.Bool.{Bool, true, false, not}
+use mathlib.Core.Bool.{Bool, true, not}
 use mathlib.Core.List.{List}
 use native.Mathlib.Omega.{arith}
 use lib.Dec.{eqb}
 use lib.IntN.{ℤ}
 use lib.ListN.{length, getD, replicate, length-replicate, getD-replicate}
 use lib.Seq.{ext-getD}
-use borrow.Author.Tests.{eqb-true}
+use borrow.Author.Tests.{eqb-true, not-true}
 use Rattle.net.specs.Choice.{both, all}
 use Rattle.sound.specs.Types.{Value, Variable, Item, Field, Tuple, Rights, Row, Process, Node}
 use Rattle.sound.specs.Types.{Pattern, TemplateField, Action, Instruction}
@@ -37,10 +37,6 @@ zeros z d size xs e f =
 -- a test that the zero record passes, and no other record
 exactly : {A : Type 0} (test : A → Bool) (z : A) → test z ≡ true → (x : A) → (test x ≡ true → x ≡ z) → (test x ≡ true) ↔ (x ≡ z)
 exactly test z passes x f = (f, λ e. subst (λ y. test y ≡ true) (sym e) passes)
-
-pub not-true : (b : Bool) → not b ≡ true → b ≡ false
-not-true true h = never h
-not-true false h = refl
 
 -- ---- tuples
 zero-item : (x : Item) → isZeroItem x ≡ true → x ≡ Item.Reading (ℤ.pos 0)

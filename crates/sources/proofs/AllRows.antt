@@ -1,6 +1,6 @@
 -- All rows of format 1 (`rows` of `Rows.antt` of `rows`): they are read up to the first line that is no row, as they are
 -- printed. Assumes nothing.
-use Prim.Native.Nat.{ℕ, zero, suc, _<_, _≤_}
+use Prim.Native.Nat.{ℕ, _<_, _≤_}
 use mathlib.Core.Path.{_≡_, refl, sym, ap, subst, _∙_}
 use mathlib.Core.Bool.{Bool, true, false, not}
 use mathlib.Core.List.{List, [], _∷_, _++_}
@@ -8,9 +8,10 @@ use native.Mathlib.Omega.{arith}
 use lib.ListN.{length, getD}
 use lib.Dec.{leb}
 use borrow.Author.Tests.{leb-true, le-leb}
-use Rattle.net.specs.Choice.{both, implies, all}
+use Rattle.net.specs.Choice.{implies}
 use Rattle.net.specs.Records.{zeroRow, rightsAt, addressOf}
 use Rattle.net.proofs.Laws.{all-i, all-e}
+use Rattle.net.proofs.AllLaws.{all-same}
 use Rattle.sound.specs.Soundness.{isNone, rowSound}
 use Rattle.text.specs.Bytes.{bytes}
 use Rattle.rows.specs.Rows.{isRow, anyRight, row, rowsAfter, within, allWithin, rows}
@@ -53,11 +54,6 @@ reads-rowsAfter =
     (λ rs r v s p h w st. row-here (length rs) r v s p (omega arith) st) (λ rs s p. refl) (λ k rs s p. refl) 16 [] refl
 
 -- ---- no right over an address without a row
-all-same : (n : ℕ) (f g : ℕ → Bool) → ((i : ℕ) → f i ≡ g i) → all n f ≡ all n g
-unfolding all
-all-same zero f g e = refl
-all-same (suc n) f g e = ap (λ (b : Bool). both b (f n)) (all-same n f g e) ∙ ap (both (all n g)) (e n)
-
 none-not : (x : Rights) → not (anyRight x) ≡ isNone x
 none-not x = ap not (any-some x) ∙ twice (isNone x)
   where
@@ -67,7 +63,7 @@ none-not x = ap not (any-some x) ∙ twice (isNone x)
 
 within-is : (n : ℕ) (r : Row) → within n r ≡ rowSound n r
 unfolding within rowSound
-within-is n r = all-same 16 _ _ (λ l. ap (implies (leb n l)) (none-not (rightsAt r (addressOf l))))
+within-is n r = all-same 16 _ _ (λ l _. ap (implies (leb n l)) (none-not (rightsAt r (addressOf l))))
 
 module _ (n : ℕ) (rs : List Row) where
   pub rows-formed : Each Whole [] rs → ((i : ℕ) → i < length rs → within n (getD rs i zeroRow) ≡ true) → Each (λ _. RowFormed n) [] rs

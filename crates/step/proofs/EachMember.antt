@@ -8,6 +8,7 @@ use lib.Dec.{ltb}
 use Rattle.net.specs.Choice.{choose, fold}
 use Rattle.net.specs.Records.{nodeAt, addressOf}
 use Rattle.net.specs.Groups.{member}
+use Rattle.net.proofs.Laws.{same-truth}
 use Rattle.net.proofs.Every.{chosen}
 use Rattle.net.proofs.FoldLaws.{fold-keeps}
 use Rattle.net.proofs.GroupLaws.{members-at, members-all}
@@ -15,10 +16,6 @@ use Rattle.step.specs.Types.{Locality, Group, Tuple, Net}
 use Rattle.step.specs.Pick.{added, roomAtAll, addedAll}
 
 -- ---- room at each member
-same-answer : (a b : Bool) → (a ≡ true → b ≡ true) → (b ≡ true → a ≡ true) → a ≡ b
-same-answer true b f g = sym (f refl)
-same-answer false true f g = g refl
-same-answer false false f g = refl
 
 -- two nets with as many tuples at each member
 module _ (g : Group) (s s′ : Net) (e : (l : Locality) → member g l ≡ true → nodeAt s l .stored ≡ nodeAt s′ l .stored) where
@@ -27,7 +24,7 @@ module _ (g : Group) (s s′ : Net) (e : (l : Locality) → member g l ≡ true 
   room-same =
       let alike : (l : Locality) → member g l ≡ true → ltb (nodeAt s l .stored) 16 ≡ ltb (nodeAt s′ l .stored) 16 =
       λ l m. ap (λ (n : ℕ). ltb n 16) (e l m) in
-      same-answer _ _ (λ h. members-all g _ (λ l m. sym (alike l m) ∙ members-at g _ h l m))
+      same-truth _ _ (λ h. members-all g _ (λ l m. sym (alike l m) ∙ members-at g _ h l m))
       (λ h. members-all g _ (λ l m. alike l m ∙ members-at g _ h l m))
 
 -- ---- what each addition does, all together do

@@ -3,14 +3,14 @@
 -- Assumes nothing.
 use Prim.Native.Nat.{ℕ, _+_, _<_, _≤_}
 use mathlib.Core.Path.{_≡_, refl, sym, ap, _∙_}
-use mathlib.Core.Bool.{Bool, true, false, not}
+use mathlib.Core.Bool.{Bool, true, false}
 use mathlib.Core.List.{List}
 use native.Mathlib.Omega.{arith}
 use native.Mathlib.Decide.{decLt, ℕ-discrete}
 use lib.Dec.{ltb}
 use lib.ListN.{length, getD, set, List·getD-eq-default}
 use lib.Seq.{set-getD, set-set, set-comm, getD-set-same, getD-set-other}
-use borrow.Author.Tests.{lt-ltb, le-ltb, ltb-true}
+use borrow.Author.Tests.{lt-ltb, le-ltb, ltb-true, not-true}
 use Rattle.net.specs.Choice.{choose, both}
 use Rattle.net.specs.Records.{processAt, nodeAt, rightsAt, rowFor, withNode, withRows, withProcess, withTuple, withCounts, withoutTuple}
 use Rattle.net.specs.Records.{tupleAt, afterTaking, freeSlot, noRights, zeroRow, putIn, takenFrom, startedAtSlot, startedOn}
@@ -109,15 +109,11 @@ process-process : (x : Node) (j k : ℕ) (c p : Process) → (j ≡ k → ⊥) �
 unfolding withProcess
 process-process x j k c p n = rw (set-comm (x .processes) j k c p n)
 
-not-busy : (b : Bool) → not b ≡ true → b ≡ false
-not-busy true h = sym h
-not-busy false h = refl
-
 slot-free : (x : Node) (j : ℕ) → freeSlot x ≡ Slot.Number j → processAt x j .busy ≡ false
 unfolding freeSlot
 slot-free x j =
     first-cases (λ r. r ≡ Slot.Number j → processAt x j .busy ≡ false) 4 _ Slot.Number Slot.Full
-    (λ i h e. let same : i ≡ j = cc in rw (← same) (not-busy _ (h .holds)))
+    (λ i h e. let same : i ≡ j = cc in rw (← same) (not-true _ (h .holds)))
     (λ e. let z : _≡_ {A = ℕ} 0 1 = cc in absurd (omega arith))
 
 -- ---- a right is held only over an address that a row has

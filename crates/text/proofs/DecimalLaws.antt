@@ -6,6 +6,7 @@ use mathlib.Core.List.{List, [], _∷_, _++_}
 use native.Mathlib.Omega.{arith}
 use native.Mathlib.Nat.{pow-suc, not-suc-le-zero}
 use lib.Dec.{ltb}
+use lib.ListN.{length, length-append}
 use lib.IntN.{ℤ, pos, negsuc, natAbs}
 use lib.Signed.{leZ}
 use mir.Syntax.{w32, w64}
@@ -14,6 +15,7 @@ use mir.Facts.{toZ-ofZ}
 use borrow.Author.Tests.{lt-ltb, le-ltb, ltb-false, leb-false}
 use Rattle.net.specs.Choice.{choose}
 use Rattle.net.proofs.Laws.{choose-true, choose-false}
+use Rattle.net.proofs.Every.{chosen, chosen-lt}
 use Rattle.text.specs.Decimal.{digit, digits, decimal, signedDecimal}
 use Rattle.text.specs.Writing.{Wrote}
 use Rattle.text.proofs.WritingLaws.{wrote-then}
@@ -46,6 +48,35 @@ unfolding decimal digits
 decimal-more n h l =
     ap (λ (ds : List ℕ). ds ++ digit (n % 10) ∷ []) (sym (digits-more 18 (n / 10) (omega arith)))
     ∙ sym (choose-false _ _ _ (le-ltb n 10 h))
+
+-- ---- how long they are
+digits-short : (k n : ℕ) → length (digits k n) ≤ k
+unfolding digits
+digits-short zero n = omega arith
+digits-short (suc k) n =
+    chosen (λ (t : List ℕ). length t ≤ suc k) (ltb n 10) _ _ (λ _. omega arith)
+    (λ _. let inner = digits-short k (n / 10) in
+    let whole = length-append (digits k (n / 10)) (digit (n % 10) ∷ []) in omega (arith, inner, whole))
+
+pub decimal-short : (n : ℕ) → length (decimal n) ≤ 20
+unfolding decimal
+decimal-short n = digits-short 20 n
+
+-- of a number below a power of ten
+digits-below : (k j n : ℕ) → n < 10 ^ suc j → length (digits k n) ≤ suc j
+unfolding digits
+digits-below zero j n h = omega arith
+digits-below (suc k) zero n h =
+    chosen-lt (λ (t : List ℕ). length t ≤ 1) n 10 _ _ (λ _. omega arith) (λ l. absurd (omega arith))
+digits-below (suc k) (suc j) n h =
+    let power : 10 ^ suc (suc j) ≡ 10 ^ suc j * 10 = pow-suc 10 (suc j) in
+    let inner = digits-below k j (n / 10) (omega (arith, power)) in
+    let whole = length-append (digits k (n / 10)) (digit (n % 10) ∷ []) in
+    chosen (λ (t : List ℕ). length t ≤ suc (suc j)) (ltb n 10) _ _ (λ _. omega arith) (λ _. omega (arith, inner, whole))
+
+pub decimal-below : (j n : ℕ) → n < 10 ^ suc j → length (decimal n) ≤ suc j
+unfolding decimal
+decimal-below j n h = digits-below 20 j n h
 
 -- ---- as they are written
 module _ (xs : List ℕ) (at n : ℕ) where

@@ -8,7 +8,7 @@ use native.Mathlib.Omega.{arith}
 use native.Mathlib.Nat.{suc-mul}
 use lib.Dec.{eqb, ltb}
 use lib.IntN.{ℤ}
-use borrow.Author.Tests.{ne-eqb}
+use borrow.Author.Tests.{ne-eqb, not-true}
 use Rattle.net.specs.Choice.{choose, both, fold}
 use Rattle.net.proofs.Laws.{both-i, both-l, both-r, choose-false}
 use Rattle.net.proofs.Every.{chosen}
@@ -32,10 +32,6 @@ clean-both : (a b : List ℕ) → clean a ≡ true → clean b ≡ true → clea
 unfolding clean
 clean-both [] b h g = g
 clean-both (x ∷ a) b h g = both-i _ _ (both-l _ _ h) (clean-both a b (both-r (not (eqb x 10)) _ h) g)
-
-not-true : (b : Bool) → not b ≡ true → b ≡ false
-not-true true h = sym h
-not-true false h = refl
 
 -- such bytes and a newline are a line
 line-first : (t rest : List ℕ) → clean t ≡ true → linesOf (t ++ 10 ∷ rest) ≡ t ∷ linesOf rest

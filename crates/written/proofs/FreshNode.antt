@@ -6,7 +6,7 @@ use mathlib.Core.Path.{_≡_, sym, ap}
 use mathlib.Core.Bool.{true, false, not}
 use native.Mathlib.Omega.{arith}
 use lib.Dec.{ltb, eqb}
-use borrow.Author.Tests.{lt-ltb, le-ltb, eqb-true}
+use borrow.Author.Tests.{lt-ltb, le-ltb, eqb-true, not-true}
 use Rattle.net.specs.Choice.{choose, fold}
 use Rattle.net.specs.Records.{startingAt, fieldAt, processAt, tupleAt, addressOf}
 use Rattle.net.specs.Shape.{ShapedProcess}
@@ -16,7 +16,7 @@ use Rattle.net.specs.Records.{processCount}
 use Rattle.fresh.specs.Fresh.{tupleFits, nodeFits, slotStarts, nodeStarts, ownOrigin, ownOrigins, ownMark, ownMarks}
 use Rattle.net.proofs.Laws.{both-l, both-r, implies-e, choose-e, choose-else, all-e}
 use Rattle.net.proofs.Every.{chosen, filled-at}
-use Rattle.sound.proofs.ZeroClaims.{not-true, all-unset}
+use Rattle.sound.proofs.ZeroClaims.{all-unset}
 use Rattle.sound.proofs.NodeFacts as sound
 use Rattle.written.proofs.WrittenTuples.{TupleOk}
 use Rattle.written.proofs.WrittenPasses.{Slots}
