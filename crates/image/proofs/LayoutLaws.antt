@@ -4,7 +4,10 @@ use Prim.Native.Nat.{ℕ, _+_, _-_, _*_, _<_, _≤_}
 use mathlib.Core.Path.{_≡_, refl, sym, ap, subst, _∙_}
 use mathlib.Core.Bool.{Bool, true, false, not, _&&_}
 use mathlib.Core.List.{List}
+use native.Mathlib.Decide.{decLe}
 use native.Mathlib.Omega.{arith}
+use lib.Dec.{ltb}
+use borrow.Author.Tests.{lt-ltb, le-ltb, not-true, not-false}
 use lib.ListN.{take, set, replicate}
 use Rattle.net.specs.Choice.{choose}
 use Rattle.net.specs.Records.{zeroNode, zeroInstruction, emptyNet, addressOf, placeOf, withCounts, withFormat}
@@ -18,8 +21,7 @@ use Rattle.bitreader.specs.Progress.{window, seen}
 use Rattle.image.specs.Image.{Verdict, Opened, header, rowsOf, rows, processesOf, allProcesses, tuplesOf, allTuples}
 use Rattle.image.specs.Image.{instructionOf, code, layout, eachAddress, eachPlace, entriesOf, allEntries}
 use Rattle.image.specs.Image.{endOf, beyondRow, accepted, refused, judgedNet, openedOf}
-use Rattle.image.specs.Progress.{CountsRead, NodesRead, CodeRead, NetRead, netOf, uncoded}
-use Rattle.image.specs.Progress.{Headed, Stocked, Coded, Begun, Laid, faultAfter}
+use Rattle.image.specs.Progress.{CountsRead, netOf, uncoded, Headed, Begun, Laid, faultAfter}
 use Rattle.net.proofs.Laws.{choose-true, choose-false}
 use Rattle.net.proofs.ReadingLaws.{never}
 use Rattle.instructions.specs.Instruction.{instruction}
@@ -38,21 +40,48 @@ headed s q₁ q₂ q₃ v n k a b c h l = record {
   short = omega arith;
 }
 
--- ---- the nodes: a turn for each address, part after part
-pub stocked : (s : List ℕ) (p q₁ q₂ q₃ : Step) (f n k i j l : ℕ) (blank : Node) (xs ys zs : List Node) → blank ≡ zeroNode
-    → Loop s p n (λ a. rowsOf (addressOf a)) (uncoded f n k (replicate 16 blank)) q₁ i (uncoded f n k xs) → n ≤ i
-    → Loop s q₁ n (λ a. processesOf (addressOf a)) (uncoded f n k xs) q₂ j (uncoded f n k ys) → n ≤ j
-    → Loop s q₂ n (λ a. tuplesOf (addressOf a)) (uncoded f n k ys) q₃ l (uncoded f n k zs) → n ≤ l
-    → Stocked s p f n k (record { nodes = zs; starts = q₁; next = q₃ })
-unfolding rows allProcesses allTuples eachAddress uncoded netOf emptyNet
-stocked s p q₁ q₂ q₃ f n k i j l blank xs ys zs e a h b g c m = record {
-  ruled = xs;
-  peopled = ys;
-  between = q₂;
-  first = rw (sym e) (every s n _ p _ i q₁ _ h a);
-  second = every s n _ q₁ _ j q₂ _ g b;
-  third = every s n _ q₂ _ l q₃ _ m c;
+-- ---- the nodes: a turn for each address, part after part. First the rows, which end at step q
+pub record Ruled (s : List ℕ) (f n k : ℕ) (q : Step) (xs : List Node) : Type 0 where
+  headed : Step
+  first : Went s (Step.At 0) header headed (uncoded f n k (emptyNet .nodes))
+  second : Went s headed (rows (uncoded f n k (emptyNet .nodes))) q (uncoded f n k xs)
+  few : n ≤ 16
+
+-- the processes, which begin at step `starts`
+pub record Peopled (s : List ℕ) (f n k : ℕ) (starts q : Step) (xs : List Node) : Type 0 where
+  rowed : List Node
+  first : Ruled s f n k starts rowed
+  second : Went s starts (allProcesses (uncoded f n k rowed)) q (uncoded f n k xs)
+
+-- the tuples
+pub record Stocked (s : List ℕ) (f n k : ℕ) (starts q : Step) (xs : List Node) : Type 0 where
+  between : Step
+  placed : List Node
+  first : Peopled s f n k starts between placed
+  second : Went s between (allTuples (uncoded f n k placed)) q (uncoded f n k xs)
+
+pub ruled : (s : List ℕ) (r : CountsRead) (q : Step) (i : ℕ) (blank : Node) (xs : List Node) → Headed s r → blank ≡ zeroNode
+    → Loop s (r .next) (r .addresses) (λ a. rowsOf (addressOf a)) (uncoded (r .format) (r .addresses) (r .length) (replicate 16 blank)) q i
+    (uncoded (r .format) (r .addresses) (r .length) xs)
+    → r .addresses ≤ i → Ruled s (r .format) (r .addresses) (r .length) q xs
+unfolding rows eachAddress uncoded netOf emptyNet
+ruled s r q i blank xs h e l g = record {
+  headed = r .next;
+  first = h .read;
+  second = rw (sym e) (every s (r .addresses) _ (r .next) _ i q _ g l);
+  few = h .few;
 }
+
+module _ (s : List ℕ) (f n k : ℕ) (p q : Step) (i : ℕ) (xs ys : List Node) where
+  pub peopled : Ruled s f n k p xs → Loop s p n (λ a. processesOf (addressOf a)) (uncoded f n k xs) q i (uncoded f n k ys) → n ≤ i
+      → Peopled s f n k p q ys
+  unfolding allProcesses eachAddress uncoded netOf
+  peopled r l g = record { rowed = xs; first = r; second = every s n _ p _ i q _ g l }
+
+  pub stocked : (starts : Step) → Peopled s f n k starts p xs
+      → Loop s p n (λ a. tuplesOf (addressOf a)) (uncoded f n k xs) q i (uncoded f n k ys) → n ≤ i → Stocked s f n k starts q ys
+  unfolding allTuples eachAddress uncoded netOf
+  stocked starts r l g = record { between = p; placed = xs; first = r; second = every s n _ p _ i q _ g l }
 
 -- ---- the code: a turn for each place, whatever the nodes
 pub record CodeLoop (s : List ℕ) (p : Step) (f n k : ℕ) (start : List Instruction) (q : Step) (i : ℕ) (cs : List Instruction) : Type 0 where
@@ -67,39 +96,36 @@ module _ (s : List ℕ) (p : Step) (f n k : ℕ) (start : List Instruction) wher
   code-turn q r i cs c h l w =
       record { each-net = λ xs. turn s k _ p _ i q r _ _ h (l .each-net xs) (instruction-turn s q r f n k i xs cs c w) }
 
-pub coded : (s : List ℕ) (p q : Step) (f n k i : ℕ) (blank : Instruction) (cs : List Instruction) → blank ≡ zeroInstruction
-    → CodeLoop s p f n k (replicate 512 blank) q i cs → k ≤ i → Coded s p f n k (record { code = cs; next = q })
+coded : (s : List ℕ) (p q : Step) (f n k i : ℕ) (blank : Instruction) (cs : List Instruction) → blank ≡ zeroInstruction
+    → CodeLoop s p f n k (replicate 512 blank) q i cs → k ≤ i → (xs : List Node) → Went s p (code (uncoded f n k xs)) q (netOf f n k xs cs)
 unfolding code eachPlace uncoded netOf emptyNet
-coded s p q f n k i blank cs e l h = record { read = λ xs. rw (sym e) (every s k _ p _ i q _ h (l .each-net xs)) }
+coded s p q f n k i blank cs e l h xs = rw (sym e) (every s k _ p _ i q _ h (l .each-net xs))
 
 -- ---- the parts in order
-pub laid : (s : List ℕ) (r₁ : CountsRead) (r₂ : NodesRead) (r₃ : CodeRead) (q : Step)
-    → Headed s r₁ → Stocked s (r₁ .next) (r₁ .format) (r₁ .addresses) (r₁ .length) r₂
-    → Coded s (r₂ .next) (r₁ .format) (r₁ .addresses) (r₁ .length) r₃ → Went s (r₃ .next) ending q tt
-    → Laid s
-    (record {
-      net = record { format = r₁ .format; addresses = r₁ .addresses; length = r₁ .length; nodes = r₂ .nodes; code = r₃ .code };
-      starts = r₂ .starts;
-      next = q;
-    })
+pub laid : (s : List ℕ) (f n k : ℕ) (starts p q r : Step) (m : ℕ) (blank : Instruction) (xs : List Node) (cs : List Instruction)
+    → Stocked s f n k starts p xs → blank ≡ zeroInstruction → CodeLoop s p f n k (replicate 512 blank) q m cs → k ≤ m
+    → Went s q ending r tt → Laid s starts r (netOf f n k xs cs)
 unfolding layout uncoded netOf
-laid s r₁ r₂ r₃ q a b c d = record {
-  read =
-      on s _ (r₁ .next) q _ _ _ _ (a .read)
-      (on s _ (r₂ .starts) q _ _ _ _ (b .first)
-      (on s _ (b .between) q _ _ _ _ (b .second)
-      (on s _ (r₂ .next) q _ _ _ _ (b .third)
-      (on s _ (r₃ .next) q _ _ _ _ (c .read (r₂ .nodes)) (next s _ q q _ _ tt _ d (stop s q _))))));
-  begun = record {
-    headed = r₁ .next;
-    start = uncoded (r₁ .format) (r₁ .addresses) (r₁ .length) (emptyNet .nodes);
-    ruled = uncoded (r₁ .format) (r₁ .addresses) (r₁ .length) (b .ruled);
-    first = a .read;
-    second = b .first;
-    addresses = refl;
-    few = a .few;
-  };
-}
+laid s f n k starts p q r m blank xs cs b e l g d =
+    let people = b .first in
+    let rule = people .first in
+    record {
+      read =
+          on s _ (rule .headed) r _ _ _ _ (rule .first)
+          (on s _ starts r _ _ _ _ (rule .second)
+          (on s _ (b .between) r _ _ _ _ (people .second)
+          (on s _ p r _ _ _ _ (b .second)
+          (on s _ q r _ _ _ _ (coded s p q f n k m blank cs e l g xs) (next s _ r r _ _ tt _ d (stop s r _))))));
+      begun = record {
+        headed = rule .headed;
+        start = uncoded f n k (emptyNet .nodes);
+        ruled = uncoded f n k (people .rowed);
+        first = rule .first;
+        second = rule .second;
+        addresses = refl;
+        few = rule .few;
+      };
+    }
 
 -- ---- the entries again
 pub all-entries : (s : List ℕ) (net : Net) (p q : Step) → Begun s p net → Went s p (eachAddress (net .addresses) (entriesOf net) tt) q tt
@@ -124,6 +150,15 @@ module _ (s : List ℕ) (net : Net) (q : Step) (f : Fault) (w : Went s (Step.At 
   pub beyond-entry : (g : Fault) → q ≡ Step.Failed g → f ≡ faultAt 30 (g .place) 9 → f ≡ beyondRow s net
   unfolding outcome endOf
   beyond-entry g e d = d ∙ sym (ap (λ (x : Step). faultAt 30 (endOf (outcome x (tt {0}))) 9) e) ∙ beyond s net q w
+
+-- ---- four slots for each address
+pub four-each : (n : ℕ) → n ≤ 16 → 4 * n ≡ choose (ltb n 16) (4 * n) 64
+unfolding choose
+four-each n h =
+    elim (decLe 16 n) [
+      | yes g ↦ let e : n ≡ 16 = omega arith in rw (le-ltb n 16 g, e) refl
+      | no g ↦ rw (lt-ltb n 16 (omega arith)) refl
+    ]
 
 -- ---- what an image gives
 -- its first bytes decide
@@ -157,28 +192,17 @@ unfolding reached outcome judgedNet faultAfter
 judged-not s (Step.At p) net h = sym (choose-false _ _ _ h)
 judged-not s (Step.Failed f) net h = refl
 
-not-true : (b : Bool) → not b ≡ true → b ≡ false
-not-true true h = sym h
-not-true false h = refl
+module _ (s : List ℕ) (starts q : Step) (net : Net) (whole within : Bool) (l : Laid (seen s) starts q net) (d : whole ≡ reached q) (e : within ≡ admits net) where
+  both-are : (whole && within) ≡ (reached q && admits net)
+  both-are = ap (λ (b : Bool). b && within) d ∙ ap (λ (b : Bool). reached q && b) e
 
-not-false : (b : Bool) → not b ≡ false → b ≡ true
-not-false true h = refl
-not-false false h = sym h
-
-module _ (s : List ℕ) (r : NetRead) (whole within : Bool) (l : Laid (seen s) r) (d : whole ≡ reached (r .next)) (e : within ≡ admits (r .net)) where
-  both-are : (whole && within) ≡ (reached (r .next) && admits (r .net))
-  both-are = ap (λ (b : Bool). b && within) d ∙ ap (λ (b : Bool). reached (r .next) && b) e
-
-  pub opened-whole : not (whole && within) ≡ false → record { answer = Verdict.Accepted; net = r .net } ≡ openedOf s
+  pub opened-whole : not (whole && within) ≡ false → record { answer = Verdict.Accepted; net = net } ≡ openedOf s
   unfolding accepted
-  opened-whole h =
-      judged-whole (seen s) (r .next) (r .net) (sym both-are ∙ not-false (whole && within) h) ∙ opened s (r .next) (r .net) (l .read)
+  opened-whole h = judged-whole (seen s) q net (sym both-are ∙ not-false (whole && within) h) ∙ opened s q net (l .read)
 
-  pub opened-not : (f : Fault) (o : Opened) → not (whole && within) ≡ true → f ≡ faultAfter (seen s) (r .next) (r .net) → o ≡ refused f
-      → o ≡ openedOf s
+  pub opened-not : (f : Fault) (o : Opened) → not (whole && within) ≡ true → f ≡ faultAfter (seen s) q net → o ≡ refused f → o ≡ openedOf s
   opened-not f o h g u =
-      u ∙ ap refused g ∙ judged-not (seen s) (r .next) (r .net) (sym both-are ∙ not-true (whole && within) h)
-      ∙ opened s (r .next) (r .net) (l .read)
+      u ∙ ap refused g ∙ judged-not (seen s) q net (sym both-are ∙ not-true (whole && within) h) ∙ opened s q net (l .read)
 
 -- the fault, by where the layout came to
 module _ (s : List ℕ) (q : Step) (net : Net) where

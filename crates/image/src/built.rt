@@ -1,7 +1,7 @@
 // What the parts of an image are read into.
-use net::instruction::Instruction;
-use net::network::Net;
-use net::node::Node;
+use net::policy::Row;
+use net::process::Process;
+use net::tuple::Tuple;
 use readers::step::Step;
 
 // Format, address count and code length, with the step after them.
@@ -12,28 +12,21 @@ pub struct CountsRead {
     pub next: Step,
 }
 
-// A node under construction, with the step after what was read.
-pub struct NodeRead {
-    pub node: Node,
+// The rows of a node, with the step after them.
+pub struct RowsRead {
+    pub rows: [Row; 16],
     pub next: Step,
 }
 
-// The nodes of a net, with the step at which their processes begin and the step after them.
-pub struct NodesRead {
-    pub nodes: [Node; 16],
-    pub starts: Step,
+// The processes of a node, with the step after them.
+pub struct ProcessesRead {
+    pub processes: [Process; 4],
     pub next: Step,
 }
 
-// The code of a net, with the step after it.
-pub struct CodeRead {
-    pub code: [Instruction; 512],
-    pub next: Step,
-}
-
-// A net, with the step at which its processes begin and the step after it.
-pub struct NetRead {
-    pub net: Net,
-    pub starts: Step,
+// The tuples of a node, of which the first `stored` count, with the step after them.
+pub struct StoreRead {
+    pub stored: usize,
+    pub tuples: [Tuple; 16],
     pub next: Step,
 }

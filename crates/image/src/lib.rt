@@ -1,9 +1,7 @@
 // The image reader: from the bytes of an image to the net that they write down, or to its first fault.
 mod built;
-mod code;
 mod entries;
 mod header;
-mod nodes;
 pub mod reader;
 mod rows;
 mod starts;

@@ -1,16 +1,17 @@
 // Rows of an image (document 01, "The image", part 2; document 02, slip 10).
-use crate::built::NodeRead;
+use crate::built::RowsRead;
 use bitreader::bits::take;
-use net::node::Node;
 use net::policy::Rights;
 use net::policy::Row;
 use readers::step::Step;
 ghost use Prim.Native.Nat.{_<_, _≤_};
 ghost use mathlib.Core.Path.{_≡_};
 ghost use Rattle.image.specs.Image.{isSetBit, rightsOf, creating, eachAddress, rights, row};
-ghost use Rattle.image.specs.Image.{singleRow, rowFrom, nodeRows};
+ghost use Rattle.image.specs.Image.{rowFrom, nodeRows};
 ghost use Rattle.bitreader.specs.Progress.{seen};
 ghost use Rattle.readers.specs.Progress.{Went};
+ghost use Rattle.image.specs.Progress.{Part, Single};
+ghost use Rattle.net.specs.Records.{withRows};
 
 struct RowRead {
     row: Row,
@@ -81,45 +82,43 @@ fn read_row(s: &[u8], from: Step, n: usize) -> RowRead
     read_rights(s, next, n, start)
 }
 
-// Format 1: the node with a single row, which is that for every origin.
-fn read_single(s: &[u8], from: Step, n: usize, start: Node) -> NodeRead
+// Format 1: a single row, which is that for every origin.
+fn read_single(s: &[u8], from: Step, n: usize) -> RowsRead
     requires { ⌜ n ≤ 16 ⌝ }
-    ensures { λ r. ⌜ Went (seen (now (s .entry))) from (singleRow n start) (r .next) (r .node) ⌝ }
+    ensures { λ r. ⌜ Single (seen (now (s .entry))) from n (r .next) (r .rows) ⌝ }
 {
     let got = read_row(s, from, n);
     let row = got.row;
     let rows = row.alike();
-    let mut node = start;
-    node.rows = rows;
     let next = got.next;
-    NodeRead { node, next }
+    RowsRead { rows, next }
 }
 
-// Format 2: the node with a row for each of n origins.
-fn read_by_origin(s: &[u8], from: Step, n: usize, start: Node) -> NodeRead
+// Format 2: a row for each of n origins, in place of those that stood there.
+fn read_by_origin(s: &[u8], from: Step, n: usize, start: [Row; 16]) -> RowsRead
     requires { ⌜ n ≤ 16 ⌝ }
-    ensures { λ r. ⌜ Went (seen (now (s .entry))) from (eachAddress n (rowFrom n) start) (r .next) (r .node) ⌝ }
+    ensures { λ r. ⌜ Part withRows (seen (now (s .entry))) from (eachAddress n (rowFrom n)) start (r .next) (r .rows) ⌝ }
 {
-    let mut node = start;
+    let mut rows = start;
     let mut step = from;
     let mut i = 0;
     while i < n {
         let got = read_row(s, step, n);
         let row = got.row;
-        node.rows[i] = row;
+        rows[i] = row;
         step = got.next;
         i += 1;
     }
-    NodeRead { node, next: step }
+    RowsRead { rows, next: step }
 }
 
-// The node with its rows.
-pub(crate) fn read_node_rows(s: &[u8], from: Step, format: usize, n: usize, start: Node) -> NodeRead
+// The rows of a node.
+pub(crate) fn read_rows(s: &[u8], from: Step, format: usize, n: usize, start: [Row; 16]) -> RowsRead
     requires { ⌜ n ≤ 16 ⌝ }
-    ensures { λ r. ⌜ Went (seen (now (s .entry))) from (nodeRows format n start) (r .next) (r .node) ⌝ }
+    ensures { λ r. ⌜ Part withRows (seen (now (s .entry))) from (nodeRows format n) start (r .next) (r .rows) ⌝ }
 {
     if format == 1 {
-        read_single(s, from, n, start)
+        read_single(s, from, n)
     } else {
         read_by_origin(s, from, n, start)
     }

@@ -1,10 +1,9 @@
 // Tuples of an image (document 01, "The image", part 4).
-use crate::built::NodeRead;
+use crate::built::StoreRead;
 use bitreader::bits::take;
 use bitreader::fields::read_address;
 use bitreader::fields::read_reading;
 use net::locality::Locality;
-use net::node::Node;
 use net::tuple::Field;
 use net::tuple::Item;
 use net::tuple::Tuple;
@@ -12,6 +11,7 @@ use readers::step::Step;
 ghost use Prim.Native.Nat.{_≤_};
 ghost use Rattle.readers.specs.Reader.{each};
 ghost use Rattle.image.specs.Image.{readingItem, addressItem, item, tupleField, tuple, stored, tuples};
+ghost use Rattle.image.specs.Progress.{Part, withStore};
 ghost use Rattle.bitreader.specs.Progress.{seen};
 ghost use Rattle.readers.specs.Progress.{Went};
 ghost use Rattle.net.specs.Records.{zeroTuple};
@@ -85,33 +85,52 @@ fn read_tuple(s: &[u8], from: Step, n: usize) -> TupleRead
     read_fields(s, next, n, count)
 }
 
-// As many tuples of the node at address a, oldest first, each with its mark.
-fn read_store(s: &[u8], from: Step, a: Locality, n: usize, count: usize, start: Node) -> NodeRead
-    ensures { λ r. ⌜ Went (seen (now (s .entry))) from (each count (stored a n) start) (r .next) (r .node) ⌝ }
+// As many tuples of the node at address a, oldest first, each with its mark, after the first `held` of those that stood there.
+fn read_store(
+    s: &[u8],
+    from: Step,
+    a: Locality,
+    n: usize,
+    count: usize,
+    held: usize,
+    start: [Tuple; 16],
+) -> StoreRead
+    ensures { λ r. ⌜ Part withStore (seen (now (s .entry))) from (each count (stored a n)) (held, start) (r .next) (r .stored, r .tuples) ⌝ }
 {
-    let mut node = start;
+    let mut tuples = start;
+    let mut full = held;
     let mut step = from;
     let mut i = 0;
     while i < count {
         let got = read_tuple(s, step, n);
         let read = got.tuple;
         let tuple = read.marked(a);
-        let at = node.stored;
-        if at < 16 {
-            node.tuples[at] = tuple;
-            node.stored = at + 1;
+        if full < 16 {
+            tuples[full] = tuple;
+            full += 1;
         }
         step = got.next;
         i += 1;
     }
-    NodeRead { node, next: step }
+    StoreRead {
+        stored: full,
+        tuples,
+        next: step,
+    }
 }
 
 // The tuples of a node.
-pub(crate) fn read_tuples(s: &[u8], from: Step, a: Locality, n: usize, start: Node) -> NodeRead
-    ensures { λ r. ⌜ Went (seen (now (s .entry))) from (tuples a n start) (r .next) (r .node) ⌝ }
+pub(crate) fn read_tuples(
+    s: &[u8],
+    from: Step,
+    a: Locality,
+    n: usize,
+    held: usize,
+    start: [Tuple; 16],
+) -> StoreRead
+    ensures { λ r. ⌜ Part withStore (seen (now (s .entry))) from (tuples a n) (held, start) (r .next) (r .stored, r .tuples) ⌝ }
 {
     let got = take(s, from, 5, 0, 17, 22);
     let next = got.next;
-    read_store(s, next, a, n, got.value, start)
+    read_store(s, next, a, n, got.value, held, start)
 }

@@ -10,13 +10,13 @@ use lib.Dec.{ltb}
 use borrow.Author.Tests.{lt-ltb, le-ltb, ltb-true}
 use Rattle.net.specs.Choice.{choose, all}
 use Rattle.net.specs.Records.{addressOf, placeOf, nodeAt, processAt, rowFor}
-use Rattle.net.proofs.Laws.{implies-i, implies-e, all-i, all-e}
+use Rattle.net.proofs.Laws.{same-truth, implies-i, implies-e, all-i, all-e}
 use Rattle.net.proofs.AllLaws.{when-true, when-false, all-more}
-use Rattle.keeping.specs.Types.{Locality, Place, Row, Instruction, Process, Node, Net}
+use Rattle.keeping.specs.Types.{Locality, Row, Instruction, Process, Node, Net}
 use Rattle.keeping.specs.Keeping.{keepsOf}
 use Rattle.keeping.specs.Admission.{admitsProcess, admitsNode, admitsAt, admits}
-use Rattle.keeping.proofs.WorklistLaws.{searchOf}
-use Rattle.keeping.proofs.VisitLaws.{Underway, same, all-judged}
+use Rattle.keeping.specs.Worklist.{searchOf}
+use Rattle.keeping.proofs.VisitLaws.{Underway, all-judged}
 
 -- a busy process is judged by the row that the node has for it
 pub by-row :
@@ -52,7 +52,7 @@ slots-are n m e =
 slots-all : (s : Net) (m : ℕ) → Slots (s .addresses) m → all m (admits-slot s) ≡ admits s
 unfolding admits-slot admits admitsAt admitsNode
 slots-all s m is =
-    same _ _
+    same-truth _ _
     (λ h.
     all-i 16 _
     (λ i low.
@@ -113,7 +113,7 @@ module _ (s : Net) (x : Node) (slot : ℕ) (here : Here s x slot) (ok now : Bool
   free-turn e free =
       e ∙ and-true ok ∙ all-more slot (admits-slot s) ok true so-far (judged-slot true (when-false _ (p .busy) free))
 
-  pub busy-turn : (row : Row) (marks : List Bool) (waiting : List Place) (count : ℕ) (b : Bool)
+  pub busy-turn : (row : Row) (marks : List Bool) (waiting : List ℕ) (count : ℕ) (b : Bool)
       → now ≡ (ok && b) → p .busy ≡ true → row ≡ rowFor x p
       → Underway (s .code) (placeOf (p .at .0)) (addressOf (slot / 4)) row (searchOf marks waiting count) b
       → count ≤ 0

@@ -11,7 +11,8 @@ use lib.Seq.{getD-set-same}
 use Rattle.keeping.specs.Types.{Place, Instruction}
 use Rattle.keeping.specs.Reaching.{Search, meet, visitFirst, visit, visits, startedAt}
 use Rattle.keeping.specs.ReachingClaims.{waitingAt, WaitOnce, NeverMoreWait}
-use Rattle.keeping.proofs.Unmarked.{unmarked, unmarked-set, meet-cases, meetAll-keeps, fresh, fresh-measured, marked-set}
+use Rattle.keeping.specs.Worklist.{unmarked}
+use Rattle.keeping.proofs.Unmarked.{unmarked-set, meet-cases, meetAll-keeps, fresh, fresh-measured, marked-set}
 
 record Waits (s : Search) : Type 0 where
   long : length (s .marks) ≡ 512

@@ -15,13 +15,8 @@ use borrow.Author.Tests.{ltb-true, lt-ltb, not-true, not-false}
 use Rattle.net.specs.Choice.{choose, both}
 use Rattle.keeping.specs.Types.{Place}
 use Rattle.keeping.specs.Reaching.{Search, meet, meetAll}
+use Rattle.keeping.specs.Worklist.{unmarked}
 use Rattle.net.proofs.Laws.{both-l, both-r}
-
--- how many places are not marked
-unfoldable pub unmarked : List Bool → ℕ
-unmarked [] = 0
-unmarked (true ∷ marks) = unmarked marks
-unmarked (false ∷ marks) = suc (unmarked marks)
 
 -- a mark set where there was none
 pub unmarked-set :

@@ -1,6 +1,6 @@
 -- The loop of `keeps`: its locals stand for the search after some number of visits, and what it has judged, with the places
--- that wait, is what is marked. That the places that wait are in range is `NeverMoreWait`. Assumes nothing.
-use Prim.Native.Nat.{ℕ, zero, suc, _+_, _-_, _*_, _%_, _<_, _≤_}
+-- that wait, is what is marked. That the place on top is in range, as a visit needs it, is `NeverMoreWait`. Assumes nothing.
+use Prim.Native.Nat.{ℕ, zero, suc, _+_, _-_, _*_, _%_, _^_, _<_, _≤_}
 use mathlib.Core.Path.{_≡_, refl, sym, ap, _∙_}
 use mathlib.Core.Bool.{Bool, true, false, not, _&&_}
 use mathlib.Core.Logic.{⊎-elim}
@@ -12,43 +12,22 @@ use lib.ListN.{length, getD, set, replicate, length-set}
 use lib.Seq.{getD-set-same}
 use lib.Dec.{leb}
 use borrow.Author.Tests.{le-leb, lt-leb}
+use borrow.Author.Needs.{scaled-fits}
 use mir.Syntax.{w64}
 use mir.Val.{Fits}
 use Rattle.net.specs.Choice.{choose, both}
-use Rattle.keeping.specs.Types.{Locality, Place, Row, Instruction}
+use Rattle.keeping.specs.Types.{Locality, Place, Row, Action, Instruction}
 use Rattle.net.specs.Records.{instructionAt, placeOf}
 use Rattle.keeping.specs.Reaching.{Search, meet, meetAll, followers, visitFirst, visit, visits, startedAt, reachedOf}
 use Rattle.keeping.specs.ReachingClaims.{waitingAt, WaitOnce, NeverMoreWait}
 use Rattle.keeping.specs.Keeping.{permits, permitsMarked, keepsOf}
-use Rattle.keeping.specs.Worklist.{Onward, Leads}
-use Rattle.net.proofs.Laws.{both-i, both-l, both-r, implies-i, implies-e, all-i, all-e}
+use Rattle.keeping.specs.Worklist.{unmarked, tops, searchOf, OnTop, Visited}
+use Rattle.net.proofs.Laws.{both-i, both-l, both-r, both-both, both-swap, both-end, same-truth, implies-i, implies-e, all-i, all-e}
 use Rattle.net.proofs.AllLaws.{and-both}
-use Rattle.keeping.proofs.Unmarked.{unmarked, unmarked-at, meet-cases, meetAll-keeps, Measured, measured-meet, measured-meetAll}
+use Rattle.keeping.proofs.Unmarked.{unmarked-at, meet-cases, meetAll-keeps, Measured, measured-meet, measured-meetAll}
 use Rattle.keeping.proofs.Unmarked.{fresh, fresh-measured, Marked, marked-set, set-marked}
 use Rattle.keeping.proofs.NeverMoreWait.{neverMoreWait}
-use Rattle.keeping.proofs.WorklistLaws.{tops, tops-length, tops-last, searchOf, met-before, met-new, put-is}
-
--- ---- truth values
-pub same : (a b : Bool) → (a ≡ true → b ≡ true) → (b ≡ true → a ≡ true) → a ≡ b
-same true b f g = sym (f refl)
-same false true f g = g refl
-same false false f g = refl
-
-both-swap : (a b c : Bool) → both a (both b c) ≡ both b (both a c)
-unfolding both
-both-swap true b c = refl
-both-swap false true c = refl
-both-swap false false c = refl
-
-both-both : (a b c : Bool) → both (both a b) c ≡ both a (both b c)
-unfolding both
-both-both true b c = refl
-both-both false b c = refl
-
-both-end : (a : Bool) → both a true ≡ a
-unfolding both
-both-end true = refl
-both-end false = refl
+use Rattle.keeping.proofs.WorklistLaws.{tops-length, tops-last, met-before, met-new, left-is}
 
 module _ (code : List Instruction) (a : Locality) (row : Row) where
   -- ---- one mark more, one judgement more
@@ -59,7 +38,7 @@ module _ (code : List Instruction) (a : Locality) (row : Row) where
       → permitsMarked (set marks (p .0) true) code a row ≡ both (good p) (permitsMarked marks code a row)
   unfolding permitsMarked good Marked
   permits-set marks p l low =
-      same _ _
+      same-truth _ _
       (λ h.
       both-i _ _ (implies-e _ _ (all-e 512 _ h (p .0) low) (getD-set-same marks (p .0) true false (omega arith)))
       (all-i 512 _ (λ q below. implies-i _ _ (λ m. implies-e _ _ (all-e 512 _ h q below) (marked-set marks (p .0) q m)))))
@@ -183,9 +162,9 @@ none-reached code p a row h =
     ended code p a row (startedAt p) true (begun code p a row)
     (ap (λ (t : Search). t .waiting) (met-before (record { marks = replicate 512 false; waiting = [] }) p (λ low. absurd (omega arith))))
 
-pub underway-first : (code : List Instruction) (p : Place) (a : Locality) (row : Row) (waiting : List Place)
+pub underway-first : (code : List Instruction) (p : Place) (a : Locality) (row : Row) (waiting : List ℕ)
     → p .0 < 512
-    → getD waiting 0 (record { 0 = 0 }) ≡ p
+    → getD waiting 0 0 ≡ p .0
     → Underway code p a row (searchOf (set (replicate 512 false) (p .0) true) waiting 1) true
 unfolding startedAt searchOf tops
 underway-first code p a row waiting low e =
@@ -198,8 +177,8 @@ unset-again (suc n) zero = refl
 unset-again (suc n) (suc i) = ap (λ (ms : List Bool). false ∷ ms) (unset-again n i)
 
 -- the same from any place: past the code nothing is marked, and none waits
-pub underway-from : (code : List Instruction) (p : Place) (a : Locality) (row : Row) (waiting : List Place) (count : ℕ)
-    → count ≡ choose (leb 512 (p .0)) 0 1 → getD waiting 0 (record { 0 = 0 }) ≡ p
+pub underway-from : (code : List Instruction) (p : Place) (a : Locality) (row : Row) (waiting : List ℕ) (count : ℕ)
+    → count ≡ choose (leb 512 (p .0)) 0 1 → getD waiting 0 0 ≡ p .0
     → Underway code (placeOf (p .0)) a row (searchOf (set (replicate 512 false) (p .0 % 512) (not (leb 512 (p .0)))) waiting count) true
 unfolding choose startedAt searchOf tops
 underway-from code p a row waiting count c e =
@@ -214,18 +193,24 @@ underway-from code p a row waiting count c e =
           rw (lt-leb 512 (p .0) low, one, mod-eq-of-lt low) (underway-first code p a row waiting low e)
     ]
 
-pub all-judged : (code : List Instruction) (p : Place) (a : Locality) (row : Row) (marks : List Bool) (waiting : List Place) (count : ℕ) (ok : Bool)
+pub all-judged : (code : List Instruction) (p : Place) (a : Locality) (row : Row) (marks : List Bool) (waiting : List ℕ) (count : ℕ) (ok : Bool)
     → Underway code (placeOf (p .0)) a row (searchOf marks waiting count) ok → count ≤ 0 → ok ≡ keepsOf code p a row
 unfolding searchOf tops
 all-judged code p a row marks waiting count ok u h =
     let e : count ≡ 0 = omega arith in ended code p a row (searchOf marks waiting count) ok u (rw e)
 
-left-is : (m : ℕ) (marks : List Bool) (waiting : List Place) (n : ℕ) → Measured m (searchOf marks waiting n) → n + unmarked marks ≡ m
+-- a visit takes one from the places that wait or are unmarked
+pub turned-less : (marks : List Bool) (waiting : List ℕ) (count : ℕ) (action : Action) (marks' : List Bool) (waiting' : List ℕ) (r : ℕ)
+    → Visited marks waiting count action marks' waiting' r → r + unmarked marks' < count + unmarked marks
+turned-less marks waiting count action marks' waiting' r v = v .fewer
+
+pub marks-long : (code : List Instruction) (p : Place) (a : Locality) (row : Row) (marks : List Bool) (waiting : List ℕ) (count : ℕ) (ok : Bool)
+    → Underway code p a row (searchOf marks waiting count) ok → length marks ≡ 512
 unfolding searchOf
-left-is m marks waiting n h = omega (arith, h .left, tops-length waiting n)
+marks-long code p a row marks waiting count ok u = u .measured .long
 
 module _ (code : List Instruction) (p : Place) (a : Locality) (row : Row)
-    (marks : List Bool) (waiting : List Place) (count : ℕ) (ok : Bool)
+    (marks : List Bool) (waiting : List ℕ) (count : ℕ) (ok : Bool)
     (u : Underway code p a row (searchOf marks waiting count) ok) (some : 0 < count) where
   -- what `NeverMoreWait` says of the places that wait
   once : WaitOnce (searchOf marks waiting count)
@@ -234,7 +219,7 @@ module _ (code : List Instruction) (p : Place) (a : Locality) (row : Row)
 
   -- the place on top
   abbrev place : Place
-  place = getD waiting (count - 1) (record { 0 = 0 })
+  place = placeOf (getD waiting (count - 1) 0)
 
   top-low : count - 1 < 512
   unfolding searchOf
@@ -247,85 +232,45 @@ module _ (code : List Instruction) (p : Place) (a : Locality) (row : Row)
   pub top-scaled : Fits w64 ((count - 1) * 2)
   top-scaled = omega (arith, top-low)
 
-  on-top : waitingAt (searchOf marks waiting count) 0 ≡ place
+  top-is : waitingAt (searchOf marks waiting count) 0 ≡ place
   unfolding waitingAt searchOf
-  on-top = rw (tops-last waiting count some) refl
+  top-is = rw (tops-last waiting count some) refl
 
   waits : 0 < length (searchOf marks waiting count .waiting)
   unfolding searchOf
   waits = omega (arith, tops-length waiting count)
 
-  pub place-low : place .0 < 512
-  place-low = rw on-top at (once .low 0 waits)
+  pub place-low : getD waiting (count - 1) 0 < 512
+  place-low = rw top-is at (once .low 0 waits)
 
-  place-marked : getD marks (place .0) false ≡ true
+  pub place-fits : Fits w64 (getD waiting (count - 1) 0)
+  place-fits = omega (arith, place-low)
+
+  pub place-scaled : (k : ℕ) → 512 * k < 2 ^ 63 → Fits w64 (getD waiting (count - 1) 0 * k)
+  place-scaled k h = scaled-fits (getD waiting (count - 1) 0) 512 k place-low h
+
+  place-marked : getD marks (getD waiting (count - 1) 0) false ≡ true
   unfolding searchOf
-  place-marked = rw on-top at (once .marked 0 waits)
+  place-marked = rw top-is at (once .marked 0 waits)
 
-  room : count + unmarked marks ≡ u .left
-  room = left-is (u .left) marks waiting count (u .measured)
-
-  lower-left : Measured (u .left - 1) (searchOf marks waiting (count - 1))
+  -- a visit has what it needs
+  pub on-top : (m : ℕ) → length waiting ≡ m → 512 ≤ m → OnTop marks waiting count
   unfolding searchOf
-  lower-left = record {
+  on-top m long enough = record {
+    some = some;
     long = u .measured .long;
-    left = omega (arith, room, tops-length waiting (count - 1));
+    enough = omega arith;
+    room = omega (arith, left-is (u .left) marks waiting count (u .measured), u .whole);
+    low = place-low;
+    marked = place-marked;
   }
 
-  module _ (o : Onward) (leads : Leads (instructionAt code place .action) place o) where
-    pub first-low : o .first .0 < 512
-    first-low = leads .first-low place-low
-
-    pub second-low : o .second .0 < 512
-    second-low = leads .second-low place-low
-
-    module _ (f m : ℕ) (long : length waiting ≡ m) (enough : 512 ≤ m) (f-is : f ≡ choose (getD marks (o .first .0) false) 0 1) where
-      first-met : searchOf (set marks (o .first .0) true) (set waiting (count - 1) (o .first)) (count - 1 + f)
-          ≡ meet (searchOf marks waiting (count - 1)) (o .first)
-      first-met = put-is marks waiting (count - 1) (o .first) (omega (arith, top-low)) first-low f f-is
-
-      next-left : Measured (u .left - 1) (searchOf (set marks (o .first .0) true) (set waiting (count - 1) (o .first)) (count - 1 + f))
-      next-left = rw first-met (measured-meet (u .left - 1) (searchOf marks waiting (count - 1)) (o .first) lower-left)
-
-      next-low : count - 1 + f < 512
-      next-low = omega (arith, left-is _ _ _ _ next-left, room, u .whole)
-
-      pub next-in : count - 1 + f < m
-      next-in = omega (arith, next-low)
-
-      pub next-fits : Fits w64 (count - 1 + f)
-      next-fits = omega (arith, next-low)
-
-      pub next-scaled : Fits w64 ((count - 1 + f) * 2)
-      next-scaled = omega (arith, next-low)
-
-      module _ (g : ℕ) (g-is : g ≡ choose (getD (set marks (o .first .0) true) (o .second .0) false) 0 1) where
-        -- the search at the end of the turn
-        abbrev after : Search
-        after =
-            searchOf (set (set marks (o .first .0) true) (o .second .0) true)
-            (set (set waiting (count - 1) (o .first)) (count - 1 + f) (o .second)) (count - 1 + f + g)
-
-        both-met : after ≡ meetAll (searchOf marks waiting (count - 1)) (followers (instructionAt code place .action))
-        unfolding searchOf
-        both-met =
-            put-is (set marks (o .first .0) true) (set waiting (count - 1) (o .first)) (count - 1 + f) (o .second)
-            (omega (arith, next-low, length-set waiting (count - 1) (o .first))) second-low g g-is
-            ∙ ap (λ (s : Search). meet s (o .second)) first-met
-            ∙ leads .meets (searchOf marks waiting (count - 1)) (u .measured .long) place-marked
-
-        after-left : Measured (u .left - 1) after
-        after-left = rw both-met (measured-meetAll (u .left - 1) (searchOf marks waiting (count - 1)) _ lower-left)
-
-        pub turned-less : count - 1 + f + g + unmarked (set (set marks (o .first .0) true) (o .second .0) true) < count + unmarked marks
-        turned-less = omega (arith, left-is _ _ _ _ after-left, room)
-
-        pub count-fits : Fits w64 (count - 1 + f + g)
-        count-fits = omega (arith, turned-less, room, u .whole)
-
-        pub turned : (judged : Bool) → judged ≡ permits row a (instructionAt code place .action)
-            → Underway code p a row after (ok && judged)
-        unfolding searchOf good
-        turned judged good-is =
-            rw (both-met, and-both ok judged ok _ refl good-is)
-            (visited code p a row marks place (tops waiting (count - 1)) ok (rw (tops-last waiting count some) at u))
+  -- and the loop is under way after it
+  pub turned : (judged : Bool) (marks' : List Bool) (waiting' : List ℕ) (r : ℕ)
+      → judged ≡ permits row a (instructionAt code place .action)
+      → Visited marks waiting count (instructionAt code place .action) marks' waiting' r
+      → Underway code p a row (searchOf marks' waiting' r) (ok && judged)
+  unfolding searchOf good
+  turned judged marks' waiting' r good-is v =
+      rw (v .met, and-both ok judged ok _ refl good-is)
+      (visited code p a row marks place (tops waiting (count - 1)) ok (rw (tops-last waiting count some) at u))

@@ -1,6 +1,6 @@
--- The locals of the loop of `keeps` stand for a search of `specs/Reaching.antt`, and the two places that a visited one leads to
--- for what follows it (`specs/Worklist.antt`). Assumes nothing.
-use Prim.Native.Nat.{ℕ, zero, suc, _+_, _-_, _<_, _≤_}
+-- The locals of the loop over reached places stand for a search of `specs/Reaching.antt`, and the two places that a visited
+-- one leads to for what follows it (`specs/Worklist.antt`): so a visit is one of that search. Assumes nothing.
+use Prim.Native.Nat.{ℕ, zero, suc, _+_, _-_, _*_, _<_, _≤_}
 use mathlib.Core.Path.{_≡_, refl, sym, ap, _∙_}
 use mathlib.Core.Bool.{Bool, true, false}
 use mathlib.Core.List.{List, [], _∷_}
@@ -8,15 +8,18 @@ use native.Mathlib.Nat.{add-zero}
 use native.Mathlib.Numerals.{add-one}
 use native.Mathlib.Omega.{arith}
 use native.Mathlib.Decide.{decLe}
-use lib.ListN.{length, getD, set}
+use lib.ListN.{length, getD, set, length-set}
 use lib.Seq.{getD-set-same, getD-set-other}
 use borrow.Author.Tests.{lt-ltb, le-ltb}
+use mir.Syntax.{w64}
+use mir.Val.{Fits}
 use Rattle.net.specs.Choice.{choose}
+use Rattle.net.specs.Records.{placeOf}
 use Rattle.keeping.specs.Types.{Place, Action}
 use Rattle.keeping.specs.Reaching.{Search, meet, meetAll, followers}
-use Rattle.keeping.specs.Worklist.{Onward, lowOr, onwardTo, Leads}
+use Rattle.keeping.specs.Worklist.{Onward, lowOr, onwardTo, Leads, unmarked, tops, searchOf, OnTop, Visited}
 use Rattle.net.proofs.Laws.{choose-true, choose-false}
-use Rattle.keeping.proofs.Unmarked.{meet-cases, Marked, marked-meet, met-marked}
+use Rattle.keeping.proofs.Unmarked.{meet-cases, Measured, measured-meet, measured-meetAll, Marked, marked-meet, met-marked}
 
 -- ---- meeting a place that is marked, or past the marks, changes nothing
 module _ (s : Search) (p : Place) where
@@ -100,31 +103,24 @@ unfolding onwardTo
 onward-is p q r a b d e = cc
 
 -- ---- the waiting places: the first n of the list, the last one on top
-unfoldable pub tops : List Place → ℕ → List Place
-tops ps zero = []
-tops ps (suc n) = getD ps n (record { 0 = 0 }) ∷ tops ps n
-
-pub tops-length : (ps : List Place) (n : ℕ) → length (tops ps n) ≡ n
+pub tops-length : (ns : List ℕ) (n : ℕ) → length (tops ns n) ≡ n
 unfolding tops
-tops-length ps zero = refl
-tops-length ps (suc n) = ap suc (tops-length ps n)
+tops-length ns zero = refl
+tops-length ns (suc n) = ap suc (tops-length ns n)
 
-pub tops-last : (ps : List Place) (n : ℕ) → 0 < n → tops ps n ≡ getD ps (n - 1) (record { 0 = 0 }) ∷ tops ps (n - 1)
+pub tops-last : (ns : List ℕ) (n : ℕ) → 0 < n → tops ns n ≡ placeOf (getD ns (n - 1) 0) ∷ tops ns (n - 1)
 unfolding tops
-tops-last ps zero h = absurd (omega arith)
-tops-last ps (suc k) h = let e : suc k - 1 ≡ k = omega arith in rw e refl
+tops-last ns zero h = absurd (omega arith)
+tops-last ns (suc k) h = let e : suc k - 1 ≡ k = omega arith in rw e refl
 
-tops-set : (ps : List Place) (n k : ℕ) (p : Place) → k ≤ n → tops (set ps n p) k ≡ tops ps k
+tops-set : (ns : List ℕ) (n k i : ℕ) → k ≤ n → tops (set ns n i) k ≡ tops ns k
 unfolding tops
-tops-set ps n zero p h = refl
-tops-set ps n (suc k) p h = rw (getD-set-other ps n k p (record { 0 = 0 }) (omega arith), tops-set ps n k p (omega arith))
+tops-set ns n zero i h = refl
+tops-set ns n (suc k) i h = rw (getD-set-other ns n k i 0 (omega arith), tops-set ns n k i (omega arith))
 
-tops-put : (ps : List Place) (n : ℕ) (p : Place) → n < length ps → tops (set ps n p) (n + 1) ≡ p ∷ tops ps n
+tops-put : (ns : List ℕ) (n i : ℕ) → n < length ns → tops (set ns n i) (n + 1) ≡ placeOf i ∷ tops ns n
 unfolding tops
-tops-put ps n p h = rw (add-one, getD-set-same ps n p (record { 0 = 0 }) h, tops-set ps n n p (omega arith))
-
-unfoldable pub searchOf : List Bool → List Place → ℕ → Search
-searchOf marks waiting count = record { marks = marks; waiting = tops waiting count }
+tops-put ns n i h = rw (add-one, getD-set-same ns n i 0 h, tops-set ns n n i (omega arith))
 
 -- ---- a place written on top of the waiting ones, which counts only where it had no mark, is met
 set-again : (marks : List Bool) (i : ℕ) → getD marks i false ≡ true → set marks i true ≡ marks
@@ -132,14 +128,100 @@ set-again [] i h = refl
 set-again (m ∷ ms) zero h = ap (λ (b : Bool). b ∷ ms) (sym h)
 set-again (m ∷ ms) (suc i) h = ap (λ (l : List Bool). m ∷ l) (set-again ms i h)
 
-module _ (marks : List Bool) (waiting : List Place) (n : ℕ) (q : Place) (long : n < length waiting) (low : q .0 < 512) where
+module _ (marks : List Bool) (waiting : List ℕ) (n : ℕ) (q : Place) (long : n < length waiting) (low : q .0 < 512) where
   put-by : (b : Bool) → getD marks (q .0) false ≡ b
-      → searchOf (set marks (q .0) true) (set waiting n q) (n + choose b 0 1) ≡ meet (searchOf marks waiting n) q
+      → searchOf (set marks (q .0) true) (set waiting n (q .0)) (n + choose b 0 1) ≡ meet (searchOf marks waiting n) q
   unfolding searchOf choose Marked
   put-by true e =
-      rw (set-again marks (q .0) e, add-zero, tops-set waiting n n q (omega arith)) (sym (met-before (searchOf marks waiting n) q (λ _. e)))
-  put-by false e = rw (tops-put waiting n q long) (sym (met-new (searchOf marks waiting n) q low e))
+      rw (set-again marks (q .0) e, add-zero, tops-set waiting n n (q .0) (omega arith))
+      (sym (met-before (searchOf marks waiting n) q (λ _. e)))
+  put-by false e = rw (tops-put waiting n (q .0) long) (sym (met-new (searchOf marks waiting n) q low e))
 
-  pub put-is : (f : ℕ) → f ≡ choose (getD marks (q .0) false) 0 1
-      → searchOf (set marks (q .0) true) (set waiting n q) (n + f) ≡ meet (searchOf marks waiting n) q
+  put-is : (f : ℕ) → f ≡ choose (getD marks (q .0) false) 0 1
+      → searchOf (set marks (q .0) true) (set waiting n (q .0)) (n + f) ≡ meet (searchOf marks waiting n) q
   put-is f e = rw e (put-by _ refl)
+
+-- ---- one visit
+pub left-is : (m : ℕ) (marks : List Bool) (waiting : List ℕ) (n : ℕ) → Measured m (searchOf marks waiting n) → n + unmarked marks ≡ m
+unfolding searchOf
+left-is m marks waiting n h = omega (arith, h .left, tops-length waiting n)
+
+module _ (marks : List Bool) (waiting : List ℕ) (count : ℕ) (t : OnTop marks waiting count) where
+  -- the search without the place on top
+  abbrev below : Search
+  below = searchOf marks waiting (count - 1)
+
+  below-left : Measured (count - 1 + unmarked marks) below
+  unfolding searchOf
+  below-left = record { long = t .long; left = omega (arith, tops-length waiting (count - 1)) }
+
+  pub top-fits : count - 1 < length waiting
+  top-fits = omega (arith, t .room, t .enough, t .some)
+
+  pub top-twice : Fits w64 ((count - 1) * 2)
+  top-twice = omega (arith, t .room)
+
+  module _ (action : Action) (o : Onward) (leads : Leads action (placeOf (getD waiting (count - 1) 0)) o) where
+    first-low : o .first .0 < 512
+    first-low = leads .first-low (t .low)
+
+    second-low : o .second .0 < 512
+    second-low = leads .second-low (t .low)
+
+    pub first-in : o .first .0 < length marks
+    first-in = omega (arith, first-low, t .long)
+
+    pub second-in : o .second .0 < length (set marks (o .first .0) true)
+    second-in = omega (arith, second-low, t .long, length-set marks (o .first .0) true)
+
+    module _ (f : ℕ) (f-is : f ≡ choose (getD marks (o .first .0) false) 0 1) where
+      first-met : searchOf (set marks (o .first .0) true) (set waiting (count - 1) (o .first .0)) (count - 1 + f) ≡ meet below (o .first)
+      first-met = put-is marks waiting (count - 1) (o .first) top-fits first-low f f-is
+
+      next-left : Measured (count - 1 + unmarked marks)
+          (searchOf (set marks (o .first .0) true) (set waiting (count - 1) (o .first .0)) (count - 1 + f))
+      next-left = rw first-met (measured-meet _ below (o .first) below-left)
+
+      next-low : count - 1 + f < 512
+      next-low = omega (arith, left-is _ _ _ _ next-left, t .room, t .some)
+
+      pub next-in : count - 1 + f < length (set waiting (count - 1) (o .first .0))
+      next-in = omega (arith, next-low, t .enough, length-set waiting (count - 1) (o .first .0))
+
+      pub next-fits : Fits w64 (count - 1 + f)
+      next-fits = omega (arith, next-low)
+
+      pub next-scaled : Fits w64 ((count - 1 + f) * 2)
+      next-scaled = omega (arith, next-low)
+
+      module _ (g : ℕ) (g-is : g ≡ choose (getD (set marks (o .first .0) true) (o .second .0) false) 0 1) where
+        -- the search at the end of the visit
+        abbrev after : Search
+        after =
+            searchOf (set (set marks (o .first .0) true) (o .second .0) true)
+            (set (set waiting (count - 1) (o .first .0)) (count - 1 + f) (o .second .0)) (count - 1 + f + g)
+
+        both-met : after ≡ meetAll below (followers action)
+        unfolding searchOf
+        both-met =
+            put-is (set marks (o .first .0) true) (set waiting (count - 1) (o .first .0)) (count - 1 + f) (o .second)
+            next-in second-low g g-is
+            ∙ ap (λ (s : Search). meet s (o .second)) first-met
+            ∙ leads .meets below (t .long) (t .marked)
+
+        after-left : Measured (count - 1 + unmarked marks) after
+        after-left = rw both-met (measured-meetAll _ below _ below-left)
+
+        less : count - 1 + f + g + unmarked (set (set marks (o .first .0) true) (o .second .0) true) < count + unmarked marks
+        less = omega (arith, left-is _ _ _ _ after-left, t .some)
+
+        pub count-fits : Fits w64 (count - 1 + f + g)
+        count-fits = omega (arith, less, t .room)
+
+        pub visited-is : Visited marks waiting count action
+            (set (set marks (o .first .0) true) (o .second .0) true)
+            (set (set waiting (count - 1) (o .first .0)) (count - 1 + f) (o .second .0)) (count - 1 + f + g)
+        visited-is = record {
+          met = both-met;
+          fewer = less;
+        }

@@ -1,6 +1,6 @@
 // Admission (document 01, "Reaching and rights"): whether the processes of a net keep within the rows of their nodes,
 // each within the row for its origin (document 02, slip 10).
-use crate::reaching::follow;
+use crate::reaching::visit;
 use crate::reaching::waiting_more;
 use crate::rights::keeps;
 use crate::rights::permitted;
@@ -57,29 +57,18 @@ pub fn admitted(net: Net) -> bool
             let start = from.0 as usize;
             let past = 512 <= start;
             let mut marks = [false; 512];
-            let mut waiting = [from; 512];
+            let mut waiting = [from.0; 512];
             let mut count = waiting_more(past);
             let mut within = true;
             marks[start % 512] = !past;
             while 0 < count {
                 let top = count - 1;
-                let place = waiting[top];
-                let at = place.0 as usize;
+                let at = waiting[top] as usize;
                 let instruction = net.code[at];
                 let action = instruction.action;
                 let good = permitted(row, a, action);
                 within = within & good;
-                let on = follow(action, place);
-                let first = on.first;
-                let i = first.0 as usize;
-                let next = top + waiting_more(marks[i]);
-                marks[i] = true;
-                waiting[top] = first;
-                let second = on.second;
-                waiting[next] = second;
-                let j = second.0 as usize;
-                count = next + waiting_more(marks[j]);
-                marks[j] = true;
+                count = visit(&mut marks, &mut waiting, count, action);
             }
             ok = ok & within;
         }

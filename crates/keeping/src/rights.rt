@@ -1,6 +1,5 @@
 // Rights, and code that keeps within a row (document 01, "Reaching and rights").
-use crate::reaching::follow;
-use crate::reaching::waiting_more;
+use crate::reaching::visit;
 use net::instruction::Action;
 use net::instruction::Instruction;
 use net::instruction::Target;
@@ -133,7 +132,7 @@ fn may_send_at(row: Row, t: Target, a: Locality) -> bool
 }
 
 // Whether a row of address a grants what an action needs.
-pub(crate) fn permitted(row: Row, a: Locality, action: Action) -> bool
+pub fn permitted(row: Row, a: Locality, action: Action) -> bool
     ensures { λ r. ⌜ r ≡ permits row a action ⌝ }
 {
     match action {
@@ -149,8 +148,7 @@ pub(crate) fn permitted(row: Row, a: Locality, action: Action) -> bool
 }
 
 // Whether the code from place p keeps within the row of address a. Each place reached is marked and put to wait when it is
-// first met, so it waits once at most and 512 places are room enough; it is judged when it is visited. Each place that
-// follows is written on top of the waiting ones, and counts there where it was not marked.
+// first met, so it waits once at most and 512 places are room enough; it is judged when it is visited.
 pub fn keeps(code: [Instruction; 512], p: Place, a: Locality, row: Row) -> bool
     ensures { λ r. ⌜ r ≡ keepsOf code p a row ⌝ }
 {
@@ -159,29 +157,18 @@ pub fn keeps(code: [Instruction; 512], p: Place, a: Locality, row: Row) -> bool
         return true;
     }
     let mut marks = [false; 512];
-    let mut waiting = [p; 512];
+    let mut waiting = [p.0; 512];
     let mut count: usize = 1;
     let mut ok = true;
     marks[start] = true;
     while 0 < count {
         let top = count - 1;
-        let place = waiting[top];
-        let at = place.0 as usize;
+        let at = waiting[top] as usize;
         let instruction = code[at];
         let action = instruction.action;
         let good = permitted(row, a, action);
         ok = ok & good;
-        let on = follow(action, place);
-        let first = on.first;
-        let i = first.0 as usize;
-        let next = top + waiting_more(marks[i]);
-        marks[i] = true;
-        waiting[top] = first;
-        let second = on.second;
-        waiting[next] = second;
-        let j = second.0 as usize;
-        count = next + waiting_more(marks[j]);
-        marks[j] = true;
+        count = visit(&mut marks, &mut waiting, count, action);
     }
     ok
 }

@@ -1,12 +1,10 @@
 -- `image::rows::read_single` meets its contract. Assumes nothing.
-use Rattle.net.specs.Records.{withRows}
 use Rattle.image.proofs.ImageLaws.{single-parts}
 use borrow.Author.Needs.{needs}
 use Rattle.image.proofs.rows.read_single.Statement.{statement}
 use Rattle.image.proofs.rows.read_single.Tie as tie
 
 pub read-single-spec : {M : Type 1} → statement M
-unfolding withRows
 read-single-spec =
     tie.close
     (tie.spec

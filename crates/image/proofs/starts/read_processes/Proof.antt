@@ -1,15 +1,13 @@
 -- `image::starts::read_processes` meets its contract. Assumes nothing.
-use Rattle.readers.proofs.ReaderLaws.{on}
-use Rattle.image.specs.Image.{processes}
+use Rattle.image.proofs.ImageLaws.{counted-processes}
 use borrow.Author.Needs.{needs}
 use Rattle.image.proofs.starts.read_processes.Statement.{statement}
 use Rattle.image.proofs.starts.read_processes.Tie as tie
 
 pub read-processes-spec : {M : Type 1} → statement M
-unfolding processes
 read-processes-spec =
     tie.close
     (tie.spec
     (λ c κs. search needs)
     (λ c κs. search needs)
-    (λ c. search (needs, on)))
+    (λ c. search (needs, counted-processes)))

@@ -9,9 +9,8 @@ use lib.ListN.{length}
 use Rattle.net.specs.Choice.{all}
 use Rattle.net.specs.Records.{instructionAt, placeOf, processAt, nodeAt}
 use Rattle.net.proofs.AllLaws.{all-none}
-use Rattle.keeping.proofs.Unmarked.{unmarked}
-use Rattle.keeping.proofs.WorklistLaws.{searchOf}
-use Rattle.keeping.proofs.VisitLaws.{Underway, underway-from, top-in, top-scaled, place-low, first-low, second-low, next-in, next-fits, next-scaled, count-fits, turned, turned-less}
+use Rattle.keeping.specs.Worklist.{unmarked, searchOf}
+use Rattle.keeping.proofs.VisitLaws.{Underway, underway-from, marks-long, top-in, top-scaled, place-low, place-fits, place-scaled, on-top, turned, turned-less}
 use Rattle.keeping.proofs.AdmissionLaws.{admits-slot, Here, Held, none-held, held-here, here-held, free-turn, busy-turn, slots-end}
 use borrow.Author.Needs.{needs}
 use Rattle.keeping.proofs.admission.admitted.Statement.{statement}
@@ -62,27 +61,15 @@ admitted-spec =
     (λ c. search needs)
     (λ c. search (needs, top-scaled))
     (λ c. search (needs, top-in))
-    (λ c. search needs)
-    (λ c. search needs)
+    (λ c. search (needs, place-fits))
+    (λ c. search (needs, place-scaled))
     (λ c. search (needs, place-low))
     (λ c κs. search needs)
-    (λ c κs. search needs)
+    (λ c. search (needs, marks-long))
     (λ c. search needs)
-    (λ c. search (needs, first-low))
-    (λ c κs. search needs)
-    (λ c. search (needs, next-fits))
-    (λ c. search (needs, first-low))
-    (λ c. search top-scaled)
-    (λ c. search (needs, top-in))
-    (λ c. search (le-refl, next-scaled))
-    (λ c. search (le-refl, next-in))
-    (λ c. search needs)
-    (λ c. search (needs, second-low))
-    (λ c κs. search needs)
-    (λ c. search (le-refl, count-fits))
-    (λ c. search (needs, second-low))
-    (λ c. search (le-refl, turned-less))
-    (λ c. (search (le-refl, turned), search needs))
+    (λ c κs. search (le-refl, on-top))
+    (λ c. search (needs, turned-less))
+    (λ c. (search turned, search needs))
     (λ c. search needs)
     (λ c. search needs)
     (λ c.

@@ -3,10 +3,9 @@ use Prim.Native.Nat.{_+_}
 use mathlib.Core.Path.{_≡_, refl}
 use lib.ListN.{length}
 use Rattle.net.specs.Records.{instructionAt, placeOf}
-use Rattle.keeping.proofs.Unmarked.{unmarked}
-use Rattle.keeping.proofs.WorklistLaws.{searchOf}
-use Rattle.keeping.proofs.VisitLaws.{top-in, top-scaled, place-low}
-use Rattle.keeping.proofs.ReachLaws.{Way, none-marked, way-first, first-in, second-in, next-low, next-wide, next-twice, fewer-left, count-wide, way-on, all-marked}
+use Rattle.keeping.specs.Worklist.{unmarked, searchOf}
+use Rattle.keeping.proofs.VisitLaws.{marks-long, top-in, top-scaled, place-low, place-fits, place-scaled, turned-less}
+use Rattle.keeping.proofs.ReachLaws.{Way, none-marked, way-first, way-top, way-on, all-marked}
 use borrow.Author.Needs.{needs}
 use Rattle.keeping.proofs.reaching.reached.Statement.{statement}
 use Rattle.keeping.proofs.reaching.reached.Tie as tie
@@ -31,24 +30,12 @@ reached-spec =
     (λ c. search needs)
     (λ c. search (needs, top-scaled))
     (λ c. search (needs, top-in))
-    (λ c. search needs)
+    (λ c. search (needs, place-fits))
+    (λ c. search (needs, place-scaled))
     (λ c. search (needs, place-low))
-    (λ c. search (needs, place-low))
-    (λ c κs. search needs)
+    (λ c. search (needs, marks-long))
     (λ c. search needs)
-    (λ c. search (needs, first-in))
-    (λ c κs. search needs)
-    (λ c. search (needs, next-wide))
-    (λ c. search (needs, first-in))
-    (λ c. search (needs, top-scaled))
-    (λ c. search (needs, top-in))
-    (λ c. search (needs, next-twice))
-    (λ c. search (needs, next-low))
-    (λ c. search needs)
-    (λ c. search (needs, second-in))
-    (λ c κs. search needs)
-    (λ c. search (needs, count-wide))
-    (λ c. search (needs, second-in))
-    (λ c. search (needs, fewer-left))
+    (λ c κs. search (needs, way-top))
+    (λ c. search (needs, turned-less))
     (λ c. (search (needs, way-on), search needs))
     (λ c. search (needs, all-marked)))

@@ -1,13 +1,12 @@
 -- `keeping::rights::keeps` meets its contract. The locals stand for the search after some visits, so that `NeverMoreWait` is
--- used at each turn: by `top-in` for the index of the place on top, and by `place-low` for its index in the code.
--- Assumes nothing.
+-- used at each turn: by `top-in` for the index of the place on top, by `place-low` for its index in the code, and by `on-top`
+-- for what a visit needs. Assumes nothing.
 use Prim.Native.Nat.{_+_}
 use mathlib.Core.Path.{_≡_, refl}
 use lib.ListN.{length}
 use Rattle.net.specs.Records.{instructionAt, placeOf}
-use Rattle.keeping.proofs.Unmarked.{unmarked}
-use Rattle.keeping.proofs.WorklistLaws.{searchOf}
-use Rattle.keeping.proofs.VisitLaws.{Underway, none-reached, underway-first, top-in, top-scaled, place-low, first-low, second-low, next-in, next-fits, next-scaled, count-fits, turned, turned-less, all-judged}
+use Rattle.keeping.specs.Worklist.{unmarked, searchOf}
+use Rattle.keeping.proofs.VisitLaws.{Underway, none-reached, underway-first, marks-long, top-in, top-scaled, place-low, place-fits, place-scaled, on-top, turned, turned-less, all-judged}
 use borrow.Author.Needs.{needs}
 use Rattle.keeping.proofs.rights.keeps.Statement.{statement}
 use Rattle.keeping.proofs.rights.keeps.Tie as tie
@@ -32,25 +31,13 @@ keeps-spec =
     (λ c. search needs)
     (λ c. search (needs, top-scaled))
     (λ c. search (needs, top-in))
-    (λ c. search needs)
-    (λ c. search needs)
+    (λ c. search (needs, place-fits))
+    (λ c. search (needs, place-scaled))
     (λ c. search (needs, place-low))
     (λ c κs. search needs)
-    (λ c κs. search needs)
+    (λ c. search (needs, marks-long))
     (λ c. search needs)
-    (λ c. search (needs, first-low))
-    (λ c κs. search needs)
-    (λ c. search (needs, next-fits))
-    (λ c. search (needs, first-low))
-    (λ c. search (needs, top-scaled))
-    (λ c. search (needs, top-in))
-    (λ c. search (needs, next-scaled))
-    (λ c. search (needs, next-in))
-    (λ c. search needs)
-    (λ c. search (needs, second-low))
-    (λ c κs. search needs)
-    (λ c. search (needs, count-fits))
-    (λ c. search (needs, second-low))
+    (λ c κs. search (needs, on-top))
     (λ c. search (needs, turned-less))
     (λ c. (search (needs, turned), search needs))
     (λ c. search (needs, all-judged)))
