@@ -26,11 +26,11 @@ use Rattle.faults.specs.FaultClaims.{RefusedWith, FaultInside}
 use Rattle.faults.proofs.FaultClaims.{faultInside}
 use Rattle.step.specs.Pick.{hostOf, slotOf}
 use Rattle.run.specs.Run.{Ran, ran, numbers, ranFrom, runIn, runOf}
-use Rattle.run.proofs.SoundRuns.{ran-sound}
+use Rattle.runs.proofs.SoundRuns.{ran-sound}
 use Rattle.registers.specs.Types.{Item, Tuple, Node, Net, Fault, Opened, Verdict}
 use Rattle.registers.proofs.Longest.{fewer-below, answers-small, take-small}
 use Rattle.lines.specs.Lines.{fewer, itemWord, tuplesBelow, tupleCount}
-use Rattle.tenant.proofs.OpenedShaped.{opened-shaped}
+use Rattle.written.proofs.OpenedShaped.{opened-shaped}
 use Rattle.listing.proofs.Agreeing.{Fine, upward, downward, located, Short}
 use Rattle.listing.proofs.Wanted.{TupleHas, NodeHas, NetHas, PickHas, OutcomeHas, of-refused, of-run}
 use Rattle.listing.proofs.Readings.{TupleOk, NodeOk, NetOk, ran-after, opened-readings}

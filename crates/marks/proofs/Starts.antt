@@ -17,7 +17,7 @@ use Rattle.texts.specs.TextClaims.{TextIsFresh}
 use Rattle.texts.proofs.TextClaims.{textIsFresh}
 use Rattle.written.proofs.FreshFits.{FreshParts, fresh-apart}
 use Rattle.written.proofs.AcceptedWritten.{accepted-fresh}
-use Rattle.run.proofs.SoundRuns.{ran-sound}
+use Rattle.runs.proofs.SoundRuns.{ran-sound}
 use Rattle.marks.specs.Types.{Locality, Node, Net}
 use Rattle.marks.specs.MarkClaims.{Given, by-image, by-text, Comes, by-picks}
 

@@ -17,7 +17,7 @@ use Rattle.plans.specs.Request.{targetOf}
 use Rattle.plans.specs.Additions.{tupleOf}
 use Rattle.step.specs.Pick.{hostOf, pickOf}
 use Rattle.rules.specs.DemandOne.{pickedProcess, pickedAction}
-use Rattle.run.specs.Run.{ranFrom}
+use Rattle.runs.specs.Run.{ranFrom}
 use Rattle.marks.specs.Types.{Locality, Place, Tuple, Node, Target, Action, Net, Verdict, TextVerdict, Aim}
 
 -- ---- the nets that are spoken of

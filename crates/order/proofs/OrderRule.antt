@@ -2,7 +2,7 @@
 -- the other one makes (`Frame.antt`, `Moves.antt`), and the edits may be exchanged (`Edits.antt`). Accepted nets are sound
 -- and picks keep them so, so that a target is an address in use. Assumes nothing.
 use Prim.Native.Nat.{ℕ, _<_}
-use mathlib.Core.Path.{_≡_, refl, sym, ap, subst, _∙_}
+use mathlib.Core.Path.{_≡_, sym, ap, subst, _∙_}
 use mathlib.Core.Bool.{true, false}
 use mathlib.Core.List.{List}
 use native.Mathlib.Omega.{arith}
@@ -11,16 +11,19 @@ use Rattle.net.proofs.Laws.{choose-true, both-i}
 use Rattle.sound.specs.Soundness.{soundOf}
 use Rattle.sound.proofs.NetFacts.{NetOk, sound-apart}
 use Rattle.image.specs.Image.{openedOf, accepted}
+use Rattle.image.specs.declared.reader.Opened.{Opened}
+use Rattle.accepted.specs.ImageClaims.{AcceptedIsSound}
+use Rattle.accepted.proofs.AcceptedSound.{accepted-is-sound}
 use Rattle.notation.specs.Text.{readOf}
+use Rattle.texts.specs.TextClaims.{TextIsSound}
+use Rattle.texts.proofs.TextClaims.{textIsSound}
 use Rattle.step.specs.Pick.{hostOf, unused, stepOf, pickOf}
 use Rattle.step.specs.declared.machine.Picked.{Picked}
 use Rattle.step.proofs.SoundKept.{step-sound-kept}
-use Rattle.run.specs.Types.{Opened}
-use Rattle.run.specs.Run.{ranFrom}
-use Rattle.run.proofs.SoundRuns.{ran-kept}
-use Rattle.run.proofs.CallLaws.{opened-sound, text-sound}
+use Rattle.runs.specs.Run.{ranFrom}
+use Rattle.runs.proofs.SoundRuns.{ran-kept}
 use Rattle.tenant.proofs.Fence.{tested, never}
-use Rattle.tenant.proofs.OpenedShaped.{opened-shaped}
+use Rattle.written.proofs.OpenedShaped.{opened-shaped}
 use Rattle.text_tenant.specs.TextTenantRule.{TextIsImaged}
 use Rattle.text_tenant.proofs.TextTenantRule.{textIsImaged}
 use Rattle.order.specs.Types.{Locality, Net, Verdict, TextVerdict}
@@ -117,15 +120,16 @@ run-good : (s : Net) (picks : List ℕ) → Good s → Good (ranFrom s picks .ne
 run-good s picks g = let kept = ran-kept s picks (g .shaped) (g .sound) in record { shaped = kept .1; sound = kept .0 }
 
 image-good : (image : List ℕ) → openedOf image .answer ≡ Verdict.Accepted → Good (openedOf image .net)
-image-good image a = record { shaped = opened-shaped image; sound = opened-sound image (openedOf image) refl a }
+unfolding AcceptedIsSound
+image-good image a = record { shaped = opened-shaped image; sound = accepted-is-sound image a }
 
 text-good : (text : List ℕ) → readOf text .answer ≡ TextVerdict.Accepted → Good (readOf text .net)
-unfolding TextIsImaged accepted
+unfolding TextIsImaged TextIsSound accepted
 text-good text a =
     let (image, _, given) = textIsImaged text a in
     record {
       shaped = subst Shaped (ap (λ (o : Opened). o .net) given) (opened-shaped image);
-      sound = text-sound text (readOf text) refl a;
+      sound = textIsSound text a;
     }
 
 pub orderRule : OrderRule

@@ -10,7 +10,7 @@ use Rattle.image.specs.Image.{openedOf}
 use Rattle.notation.specs.Text.{readOf}
 use Rattle.plans.specs.Request.{requestOf, targets, isNew}
 use Rattle.step.specs.Pick.{hostOf, slotOf, spareOf, pickOf}
-use Rattle.run.specs.Run.{ranFrom}
+use Rattle.runs.specs.Run.{ranFrom}
 use Rattle.order.specs.Types.{Locality, Process, Net, Verdict, TextVerdict, Request}
 
 -- ---- what a pick meets in a net

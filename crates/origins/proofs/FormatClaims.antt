@@ -10,7 +10,7 @@ use Rattle.step.specs.Pick.{slotStep, stepOf, pickOf}
 use Rattle.step.proofs.EachMember.{all-kept}
 use Rattle.step.specs.Types.{Place, Slot, Evaluated, Found, Request, Answer}
 use Rattle.step.specs.declared.machine.Picked.{Picked}
-use Rattle.run.specs.Run.{answered, ranFrom}
+use Rattle.runs.specs.Run.{answered, ranFrom}
 use Rattle.origins.specs.Types.{Locality, Process, Net}
 use Rattle.origins.specs.FormatClaims.{FormatStays}
 

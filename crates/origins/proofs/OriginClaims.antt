@@ -20,8 +20,8 @@ use Rattle.step.specs.Pick.{pickOf}
 use Rattle.step.specs.declared.machine.Picked.{Picked}
 use Rattle.step.specs.SoundKept.{SoundKept}
 use Rattle.step.proofs.SoundKept.{sound-kept}
-use Rattle.run.specs.Run.{Ran, answered, ranFrom}
-use Rattle.run.proofs.SoundRuns.{ran-sound}
+use Rattle.runs.specs.Run.{Ran, answered, ranFrom}
+use Rattle.runs.proofs.SoundRuns.{ran-sound}
 use Rattle.origins.specs.Types.{Locality, Process, Node, Net}
 use Rattle.origins.specs.OriginClaims.{AlikeProcess, AlikeNode, AlikeNet, OriginIdle}
 use Rattle.origins.proofs.Forgetting.{forgetProcess, forgetNode, forget, process-at, node-at, seen}

@@ -4,7 +4,7 @@ use Prim.Native.Nat.{ℕ}
 use mathlib.Core.Path.{_≡_}
 use mathlib.Core.List.{List}
 use Rattle.step.specs.Pick.{pickOf}
-use Rattle.run.specs.Run.{ranFrom}
+use Rattle.runs.specs.Run.{ranFrom}
 use Rattle.origins.specs.Types.{Net}
 
 pub record FormatStays : Type 0 where

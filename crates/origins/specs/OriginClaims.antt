@@ -8,7 +8,7 @@ use mathlib.Core.List.{List}
 use Rattle.net.specs.Records.{nodeAt, processAt}
 use Rattle.net.specs.Shape.{Shaped}
 use Rattle.sound.specs.Soundness.{soundOf}
-use Rattle.run.specs.Run.{Ran, ranFrom}
+use Rattle.runs.specs.Run.{Ran, ranFrom}
 use Rattle.origins.specs.Types.{Locality, Process, Node, Net}
 
 -- ---- equal, but for the origins of busy processes

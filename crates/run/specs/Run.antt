@@ -1,27 +1,12 @@
--- A run (demand 3; document 01, "The tenant rule"): the net of an accepted image, or of an accepted text (document 02,
--- slip 3), then each pick on the net that the last one left, whatever its answer.
-pub use Rattle.step.specs.Ran.{Ran}
-unfoldable pub use Rattle.step.specs.Ran.{numbers, answered, ranFrom}
+-- The run of an image, as the crate `runs` has it, and that of a text (document 02, slip 3): the net of an accepted text, then
+-- each pick on the net that the last one left.
+pub use Rattle.runs.specs.Run.{Ran, Outcome, refused, refused-text, ran}
+unfoldable pub use Rattle.runs.specs.Run.{numbers, answered, ranFrom, runIn, runOf}
 use Prim.Native.Nat.{ℕ}
 use mathlib.Core.List.{List}
-use Rattle.image.specs.Image.{openedOf}
 use Rattle.notation.specs.Text.{readOf}
-use Rattle.run.specs.Types.{Net, Fault, Verdict, TextVerdict}
+use Rattle.run.specs.Types.{Net, TextVerdict}
 
--- what a run comes to: a refused image makes none, nor does a refused text, of which the number is known alone
-pub data Outcome : Type 0 where
-  refused : Fault → Outcome
-  refused-text : ℕ → Outcome
-  ran : Ran → Outcome
-
-unfoldable pub runIn : Verdict → Net → List ℕ → Outcome
-runIn Verdict.Accepted s picks = ran (ranFrom s picks)
-runIn (Verdict.Refused f) s picks = refused f
-
-unfoldable pub runOf : List ℕ → List ℕ → Outcome
-runOf image picks = runIn (openedOf image .answer) (openedOf image .net) picks
-
--- the same of a text
 unfoldable pub runTextIn : TextVerdict → Net → List ℕ → Outcome
 runTextIn TextVerdict.Accepted s picks = ran (ranFrom s picks)
 runTextIn (TextVerdict.Refused n) s picks = refused-text n

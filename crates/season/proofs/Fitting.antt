@@ -15,9 +15,9 @@ use Rattle.sound.proofs.NetFacts.{NetOk}
 use Rattle.sound.proofs.NetChanges.{node-at}
 use Rattle.image.specs.Image.{openedOf}
 use Rattle.run.specs.Run.{runIn, runOf}
-use Rattle.run.proofs.SoundRuns.{ran-sound}
+use Rattle.runs.proofs.SoundRuns.{ran-sound}
 use Rattle.run.proofs.CallLaws.{opened-sound}
-use Rattle.tenant.proofs.OpenedShaped.{opened-shaped}
+use Rattle.written.proofs.OpenedShaped.{opened-shaped}
 use Rattle.season.specs.Types.{Locality, Verdict}
 use Rattle.season.specs.Season.{Run, MadeRun, madeIn, madeOf, madeRuns, tallied, counts, performs, picksAt, performedAt}
 use Rattle.season.specs.Season.{leftIn, leftAt, summed, allPicks, allPerformed, allLeft}

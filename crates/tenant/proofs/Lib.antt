@@ -1,7 +1,6 @@
 pub mod Equal
 pub mod Erasure
 pub mod Fence
-pub mod OpenedShaped
 pub mod TenantOfNets
 pub mod TenantRule
 pub mod View

@@ -12,7 +12,7 @@ use Rattle.step.specs.Pick.{hostOf, stepOf, pickOf}
 use Rattle.net.specs.Shape.{Shaped}
 use Rattle.step.proofs.SoundKept.{step-sound-kept}
 use Rattle.tenant.specs.Types.{Locality, Node, Net, Answer, Picked}
-use Rattle.run.specs.Run.{Ran, answered, ranFrom}
+use Rattle.runs.specs.Run.{Ran, answered, ranFrom}
 use Rattle.tenant.specs.TenantRule.{struck, remaining, Equal, Agree}
 use Rattle.tenant.proofs.View.{blanked-same, counted, view, view-node, seen}
 use Rattle.tenant.proofs.Fence.{Fence, tested, fence-kept}

@@ -21,9 +21,9 @@ use Rattle.written.proofs.WrittenWhole.{NetOk}
 use Rattle.written.proofs.AcceptedWritten.{opened-ok}
 use Rattle.net.proofs.Laws.{in-range-low}
 use Rattle.tenant.specs.Types.{Locality, Rights, Node, Net, Verdict}
-use Rattle.run.specs.Run.{Ran, ran, ranFrom, runIn, runOf}
+use Rattle.runs.specs.Run.{Ran, ran, ranFrom, runIn, runOf}
 use Rattle.tenant.specs.TenantRule.{grants, creates, Fenced, Agree, TenantRule}
-use Rattle.tenant.proofs.OpenedShaped.{opened-shaped}
+use Rattle.written.proofs.OpenedShaped.{opened-shaped}
 use Rattle.tenant.proofs.Fence.{FencedRow, FencedRows, Fence, zero-fenced, past-fenced, alike-fenced}
 use Rattle.tenant.proofs.Equal.{under, rows-both, code-same, nodes-same}
 use Rattle.tenant.proofs.TenantOfNets.{tenant-of-nets}

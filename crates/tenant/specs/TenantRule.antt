@@ -9,7 +9,7 @@ use Rattle.net.specs.Records.{nodeAt, rightsAt, rowAt, processAt, tupleAt, fiel
 use Rattle.image.specs.Image.{openedOf}
 use Rattle.step.specs.Pick.{hostOf}
 use Rattle.tenant.specs.Types.{Locality, Place, Tuple, Rights, Row, Process, Node, Instruction, Net, Answer}
-use Rattle.run.specs.Run.{Ran, ran, runOf}
+use Rattle.runs.specs.Run.{Ran, ran, runOf}
 
 -- ---- "picks of tenant addresses are struck out, whether or not a pick performs a step"; "a pick is of the address in its
 -- first 4 bits, in use or not"

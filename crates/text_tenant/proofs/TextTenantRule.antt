@@ -7,7 +7,7 @@ use Rattle.image.specs.Image.{openedOf, accepted}
 use Rattle.written.specs.ImageOf.{imageOf}
 use Rattle.written.specs.WrittenClaims.{AcceptedIsWritten, WrittenIsBytes}
 use Rattle.written.proofs.AcceptedWritten.{acceptedIsWritten, writtenIsBytes}
-use Rattle.run.specs.Run.{ran, ranFrom, runIn, runOf}
+use Rattle.runs.specs.Run.{ran, ranFrom, runIn, runOf}
 use Rattle.tenant.specs.TenantRule.{Alike, TenantRule}
 use Rattle.tenant.proofs.TenantRule.{tenantRule}
 use Rattle.notation.specs.Text.{readOf}

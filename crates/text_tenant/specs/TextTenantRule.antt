@@ -6,7 +6,7 @@ use mathlib.Core.Bool.{Bool}
 use mathlib.Core.List.{List}
 use Rattle.image.specs.Image.{openedOf, accepted}
 use Rattle.written.specs.WrittenClaims.{Bytes}
-use Rattle.run.specs.Run.{ranFrom}
+use Rattle.runs.specs.Run.{ranFrom}
 use Rattle.tenant.specs.TenantRule.{struck, Alike, Agree}
 use Rattle.notation.specs.Text.{readOf}
 use Rattle.text_tenant.specs.Types.{Locality, Verdict}

@@ -16,7 +16,7 @@ use Rattle.sound.proofs.NetChanges.{node-at}
 use Rattle.image.specs.Image.{openedOf, accepted}
 use Rattle.notation.specs.Text.{readOf}
 use Rattle.run.specs.Run.{Ran, ran, ranFrom}
-use Rattle.run.proofs.SoundRuns.{ran-sound}
+use Rattle.runs.proofs.SoundRuns.{ran-sound}
 use Rattle.run.proofs.CallLaws.{opened-sound, ran-is, text-sound, text-ran-is}
 use Rattle.registers.specs.Types.{Locality, Opened}
 use Rattle.lines.specs.Lines.{nameWords, fewer, tuplesBelow, tupleCount}
@@ -24,7 +24,7 @@ use Rattle.names.specs.Names.{nameOf}
 use Rattle.names.proofs.NameClaims.{name-is-short}
 use Rattle.lines.specs.Shown.{Shown, unnamed, named, current}
 use Rattle.registers.specs.Register.{registerIn, registerAs, registerOf, registerTextAs, registerTextOf, namedRegisterOf, namedRegisterTextOf}
-use Rattle.tenant.proofs.OpenedShaped.{opened-shaped}
+use Rattle.written.proofs.OpenedShaped.{opened-shaped}
 use Rattle.text_tenant.specs.TextTenantRule.{TextIsImaged}
 use Rattle.text_tenant.proofs.TextTenantRule.{textIsImaged}
 use Rattle.totals.specs.Types.{Net, Verdict, TextVerdict}

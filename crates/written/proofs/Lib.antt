@@ -5,6 +5,7 @@ pub mod FreshFits
 pub mod FreshNet
 pub mod FreshNode
 pub mod LongestImage
+pub mod OpenedShaped
 pub mod ReadsCells
 pub mod ReadsParts
 pub mod ReadsWrites

@@ -1,5 +1,4 @@
--- The net of an image has the lengths of a running program's net: drawn from what the layout of an image gives (`NetOk` of
--- `written`), which fits its types.
+-- The net of an image has the lengths of a running program's net: drawn from what the layout of an image gives (`NetOk`), which fits its types.
 -- Assumes nothing.
 use Prim.Native.Nat.{ℕ}
 use mathlib.Core.Path.{_≡_, subst}

@@ -1,4 +1,4 @@
--- Picks keep a net sound, and its arrays their lengths. Assumes nothing.
+-- The claim of `specs/SoundRuns.antt`: picks keep a net sound, and its arrays their lengths. Assumes nothing.
 use Prim.Native.Nat.{ℕ}
 use mathlib.Core.Path.{_≡_}
 use mathlib.Core.Bool.{true}
@@ -9,8 +9,9 @@ use Rattle.sound.proofs.NetFacts.{NetOk, sound-apart}
 use Rattle.step.specs.Pick.{pickOf}
 use Rattle.step.specs.SoundKept.{SoundKept}
 use Rattle.step.proofs.SoundKept.{sound-kept}
-use Rattle.run.specs.Types.{Net}
-use Rattle.run.specs.Run.{ranFrom, answered}
+use Rattle.runs.specs.Types.{Net}
+use Rattle.runs.specs.Run.{ranFrom, answered}
+use Rattle.runs.specs.SoundRuns.{SoundRuns}
 
 pub ran-kept :
     (s : Net) (picks : List ℕ) → Shaped s → soundOf s ≡ true
@@ -20,6 +21,11 @@ ran-kept s [] shaped sound = (sound, shaped)
 ran-kept s (b ∷ bs) shaped sound =
     let kept = sound-kept s b shaped sound in
     ran-kept (pickOf s b .net) bs (kept .1) (kept .0)
+
+-- the claim
+pub soundRuns : SoundRuns
+unfolding SoundRuns
+soundRuns = ran-kept
 
 -- the facts about its records
 pub ran-sound : (s : Net) (picks : List ℕ) → Shaped s → soundOf s ≡ true → NetOk (ranFrom s picks .net)
