@@ -1,5 +1,5 @@
 -- What the engine's calls give (document 02, slip 12): the picks of a call are made one after another from the net that the engine
--- holds, where the lent buffer has room for their answers; else nothing changes. `LeanIsFirst` of `lean_step` says that this is
+-- holds, where the lent buffer has room for their answers; else nothing changes. `LeanIsFirst` of `lean_first` says that this is
 -- what the first engine gives.
 use Prim.Native.Nat.{ℕ}
 use mathlib.Core.Bool.{Bool}

@@ -1,4 +1,4 @@
--- The claim `LeanBlind` of `specs/LeanClaims.antt`: what is carried out is answered by counts, tuples and processes, and by the target's
+-- The claim `LeanBlind` of `specs/LeanBlind.antt`: what is carried out is answered by counts, tuples and processes, and by the target's
 -- row at an eval alone. Matching, opened here, looks at no rows. Assumes nothing.
 use Prim.Native.Nat.{ℕ, _<_}
 use mathlib.Core.Path.{_≡_, refl, sym, ap, ap₂, subst, _∙_}
@@ -21,8 +21,8 @@ use Rattle.step.proofs.EachMember.{room-same}
 use Rattle.lean_step.specs.Types.{Locality, Place, Row, Process, Node, Slot, Target, Action, Instruction, Net, Evaluated, Found}
 use Rattle.lean_step.specs.Types.{Answer, Aim, Request, Picked}
 use Rattle.lean_step.specs.LeanStep.{inVariable, atVariable, leanActing, leanProcessStep, leanSlotStep, leanStepOf}
-use Rattle.lean_step.specs.LeanClaims.{NodeButRows, NetButRows, named, Meets, Aims, out-aims, in-aims, read-aims, eval-aims}
-use Rattle.lean_step.specs.LeanClaims.{NoneHeld, LeanBlind}
+use Rattle.lean_step.specs.LeanBlind.{NodeButRows, NetButRows, named, Meets, Aims, out-aims, in-aims, read-aims, eval-aims}
+use Rattle.lean_step.specs.LeanBlind.{NoneHeld, LeanBlind}
 
 -- ---- two answers
 module _ (x y x′ y′ : Picked) where

@@ -1,6 +1,5 @@
 pub mod Covering
 pub mod LeanBlind
-pub mod LeanClaims
 pub mod LeanKept
 pub mod LeanStep
 pub mod Settled

@@ -1,4 +1,4 @@
-pub mod LeanClaims
+pub mod LeanBlind
 pub mod LeanStep
 pub mod Settled
 pub mod Types

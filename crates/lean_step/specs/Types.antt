@@ -18,6 +18,4 @@ pub use Rattle.matching.specs.declared.template.Found.{Found}
 pub use Rattle.plans.specs.declared.answer.Answer.{Answer}
 pub use Rattle.plans.specs.declared.request.Aim.{Aim}
 pub use Rattle.plans.specs.declared.request.Request.{Request}
-pub use Rattle.image.specs.declared.reader.Verdict.{Verdict}
-pub use Rattle.notation.specs.declared.reading.Verdict.{Verdict as TextVerdict}
 pub use Rattle.step.specs.declared.machine.Picked.{Picked}

@@ -17,7 +17,7 @@ use Rattle.texts.specs.TextClaims.{TextIsSound}
 use Rattle.texts.proofs.TextClaims.{textIsSound}
 use Rattle.text.specs.Buffer.{over}
 use Rattle.lean_step.specs.LeanStep.{leanRanFrom}
-use Rattle.lean_step.proofs.LeanClaims.{leanIsFirst}
+use Rattle.lean_first.proofs.LeanFirst.{leanIsFirst}
 use Rattle.lean.specs.Calls.{roomFor, netAfter, answersAfter}
 use Rattle.run.specs.Types.{Net, Fault, Opened, Verdict, TextOpened, TextVerdict}
 use Rattle.run.specs.Run.{Outcome, refused, refused-text, ran, numbers, answered, ranFrom, runIn, runOf, runTextIn, runTextOf}
@@ -59,7 +59,7 @@ module _ (text : List ℕ) (o : TextOpened) (read : o ≡ readOf text) where
     unfolding runTextIn
     text-ran-is a = ap (λ (x : TextVerdict). runTextIn x (o .net) picks) (sym a) ∙ text-outcome
 
--- ---- what the engine's picks come to: those of the first engine (`LeanIsFirst` of `lean_step`)
+-- ---- what the engine's picks come to: those of the first engine (`LeanIsFirst` of `lean_first`)
 module _ (image : List ℕ) (answer : Verdict) (s : Net) (judged : answer ≡ openedOf image .answer) (net-is : s ≡ openedOf image .net) (picks : List ℕ) where
   pub engine-ran : answer ≡ Verdict.Accepted → ran (leanRanFrom s picks) ≡ runOf image picks
   unfolding runOf runIn

@@ -1,4 +1,4 @@
--- The claim `LeanIsFirst` of `specs/LeanClaims.antt`: an accepted source gives a settled net, picks leave it so, and in a settled net
+-- The claim `LeanIsFirst` of `specs/LeanFirst.antt`: an accepted source gives a settled net, picks leave it so, and in a settled net
 -- the lean pick is the pick. Assumes nothing.
 use Prim.Native.Nat.{ℕ}
 use mathlib.Core.Path.{_≡_, refl, sym, ap, _∙_}
@@ -17,12 +17,12 @@ use Rattle.written.proofs.FreshFits.{fresh-apart}
 use Rattle.written.proofs.AcceptedWritten.{accepted-fresh}
 use Rattle.step.specs.Pick.{unchanged, pickOf}
 use Rattle.step.specs.Ran.{Ran, answered, ranFrom}
-use Rattle.lean_step.specs.Types.{Net, Verdict, TextVerdict, Picked}
+use Rattle.lean_first.specs.Types.{Net, Verdict, TextVerdict, Picked}
 use Rattle.lean_step.specs.LeanStep.{leanPickOf, leanRanFrom, followed, leanCallsFrom}
 use Rattle.lean_step.specs.Settled.{Settled, SettledStays, SettledIsLean}
-use Rattle.lean_step.specs.LeanClaims.{allPicks, SameAsFirst, LeanIsFirst}
+use Rattle.lean_first.specs.LeanFirst.{allPicks, SameAsFirst, LeanIsFirst}
 use Rattle.lean_step.proofs.Settled.{settledStays}
 use Rattle.lean_step.proofs.LeanStep.{settledIsLean}
 
 -- ---- picks one after another
 pub ran-append : (s : Net) (xs ys : List ℕ) → ranFrom s (xs ++ ys) ≡ followed (ranFrom s xs) (ranFrom (ranFrom s xs .net) ys)

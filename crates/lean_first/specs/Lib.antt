@@ -1,0 +1,2 @@
+pub mod LeanFirst
+pub mod Types
