@@ -8,7 +8,7 @@ use readers::fault::Fault;
 use readers::step::Step;
 
 // A field's number and the bit at which the field begins, both 0 after a fault, and the step after it.
-#[derive(Drop)]
+#[derive(Clone, Copy)]
 pub struct Taken {
     pub value: usize,
     pub at: usize,
@@ -62,14 +62,14 @@ fn number(s: &[u8], p: usize, w: usize) -> usize
 }
 
 // The bit reader as a record: the bytes of an image and the place of the next bit.
-#[derive(Drop)]
+#[derive(Clone, Copy)]
 pub struct BitReader<'a> {
     pub image: &'a [u8],
     pub at: usize,
 }
 
 // A number that was read, and the place after its bits.
-#[derive(Drop)]
+#[derive(Clone, Copy)]
 pub struct NumberRead {
     pub value: usize,
     pub next: usize,

@@ -10,28 +10,28 @@ use readers::step::Step;
 use text::signed::signed_of;
 
 // Each is a field's value with the bit at which the field begins and the step after it.
-#[derive(Drop)]
+#[derive(Clone, Copy)]
 pub struct LocalityRead {
     pub locality: Locality,
     pub at: usize,
     pub next: Step,
 }
 
-#[derive(Drop)]
+#[derive(Clone, Copy)]
 pub struct PlaceRead {
     pub place: Place,
     pub at: usize,
     pub next: Step,
 }
 
-#[derive(Drop)]
+#[derive(Clone, Copy)]
 pub struct VariableRead {
     pub variable: u8,
     pub at: usize,
     pub next: Step,
 }
 
-#[derive(Drop)]
+#[derive(Clone, Copy)]
 pub struct ReadingRead {
     pub reading: i32,
     pub at: usize,

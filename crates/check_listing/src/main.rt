@@ -3,6 +3,7 @@
 // `41 7`. A missing file counts as empty; where one cannot be read, or for any other arguments, nothing is printed. One byte
 // more than the longest image has decides everything, as does one more than the longest listing (proved: `FirstBytesDecide` of
 // `accepted` and of `listing`), and of picks.bin the first 65,536 picks count.
+#![tactic(auto)]
 use check::same;
 use files::{print, print_first, read_file, say};
 use image::reader::LONGEST_IMAGE;

@@ -2,6 +2,7 @@
 // its name, an image and picks, each after its length in two bytes, lower first; creation.bin the image of the
 // one edge that no image shows. What is printed is compared with what the Rust model gives. A missing file counts as
 // empty; where one cannot be read, nothing is printed.
+#![tactic(auto)]
 ghost use Rattle.std.specs.Prelude.{◌≤◌};
 
 use files::{print, print_first, read_file, say};

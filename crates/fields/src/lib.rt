@@ -1,4 +1,5 @@
 // Fields of the planners' notation, read: addresses, variables and readings, templates and targets, sets, tuples.
+#![tactic(auto)]
 pub mod scope;
 pub mod sets;
 pub mod templates;

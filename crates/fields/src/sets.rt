@@ -11,13 +11,13 @@ use net::locality::{Group, Locality};
 use readers::step::{Step, require_that};
 
 // Which addresses are marked, and the step after the last of them.
-#[derive(Drop)]
+#[derive(Clone, Copy)]
 struct MarksRead {
     marks: [bool; 16],
     next: Step,
 }
 
-#[derive(Drop)]
+#[derive(Clone, Copy)]
 pub struct GroupRead {
     pub group: Group,
     pub next: Step,

@@ -15,20 +15,20 @@ use net::instruction::{Instruction, Pattern, Target, TemplateField};
 use readers::step::{Step, require_that};
 use sound::soundness::unbound_before;
 
-#[derive(Drop)]
+#[derive(Clone, Copy)]
 struct PatternRead {
     pattern: Pattern,
     next: Step,
 }
 
 // An instruction with a template and no action yet.
-#[derive(Drop)]
+#[derive(Clone, Copy)]
 pub struct TemplateRead {
     pub template: Instruction,
     pub next: Step,
 }
 
-#[derive(Drop)]
+#[derive(Clone, Copy)]
 pub struct TargetRead {
     pub target: Target,
     pub next: Step,

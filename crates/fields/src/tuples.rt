@@ -9,13 +9,13 @@ use lexemes::words::{byte_here, fail_from, read_byte, read_optional};
 use net::tuple::{Field, Item, Tuple};
 use readers::step::Step;
 
-#[derive(Drop)]
+#[derive(Clone, Copy)]
 struct ItemRead {
     item: Item,
     next: Step,
 }
 
-#[derive(Drop)]
+#[derive(Clone, Copy)]
 pub struct TupleRead {
     pub tuple: Tuple,
     pub next: Step,

@@ -8,19 +8,19 @@ use lexemes::words::{byte_here, read_byte, read_word};
 use net::locality::Locality;
 use readers::step::{Step, require_that};
 
-#[derive(Drop)]
+#[derive(Clone, Copy)]
 pub struct LocalityRead {
     pub locality: Locality,
     pub next: Step,
 }
 
-#[derive(Drop)]
+#[derive(Clone, Copy)]
 pub struct VariableRead {
     pub variable: u8,
     pub next: Step,
 }
 
-#[derive(Drop)]
+#[derive(Clone, Copy)]
 pub struct ReadingRead {
     pub reading: i32,
     pub next: Step,

@@ -1,5 +1,6 @@
 // What the programs do with files and with the streams that they are started with. What fails is named on standard
 // error: what could not be done, with which file, and why.
+#![tactic(auto)]
 ghost use Rattle.std.specs.Prelude.{◌≡◌};
 ghost use Rattle.io.specs.Counts.{IsPrefixLen};
 
@@ -7,7 +8,7 @@ use libc::{STDERR_FILENO, STDIN_FILENO, STDOUT_FILENO};
 
 // What was read: how many bytes stand at the start of the buffer, and whether a read failed before the input's end
 // or the buffer's.
-#[derive(Drop)]
+#[derive(Clone, Copy)]
 pub struct Loaded {
     pub count: usize,
     pub failed: bool,

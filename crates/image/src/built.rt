@@ -5,7 +5,7 @@ use net::tuple::Tuple;
 use readers::step::Step;
 
 // Format, address count and code length, with the step after them.
-#[derive(Drop)]
+#[derive(Clone, Copy)]
 pub struct CountsRead {
     pub format: usize,
     pub addresses: usize,
@@ -14,21 +14,21 @@ pub struct CountsRead {
 }
 
 // The rows of a node, with the step after them.
-#[derive(Drop)]
+#[derive(Clone, Copy)]
 pub struct RowsRead {
     pub rows: [Row; 16],
     pub next: Step,
 }
 
 // The processes of a node, with the step after them.
-#[derive(Drop)]
+#[derive(Clone, Copy)]
 pub struct ProcessesRead {
     pub processes: [Process; 4],
     pub next: Step,
 }
 
 // The tuples of a node, of which the first `stored` count, with the step after them.
-#[derive(Drop)]
+#[derive(Clone, Copy)]
 pub struct StoreRead {
     pub stored: usize,
     pub tuples: [Tuple; 16],

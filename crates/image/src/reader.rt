@@ -25,14 +25,14 @@ use readers::step::{Step, is_place};
 pub const LONGEST_IMAGE: usize = 17339;
 
 // What reading an image answers: a refusal has its fault, with the bit at which the field at fault begins.
-#[derive(Drop)]
+#[derive(Clone, Copy)]
 pub enum Verdict {
     Accepted,
     Refused(Fault),
 }
 
 // The answer with the net: the one that the image writes down, or the empty net.
-#[derive(Drop)]
+#[derive(Clone, Copy)]
 pub struct Opened {
     pub answer: Verdict,
     pub net: Net,

@@ -12,7 +12,7 @@ use bitreader::bits::take;
 use net::policy::{Rights, Row};
 use readers::step::Step;
 
-#[derive(Drop)]
+#[derive(Clone, Copy)]
 struct RowRead {
     row: Row,
     next: Step,

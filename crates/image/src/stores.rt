@@ -14,13 +14,13 @@ use net::locality::Locality;
 use net::tuple::{Field, Item, Tuple};
 use readers::step::Step;
 
-#[derive(Drop)]
+#[derive(Clone, Copy)]
 struct ItemRead {
     item: Item,
     next: Step,
 }
 
-#[derive(Drop)]
+#[derive(Clone, Copy)]
 struct TupleRead {
     tuple: Tuple,
     next: Step,

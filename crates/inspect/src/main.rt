@@ -3,6 +3,7 @@
 // there are images beyond what the reader looks at. For each it writes the answer, one byte, 0 accepted, else the
 // number of the refusal; the bit at which the field at fault begins, 4 bytes little-endian, 0 where the image is accepted;
 // then the net as the crate `dump` lays it out. It ends where the input does.
+#![tactic(auto)]
 use dump::bytes::put_four;
 use dump::put_net;
 use files::{print, read_next};

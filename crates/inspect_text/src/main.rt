@@ -2,6 +2,7 @@
 // A text comes as its length, 2 bytes little-endian, then its bytes: at most 65,535. For each it writes the answer, one
 // byte, 0 accepted, else the number of the refusal, then the net as the crate `dump` lays it out. It ends where the input
 // does.
+#![tactic(auto)]
 ghost use Rattle.std.specs.Prelude.{◌≡◌};
 ghost use Rattle.notation.specs.Text.{number_of};
 

@@ -18,26 +18,26 @@ use net::locality::{Group, Place};
 use readers::step::{Step, require_in};
 use sound::groups::group_sound;
 
-#[derive(Drop)]
+#[derive(Clone, Copy)]
 struct TargetRead {
     target: Target,
     next: Step,
 }
 
-#[derive(Drop)]
+#[derive(Clone, Copy)]
 struct GroupRead {
     group: Group,
     next: Step,
 }
 
-#[derive(Drop)]
+#[derive(Clone, Copy)]
 pub struct CodeRead {
     pub instruction: Instruction,
     pub next: Step,
 }
 
 // The parts of an out, an in or a read.
-#[derive(Drop)]
+#[derive(Clone, Copy)]
 struct PartsRead {
     target: Target,
     template: Instruction,

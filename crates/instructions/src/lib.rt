@@ -1,3 +1,4 @@
 // Instructions of an image, one by one.
+#![tactic(auto)]
 pub mod instruction;
 mod template;

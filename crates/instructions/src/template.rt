@@ -15,14 +15,14 @@ use net::instruction::{Instruction, Pattern, TemplateField};
 use readers::step::{Step, require_in};
 use sound::soundness::unbound_before;
 
-#[derive(Drop)]
+#[derive(Clone, Copy)]
 struct PatternRead {
     pattern: Pattern,
     next: Step,
 }
 
 // An instruction with a template and no action yet.
-#[derive(Drop)]
+#[derive(Clone, Copy)]
 pub struct TemplateRead {
     pub template: Instruction,
     pub next: Step,

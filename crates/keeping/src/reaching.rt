@@ -9,7 +9,7 @@ use net::locality::Place;
 
 // The places that follow an action, each below 512. Where there is no first or no second one, or none below 512,
 // the place of the action itself stands for it.
-#[derive(Drop)]
+#[derive(Clone, Copy)]
 pub struct Onward {
     pub first: Place,
     pub second: Place,

@@ -20,27 +20,27 @@ use notation::reading::{Verdict as TextVerdict, read_text};
 use sound::soundness::sound;
 
 // Its field is private: an engine comes from an opened source, or from another engine's picks.
-#[derive(Drop)]
+#[derive(Clone, Copy)]
 pub struct Engine {
     net: Net,
 }
 
 // What opening an image gives: the verdict, and the engine, that of the empty net where the image is refused.
-#[derive(Drop)]
+#[derive(Clone, Copy)]
 pub struct Started {
     pub answer: Verdict,
     pub engine: Engine,
 }
 
 // The same of a text.
-#[derive(Drop)]
+#[derive(Clone, Copy)]
 pub struct StartedText {
     pub answer: TextVerdict,
     pub engine: Engine,
 }
 
 // The engine after a list of picks, and whether there was room for their answers.
-#[derive(Drop)]
+#[derive(Clone, Copy)]
 pub struct Made {
     pub room: bool,
     pub engine: Engine,

@@ -8,7 +8,7 @@ use crate::words::{byte_here, fail_from, read_byte};
 use readers::step::{Step, require_that};
 
 // A number, and the step after it.
-#[derive(Drop)]
+#[derive(Clone, Copy)]
 pub struct NumberRead {
     pub value: usize,
     pub next: Step,

@@ -11,7 +11,7 @@ use readers::fault::Fault;
 use readers::step::Step;
 
 // Whether a byte stood there, and the step after it.
-#[derive(Drop)]
+#[derive(Clone, Copy)]
 pub struct Found {
     pub found: bool,
     pub next: Step,

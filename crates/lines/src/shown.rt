@@ -5,7 +5,7 @@ ghost use Rattle.lines.specs.Shown.{no_parts, all_parts};
 // After the last line, `total` and the number of tuples in the net (document 02, slip 1); in the line of a refusal, `at` and
 // the bit at which the field at fault begins (slip 2); at the end of a tuple's line, `from` and the address of the node that
 // put it (slip 8).
-#[derive(Drop)]
+#[derive(Clone, Copy)]
 pub struct Parts {
     pub total: bool,
     pub place: bool,

@@ -7,7 +7,7 @@ ghost use Rattle.linking.specs.NameTable.{start_from, start_for, settled_in, nam
 use terms::loading::word_at;
 
 // Where a start stands: at an instruction, or still at a name, with its number.
-#[derive(Drop)]
+#[derive(Clone, Copy)]
 pub struct Settled {
     pub ended: bool,
     pub number: usize,

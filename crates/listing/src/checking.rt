@@ -16,14 +16,14 @@ use registers::room::room;
 pub const LONGEST_LISTING: usize = 3232651;
 
 // What the caller calls a listing: from before the `total` line, the refusal's bit and the marks of tuples, or with them.
-#[derive(Drop)]
+#[derive(Clone, Copy)]
 pub enum Age {
     Old,
     New,
 }
 
 // A listing agrees, or the first line at fault, from 1: it differs, or is wanting, or is left over.
-#[derive(Drop)]
+#[derive(Clone, Copy)]
 pub enum Checked {
     Agrees,
     Differs(usize),

@@ -10,7 +10,7 @@ use lexemes::numbers::is_digit;
 // ---- numbers
 
 // A number read: its value, cut off where ten digits cannot write it, and the place after its digits.
-#[derive(Drop)]
+#[derive(Clone, Copy)]
 pub struct Number {
     pub value: usize,
     pub next: usize,
@@ -62,7 +62,7 @@ fn is_alike(mine: Number, other: Number, from: usize) -> bool
 // ---- turns
 
 // Where the two are compared next: the places in our register and in the listing, the line, and whether it begins here.
-#[derive(Drop)]
+#[derive(Clone, Copy)]
 pub struct Cursor {
     pub ours: usize,
     pub theirs: usize,
@@ -71,7 +71,7 @@ pub struct Cursor {
 }
 
 // What a turn comes to: the next cursor, or that the two part.
-#[derive(Drop)]
+#[derive(Clone, Copy)]
 pub enum Turn {
     On(Cursor),
     Parted,

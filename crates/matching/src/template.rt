@@ -15,20 +15,20 @@ use net::tuple::{Item, Tuple, Value};
 
 // What a template field asks of a tuple's field once its variables are read: one item, or any reading
 // or any address, to be bound to a variable.
-#[derive(Drop)]
+#[derive(Clone, Copy)]
 pub enum Want {
     Exactly(Item),
     AnyReading(u8),
     AnyAddress(u8),
 }
 
-#[derive(Drop)]
+#[derive(Clone, Copy)]
 pub struct Wanted {
     pub want: Want,
 }
 
 // An evaluated template. `defined` says that every variable whose value it needs was set.
-#[derive(Drop)]
+#[derive(Clone, Copy)]
 pub struct Evaluated {
     pub defined: bool,
     pub count: usize,
@@ -36,14 +36,14 @@ pub struct Evaluated {
 }
 
 // The place of a tuple among a node's tuples.
-#[derive(Drop)]
+#[derive(Clone, Copy)]
 pub enum Found {
     At(usize),
     Nothing,
 }
 
 // What a template meets at a node, and the process once its formals are bound.
-#[derive(Drop)]
+#[derive(Clone, Copy)]
 pub struct Matched {
     pub found: Found,
     pub process: Process,

@@ -7,7 +7,7 @@ ghost use Rattle.names.specs.Lookup.{PartOf, Sought};
 use net::locality::Locality;
 
 // The place of the first entry for an address.
-#[derive(Drop)]
+#[derive(Clone, Copy)]
 pub enum Found {
     At(usize),
     Nothing,

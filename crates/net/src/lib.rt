@@ -1,4 +1,6 @@
 // The lowest crate: the records of a net, and what is read and changed of them.
+#![tactic(auto)]
+
 pub mod instruction;
 pub mod locality;
 pub mod network;

@@ -1,3 +1,4 @@
 // Nets in the planners' notation.
+#![tactic(auto)]
 mod lines;
 pub mod reading;

@@ -27,7 +27,7 @@ use readers::step::{Step, require_that};
 
 // A line read: the node of its address after it, the step, how many instructions there are, and whether a name is defined
 // twice.
-#[derive(Drop)]
+#[derive(Clone, Copy)]
 pub struct LineRead {
     pub node: Node,
     pub next: Step,
@@ -36,7 +36,7 @@ pub struct LineRead {
 }
 
 // All lines read.
-#[derive(Drop)]
+#[derive(Clone, Copy)]
 pub struct LinesRead {
     pub net: Net,
     pub next: Step,

@@ -14,14 +14,14 @@ use readers::step::Step;
 use rows::policies::read_policy;
 
 // What reading a text answers: a refusal has its number.
-#[derive(Drop)]
+#[derive(Clone, Copy)]
 pub enum Verdict {
     Accepted,
     Refused(u8),
 }
 
 // The answer with the net: the one that the text writes down, or the empty net.
-#[derive(Drop)]
+#[derive(Clone, Copy)]
 pub struct Opened {
     pub answer: Verdict,
     pub net: Net,

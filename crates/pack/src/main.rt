@@ -1,6 +1,7 @@
 // Reads net.txt, a net in the planners' notation, and writes its image net.bin, by the name net.bin.new meanwhile. Prints
 // `packed` and the number of the image's bytes; or `refused` and the number of the text's first fault, and then no file is
 // written. A missing net.txt counts as empty; where it cannot be read or is too long, nothing is done but to say so.
+#![tactic(auto)]
 use files::{LONGEST_TEXT, print_first, read_text_file, replace_file, say};
 use image::reader::LONGEST_IMAGE;
 use net::network::Net;

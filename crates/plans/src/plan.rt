@@ -21,7 +21,7 @@ use net::tuple::{Field, Item, Tuple, Value};
 
 // The answer, the host's process and the target's node after the step, and whether the target is an address
 // that the step opens.
-#[derive(Drop)]
+#[derive(Clone, Copy)]
 pub struct Plan {
     pub answer: Answer,
     pub process: Process,

@@ -14,7 +14,7 @@ use net::process::Process;
 use net::tuple::Value;
 
 // Where a target points, if it points anywhere.
-#[derive(Drop)]
+#[derive(Clone, Copy)]
 pub enum Aim {
     At(Locality),
     Nowhere,
@@ -22,7 +22,7 @@ pub enum Aim {
 
 // An action with its target known. `Lack` is a needed variable that is unset, or a target variable that
 // holds a reading. `Eval` has the sent place before the next one; `OutAll` is an out to each member of a set.
-#[derive(Drop)]
+#[derive(Clone, Copy)]
 pub enum Request {
     Lack,
     Stop,
@@ -36,7 +36,7 @@ pub enum Request {
 }
 
 // A request with its evaluated template.
-#[derive(Drop)]
+#[derive(Clone, Copy)]
 pub struct Asked {
     pub request: Request,
     pub template: Evaluated,

@@ -6,6 +6,7 @@
 // net as opened, as the crate `dump` lays it out. Of each call it writes whether there was room, one byte; the buffer
 // as the call left it, each byte of which was 0xEE before; and the digest of the net after it, 8 bytes little-endian.
 // After the last call of a record it writes the whole net. It ends where the input does.
+#![tactic(auto)]
 use dump::bytes::{put_flag, put_four};
 use dump::digest::put_digest;
 use dump::put_net;
@@ -42,7 +43,7 @@ fn write_net(net: Net) -> bool {
 }
 
 // The engine after calls, and whether all that was to be written of them is.
-#[derive(Drop)]
+#[derive(Clone, Copy)]
 struct Called {
     engine: Engine,
     written: bool,

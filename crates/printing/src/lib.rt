@@ -1,5 +1,6 @@
 // What the programs that print a register share: a register that was made in a lent buffer is printed, and lists of names that
 // are refused are named on standard error.
+#![tactic(auto)]
 use files::{print_first, say, say_first};
 use names::lookup::fault;
 use registers::register::Registered;

@@ -18,14 +18,14 @@ use readers::step::Step;
 use terms::table::{group_word, store, target_word};
 
 // The step after something, and the number of the next instruction.
-#[derive(Drop)]
+#[derive(Clone, Copy)]
 pub struct CodeRead {
     pub next: Step,
     pub count: usize,
 }
 
 // The word of a target, and the step after it.
-#[derive(Drop)]
+#[derive(Clone, Copy)]
 pub(crate) struct AimRead {
     pub word: usize,
     pub next: Step,

@@ -13,7 +13,7 @@ use readers::step::Step;
 use terms::table::store_plain;
 
 // The word of what starts with a process, the step after it, and the number of the next instruction.
-#[derive(Drop)]
+#[derive(Clone, Copy)]
 pub struct StartRead {
     pub start: usize,
     pub next: Step,
@@ -21,7 +21,7 @@ pub struct StartRead {
 }
 
 // The words of both branches of a fork, the step after them, and the number of the next instruction.
-#[derive(Drop)]
+#[derive(Clone, Copy)]
 struct BranchesRead {
     first: usize,
     second: usize,

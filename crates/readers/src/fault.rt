@@ -4,7 +4,7 @@ ghost use Rattle.readers.specs.Reader.{fault_at};
 
 // What a refusal carries: the number of the first fault, the place at which the field at fault begins, and how many
 // places it takes. Of a text only the number is told.
-#[derive(Drop)]
+#[derive(Clone, Copy)]
 pub struct Fault {
     pub number: u8,
     pub place: usize,

@@ -7,7 +7,7 @@ ghost use Rattle.readers.specs.Progress.{reached, Went};
 use crate::fault::Fault;
 
 // Where reading stands: at the place of what is read next, or past the first fault.
-#[derive(Drop)]
+#[derive(Clone, Copy)]
 pub enum Step {
     At(usize),
     Failed(Fault),

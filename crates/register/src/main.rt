@@ -1,6 +1,7 @@
 // The program of document 01, "The register": reads net.bin, picks.bin and two lists of station names, site.bin and office.bin,
 // and prints the register. A missing file counts as empty; where one cannot be read, nothing is printed. Of net.bin one byte more
 // than the longest image has decides everything (proved: `FirstBytesDecide`), and of the others the first 65,536 bytes count.
+#![tactic(auto)]
 use files::read_file;
 use image::reader::LONGEST_IMAGE;
 use printing::{LONGEST_LIST, print_written, say_names};

@@ -1,6 +1,7 @@
 // The program of document 01, "The register", for a net in the planners' notation: reads net.txt, picks.bin and two lists of
 // station names, site.bin and office.bin, and prints the register. A missing file counts as empty; where one cannot be read, or
 // net.txt is too long, nothing is printed. Of the files but net.txt the first 65,536 bytes count.
+#![tactic(auto)]
 use files::{LONGEST_TEXT, read_file, read_text_file};
 use printing::{LONGEST_LIST, print_written, say_names};
 use registers::register::named_register_text;

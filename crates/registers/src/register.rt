@@ -19,7 +19,7 @@ use notation::reading::Verdict as TextVerdict;
 use run::picks::first_picks;
 
 // A register was written whole, with its length, or the buffer is too short.
-#[derive(Drop)]
+#[derive(Clone, Copy)]
 pub enum Registered {
     Written(usize),
     NoRoom,

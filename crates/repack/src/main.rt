@@ -1,5 +1,6 @@
 // Reads net.bin and prints the image of its net, as the writer makes it: the same bytes. A refused image prints nothing,
 // nor does a file that cannot be read; a missing file counts as empty.
+#![tactic(auto)]
 use files::{print_first, read_file, say};
 use image::reader::{LONGEST_IMAGE, read_image};
 use writer::pack::{Packed, write_image};

@@ -2,6 +2,7 @@
 // `dump` lays it out, the number of picks, 2 bytes little-endian, and the picks. For each pick it writes the
 // answer's number, 1 byte, and the digest of the counts and nodes after it, 8 bytes little-endian; after the
 // last pick of a record the whole net. It ends where the input does.
+#![tactic(auto)]
 use dump::digest::put_digest;
 use dump::put_net;
 use dump::taken::two_at;
@@ -24,7 +25,7 @@ fn write_pick(answer: Answer, net: Net) -> bool {
 }
 
 // The net after picks, and whether all that was to be written of them is.
-#[derive(Drop)]
+#[derive(Clone, Copy)]
 struct Made {
     net: Net,
     written: bool,

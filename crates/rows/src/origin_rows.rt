@@ -18,7 +18,7 @@ use net::policy::Row;
 use readers::step::{Step, is_place, require_that};
 
 // Node 0's rows, how many there are, and the step after them.
-#[derive(Drop)]
+#[derive(Clone, Copy)]
 struct FirstRead {
     count: usize,
     rows: [Row; 16],
@@ -26,7 +26,7 @@ struct FirstRead {
 }
 
 // The rows of a node, and the step after them.
-#[derive(Drop)]
+#[derive(Clone, Copy)]
 struct NodeRead {
     rows: [Row; 16],
     next: Step,

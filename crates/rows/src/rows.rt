@@ -15,20 +15,20 @@ use net::network::Net;
 use net::policy::{Rights, Row};
 use readers::step::{Step, is_place, require_that};
 
-#[derive(Drop)]
+#[derive(Clone, Copy)]
 struct RightsRead {
     rights: Rights,
     next: Step,
 }
 
-#[derive(Drop)]
+#[derive(Clone, Copy)]
 pub(crate) struct RowRead {
     pub(crate) row: Row,
     pub(crate) next: Step,
 }
 
 // A row under construction: the least address that may come next, and the step.
-#[derive(Drop)]
+#[derive(Clone, Copy)]
 pub struct GrantsRead {
     pub low: usize,
     pub row: Row,
@@ -36,7 +36,7 @@ pub struct GrantsRead {
 }
 
 // A net with the rows of a text, and the step after them.
-#[derive(Drop)]
+#[derive(Clone, Copy)]
 pub struct RowsRead {
     pub net: Net,
     pub next: Step,

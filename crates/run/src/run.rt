@@ -13,7 +13,7 @@ use readers::fault::Fault;
 
 // How a run ended: made, or not made for a refused image, for a refused text, of which the number is known alone, or for
 // want of room for the answers.
-#[derive(Drop)]
+#[derive(Clone, Copy)]
 pub enum Finish {
     Complete,
     Refused(Fault),
@@ -22,7 +22,7 @@ pub enum Finish {
 }
 
 // How a run ended, and its final net: the empty net where none was made.
-#[derive(Drop)]
+#[derive(Clone, Copy)]
 pub struct Finished {
     pub finish: Finish,
     pub net: Net,

@@ -7,7 +7,7 @@ ghost use Rattle.season.specs.Counting.{no_counts, CountedOne, counted, one_more
 use step::turn::host_of;
 
 // For each address: the picks answered 0 or 1, and all that count.
-#[derive(Drop)]
+#[derive(Clone, Copy)]
 pub struct Counts {
     pub performed: [u32; 16],
     pub picks: [u32; 16],

@@ -16,7 +16,7 @@ use text::decimal::put_marked;
 use text::writing::{put, put_bytes};
 
 // The figures were written, with their length, or were not: for no runs at all, for more than 1,000, or for want of room.
-#[derive(Drop)]
+#[derive(Clone, Copy)]
 pub enum Figured {
     Written(usize),
     NoRuns,

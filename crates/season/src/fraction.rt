@@ -3,14 +3,14 @@ ghost use Rattle.std.specs.Prelude.{◌*◌, ◌/◌, ◌≡◌};
 ghost use Rattle.season.specs.Fractions.{Best, greatest_divisor, lowest, larger, against, considered};
 
 // A fraction, reduced or not.
-#[derive(Drop)]
+#[derive(Clone, Copy)]
 pub struct Fraction {
     pub numerator: u32,
     pub denominator: u32,
 }
 
 // The best so far, with its number from 1 and its fraction.
-#[derive(Drop)]
+#[derive(Clone, Copy)]
 pub enum Best {
     Nobody,
     Leader(u16, Fraction),

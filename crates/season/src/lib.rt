@@ -1,4 +1,5 @@
 // Shares over a season (document 02, slip 7).
+#![tactic(auto)]
 mod counts;
 pub mod figures;
 pub mod fraction;

@@ -13,7 +13,7 @@ use run::picks::first_picks;
 use run::run::{Finish, run};
 
 // Of one address: the picks performed, all picks that count, the tuples left, and the best run.
-#[derive(Drop)]
+#[derive(Clone, Copy)]
 pub struct Tally {
     pub performed: u32,
     pub picks: u32,
@@ -22,7 +22,7 @@ pub struct Tally {
 }
 
 // How many runs were made, and a tally for each address.
-#[derive(Drop)]
+#[derive(Clone, Copy)]
 pub struct Sums {
     pub runs: u16,
     pub tallies: [Tally; 16],

@@ -3,6 +3,7 @@
 // net.bin makes no run; where a file cannot be read, or an argument is no path, nothing is printed. Of net.bin one byte
 // more than the longest image has decides everything (proved: `FirstBytesDecide`), and of picks.bin the first 65,536 picks
 // count.
+#![tactic(auto)]
 ghost use Rattle.io.specs.Counts.{IsPrefixLen};
 
 use files::{Loaded, print, print_first, read_file, say};
@@ -15,7 +16,7 @@ use text::writing::{put, put_bytes};
 const LONGEST_PATH: usize = 4096;
 
 // The sums over the folders so far, and whether one of them could not be read.
-#[derive(Drop)]
+#[derive(Clone, Copy)]
 struct Progress {
     sums: Sums,
     failed: bool,

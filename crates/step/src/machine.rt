@@ -17,14 +17,14 @@ use plans::plan::Plan;
 use sound::soundness::sound;
 
 // The net after a pick, with its answer.
-#[derive(Drop)]
+#[derive(Clone, Copy)]
 pub struct Picked {
     pub answer: Answer,
     pub net: Net,
 }
 
 // A net that makes picks.
-#[derive(Drop)]
+#[derive(Clone, Copy)]
 pub struct Machine {
     pub net: Net,
 }

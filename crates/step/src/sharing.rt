@@ -14,7 +14,7 @@ use plans::answer::Answer;
 use plans::plan::tuple_from;
 
 // The answer to a pick, and all nodes of the net after it.
-#[derive(Drop)]
+#[derive(Clone, Copy)]
 pub struct Shared {
     pub answer: Answer,
     pub nodes: [Node; 16],

@@ -20,7 +20,7 @@ use plans::rows::creator_rows;
 
 // What a pick finds at its host: the process that it names, with the row that it is judged by and the index
 // of its instruction. `pick` is the pick itself, `format` the net's format, `addresses` the address count.
-#[derive(Drop)]
+#[derive(Clone, Copy)]
 pub struct Seat {
     pub pick: u8,
     pub format: usize,
@@ -33,7 +33,7 @@ pub struct Seat {
 // What a pick asks for from its seat, with its evaluated template, the address that it changes beside its
 // host, the address whose node its plan is drawn from, whether it sends code, and the set that it puts to, which is
 // empty where it is no out to a set.
-#[derive(Drop)]
+#[derive(Clone, Copy)]
 pub struct Turn {
     pub seat: Seat,
     pub request: Request,

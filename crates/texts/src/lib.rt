@@ -1,1 +1,2 @@
 // The claims about texts in the planners' notation stand in specs/ and proofs/: no code is here.
+#![tactic(auto)]

@@ -1,6 +1,7 @@
 // Reads net.bin and prints its net as a text in the planners' notation (document 02, slip 13); or, as a register does, `refused`
 // with the number and the bit of the image's first fault. A missing file counts as empty; where it cannot be read, nothing is
 // printed. One byte more than the longest image has decides everything (proved: `FirstBytesDecide`).
+#![tactic(auto)]
 use files::{print_first, read_file, say};
 use image::reader::{LONGEST_IMAGE, Verdict, read_image};
 use lines::lines::put_refused;

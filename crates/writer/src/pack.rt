@@ -13,7 +13,7 @@ use layout::whole::put_net;
 use net::network::Net;
 
 // An image was written, with its length; or no accepted image gives the net; or the buffer is too short.
-#[derive(Drop)]
+#[derive(Clone, Copy)]
 pub enum Packed {
     Written(usize),
     NotFresh,

@@ -10,4 +10,4 @@ zero_spec =
     tie.close
     (tie.spec
     (λ c κs. search rules)
-    (λ c. simp c.zero.ensures))
+    (λ c. simp c.zero-field.ensures))

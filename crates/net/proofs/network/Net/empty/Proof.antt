@@ -11,4 +11,4 @@ empty_spec =
     (tie.spec
     (λ c κs. search rules)
     (λ c κs. search rules)
-    (λ c. simp (c.before.zero.ensures, c.zero2.ensures)))
+    (λ c. simp (c.before.zero-node.ensures, c.zero-instruction.ensures)))

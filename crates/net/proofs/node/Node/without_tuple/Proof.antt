@@ -6,19 +6,19 @@ use borrow.Author.Rules.{rules}
 use Rattle.net.proofs.node.Node.without_tuple.Statement.{statement}
 use Rattle.net.proofs.node.Node.without_tuple.Tie as tie
 
-abbrev invariant-loop : tie.invariant-loop
-invariant-loop i self node₀ j₀ node j = Taking self i node j
+abbrev invariant-loop-j : tie.invariant-loop-j
+invariant-loop-j i self node₀ j₀ node j = Taking self i node j
 
-abbrev decreases-loop : tie.decreases-loop
-decreases-loop i self node₀ j₀ node j = 16 - j
+abbrev decreases-loop-j : tie.decreases-loop-j
+decreases-loop-j i self node₀ j₀ node j = 16 - j
 
 pub without_tuple_spec : {M : Type 1} → statement M
 unfolding tuple_at
 without_tuple_spec =
     tie.close
     (tie.spec
-    invariant-loop
-    decreases-loop
+    invariant-loop-j
+    decreases-loop-j
     (λ c κs. search rules)
     (λ c. search (rules, taking_none))
     (λ c κs. search rules)

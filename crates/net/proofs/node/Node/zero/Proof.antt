@@ -12,4 +12,4 @@ zero_spec =
     (λ c κs. search rules)
     (λ c κs. search rules)
     (λ c κs. search rules)
-    (λ c. simp (c.before.before.zero.ensures, c.before.free.ensures, c.zero2.ensures)))
+    (λ c. simp (c.before.before.zero-row.ensures, c.before.free-free.ensures, c.zero-tuple.ensures)))

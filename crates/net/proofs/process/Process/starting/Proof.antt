@@ -10,4 +10,4 @@ starting_spec =
     tie.close
     (tie.spec
     (λ c κs. search rules)
-    (λ c. simp c.unset.ensures))
+    (λ c. simp c.unset-unset.ensures))
