@@ -17,7 +17,7 @@ import sys
 
 TOKEN = re.compile(r"[A-Za-z_][A-Za-z0-9_'₀₁₂₃₄₅₆₇₈₉-]*")
 DECLARED = re.compile(
-    r"^\s*(?:\|\s*)?(?:(?:abbrev|unfoldable|pub)\s+)*([A-Za-z_][^\s:(){}.]*)((?:\s+[A-Za-z_][^\s:(){}.]*)*)\s*:\s"
+    r"^\s*(?:\|\s*)?(?:(?:abbrev|unfoldable|pub)\s+)*([A-Za-z_][^\s:(){}.]*)((?:\s+[A-Za-z_][^\s:(){}.]*)*)\s*:(?:\s|$)"
 )
 WORDS = {"module", "record", "data", "use", "where", "unfolding", "let", "in", "pub", "abbrev", "unfoldable", "mod"}
 # What Rattle generates and a proof file declares by its name.
@@ -89,8 +89,13 @@ def table(own, kept):
         if plain in kept:
             free += "_law"
         for n in order:
+            while n != free and free in own and free not in order:
+                free += "_too"
             new[n] = free
             free += "_law" if not free.endswith("_law") else "_too"
+    # The library has `take_at`, and this one is no lemma.
+    if "takeAt" in new:
+        new["takeAt"] = "take_place_at"
     return {a: b for a, b in new.items() if a != b}
 
 

@@ -15,7 +15,7 @@ use Rattle.bitreader.specs.Fields.{address, reading}
 use Rattle.bitreader.specs.Fields.{place, variable}
 use Rattle.image.specs.Image.{process, processes}
 use Rattle.image.specs.Image.{reading_item, address_item, item, tupleField, tuple, stored, tuples}
-use Rattle.net.proofs.Every.{chosen, filled-set}
+use Rattle.net.proofs.Every.{chosen, filled_set}
 use Rattle.net.proofs.ReadingLaws.{never}
 use Rattle.sound.proofs.NodeFacts.{TupleOk, RowOk, NodeOk}
 use Rattle.sound.proofs.NodeChanges.{Filling, no_field, next_field, all_fields, zero_row_law, alike_rows, other_row, runs, starting}
@@ -47,7 +47,7 @@ creating_ok n v = zero_row_law n
 
 gives_rights : (n : ℕ) (l : Locality) (r : Row) → l.0 < n → RowOk n r → Gives (rights l r) (RowOk n)
 unfolding rights with_rights
-gives_rights n l r h ok = gives_then (gives_bits 4) (λ v _. gives_pure _ _ (filled-set l.0 (rights_of v) h tt ok))
+gives_rights n l r h ok = gives_then (gives_bits 4) (λ v _. gives_pure _ _ (filled_set l.0 (rights_of v) h tt ok))
 
 gives_row : (n : ℕ) → Gives (row n) (RowOk n)
 unfolding row each_address
@@ -63,10 +63,10 @@ gives_single_row f n k x e ok =
     gives_then (gives_row n)
     (λ r h. gives_pure _ _ (with_rows_law f n k x ok _ (alike_rows f n r h (λ d. never (sym d ∙ e)))))
 
-gives-rowFrom :
+gives_row_from :
     (f n k : ℕ) (o : Locality) (x : Node) → eqb f 1 ≡ false → o.0 < n → NodeOk f n k x → Gives (row_from n o x) (NodeOk f n k)
 unfolding row_from with_row
-gives-rowFrom f n k o x e l ok =
+gives_row_from f n k o x e l ok =
     gives_then (gives_row n)
     (λ r h. gives_pure _ _ (with_rows_law f n k x ok _ (other_row f n x.rows o.0 r e l h ok.rows_ok)))
 
@@ -75,7 +75,7 @@ unfolding node_rows each_address
 gives_node_rows f n k x ok =
     chosen (λ m. Gives m (NodeOk f n k)) (eqb f 1) _ _
     (λ e. gives_single_row f n k x e ok)
-    (λ e. gives_each (λ i. NodeOk f n k) n (λ o. row_from n (address_of o)) (λ o h y. gives-rowFrom f n k (address_of o) y e h) x ok)
+    (λ e. gives_each (λ i. NodeOk f n k) n (λ o. row_from n (address_of o)) (λ o h y. gives_row_from f n k (address_of o) y e h) x ok)
 
 -- ---- 3. processes
 gives_process :
@@ -113,14 +113,14 @@ gives_tuple n a m =
     (no_field n))
     (λ t ok. all_fields n (less + 1) t a (omega arith) (omega arith) m ok))
 
-gives-stored :
+gives_stored :
     (f n k : ℕ) (a : Locality) → a.0 < n → (i : ℕ) (x : Node) → NodeOk f n k x → Gives (stored a n i x) (NodeOk f n k)
 unfolding stored
-gives-stored f n k a m i x ok =
+gives_stored f n k a m i x ok =
     gives_then (gives_tuple n a m) (λ t h. gives_pure _ _ (with_tuple_law f n k x ok (marked a t) h))
 
 pub gives_tuples : (f n k : ℕ) (a : Locality) (x : Node) → a.0 < n → NodeOk f n k x → Gives (tuples a n x) (NodeOk f n k)
 unfolding tuples
 gives_tuples f n k a x m ok =
     gives_then (gives_field 5 0 17 22 (omega arith))
-    (λ count _. gives_each (λ i. NodeOk f n k) count (stored a n) (λ i h. gives-stored f n k a m i) x ok)
+    (λ count _. gives_each (λ i. NodeOk f n k) count (stored a n) (λ i h. gives_stored f n k a m i) x ok)

@@ -25,8 +25,8 @@ use Rattle.net.proofs.Every.{chosen}
 use Rattle.sound.proofs.NodeFacts.{NodeOk}
 use Rattle.sound.proofs.CodeFacts.{InstructionOk}
 use Rattle.sound.proofs.NetFacts.{NetWith, net_sound}
-use Rattle.sound.proofs.NetChanges.{empty-net, node_at_law, with_node_law, with-instruction}
-use Rattle.accepted.proofs.Gives.{Fine, value, stopped, Gives, gives_pure, gives_weaken, gives_then, gives-and}
+use Rattle.sound.proofs.NetChanges.{empty_net_law, node_at_law, with_node_law, with_instruction_law}
+use Rattle.accepted.proofs.Gives.{Fine, value, stopped, Gives, gives_pure, gives_weaken, gives_then, gives_and}
 use Rattle.accepted.proofs.Gives.{gives_each, gives_require, Between, gives_field}
 use Rattle.accepted.proofs.AcceptedNode.{gives_node_rows, gives_processes, gives_tuples}
 use Rattle.accepted.proofs.AcceptedCode.{gives_instruction}
@@ -73,7 +73,7 @@ begin f n k d h g = record {
   addresses_are = refl;
   length_is = refl;
   facts =
-      empty-net f n k f n k d.above (omega (arith, d.below)) h.above (omega (arith, h.below)) g.above
+      empty_net_law f n k f n k d.above (omega (arith, d.below)) h.above (omega (arith, h.below)) g.above
       (omega (arith, g.below));
 }
 
@@ -146,15 +146,15 @@ module _ (f n k : ℕ) where
       gives_all (λ i. tuples_of (address_of i)) _ n ok.addresses_are (λ i. gives_tuples_of (address_of i)) s ok
 
   -- ---- 5. the code
-  set-instruction :
+  set_instruction :
       (s : Net) (p : Place) (c : Instruction) → p.0 < k → Making f n k s → InstructionOk f n k c
       → Making f n k (with_instruction s p c)
   unfolding with_instruction
-  set-instruction s p c h ok e = record {
+  set_instruction s p c h ok e = record {
     format_is = ok.format_is;
     addresses_are = ok.addresses_are;
     length_is = ok.length_is;
-    facts = with-instruction s ok.facts p c h e;
+    facts = with_instruction_law s ok.facts p c h e;
   }
 
   gives_instruction_of : (p : Place) (s : Net) → p.0 < k → Making f n k s → Gives (instruction_of p s) (Making f n k)
@@ -164,7 +164,7 @@ module _ (f n k : ℕ) where
       (gives_at (λ m. instruction m s.addresses s.length) ok.format_is
       (gives_at (λ m. instruction f m s.length) ok.addresses_are
       (gives_at (instruction f n) ok.length_is (gives_instruction f n k))))
-      (λ c e. gives_pure _ _ (set-instruction s p c h ok e))
+      (λ c e. gives_pure _ _ (set_instruction s p c h ok e))
 
   gives_code : (s : Net) → Making f n k s → Gives (code s) (Making f n k)
   unfolding code each_place
@@ -187,7 +187,7 @@ gives_layout =
     (λ s₂ ok₂. gives_then (gives_all_processes f n k s₂ ok₂)
     (λ s₃ ok₃. gives_then (gives_all_tuples f n k s₃ ok₃)
     (λ s₄ ok₄. gives_then (gives_code f n k s₄ ok₄)
-    (λ s₅ ok₅. gives-and gives_ending (λ _ _. gives_pure _ _ (net_laid f n k s₅ ok₅)))))))
+    (λ s₅ ok₅. gives_and gives_ending (λ _ _. gives_pure _ _ (net_laid f n k s₅ ok₅)))))))
 
 -- ---- the claims, of what is opened
 record Claimed (r : Opened) : Type 0 where

@@ -39,18 +39,18 @@ module _ (s : Net) (laid : Laid s) where
   accepted_within f false e h = never f (λ d. (h d).answer)
 
   -- 30 is the number of what is not admitted
-  thirty-beyond :
+  thirty_beyond :
       (f : Fault) (b : Bool) → admits s ≡ b → number_of (choose b (accepted s) (refused f)).answer ≡ 30 → StartsWithin s → ⊥
   unfolding choose accepted refused number_of
-  thirty-beyond f true e h w = omega arith
-  thirty-beyond f false e h w = let z : ◌≡◌ {A = ℕ} 0 1 = cc (admitted w) in omega arith
+  thirty_beyond f true e h w = omega arith
+  thirty_beyond f false e h w = let z : ◌≡◌ {A = ℕ} 0 1 = cc (admitted w) in omega arith
 
-  beyond-thirty :
+  beyond_thirty :
       (image : List ℕ) (b : Bool) → admits s ≡ b → (StartsWithin s → ⊥)
       → number_of (choose b (accepted s) (refused (beyond_row image s))).answer ≡ 30
   unfolding choose refused beyond_row fault_at number_of
-  beyond-thirty image true e n = absurd (n (within e))
-  beyond-thirty image false e n = refl
+  beyond_thirty image true e n = absurd (n (within e))
+  beyond_thirty image false e n = refl
 
 laid_at : (o : Parsed Net) (s : Net) (p : ℕ) → Fine Laid o → o ≡ got s p → Laid s
 laid_at _ s p (value {a = t} h) e = let same : t ≡ s = cc in subst Laid same h
@@ -66,7 +66,7 @@ accepted_is_within image s p e =
 
 thirty_is : (image : List ℕ) (o : Parsed Net) → Fine Laid o → layout image 0 ≡ o → number_of (judged_net image o).answer ≡ 30 → Beyond image
 unfolding judged_net refused number_of
-thirty_is image _ (value {a = s} laid) e h = beyond e (thirty-beyond s laid (beyond_row image s) (admits s) refl h)
+thirty_is image _ (value {a = s} laid) e h = beyond e (thirty_beyond s laid (beyond_row image s) (admits s) refl h)
 thirty_is image _ (stopped {f} l) e h = absurd (omega (arith, l.most))
 
 pub thirty_is_beyond : ThirtyIsBeyond
@@ -78,4 +78,4 @@ thirty_is_beyond image = (
   where
     beyond_is : Beyond image → number_of (judged_net image (layout image 0)).answer ≡ 30
     beyond_is (beyond {s} {p} e n) =
-        rw (e, judged) (beyond-thirty s (laid_at _ s p (gives_layout.run image 0) e) image (admits s) refl n)
+        rw (e, judged) (beyond_thirty s (laid_at _ s p (gives_layout.run image 0) e) image (admits s) refl n)

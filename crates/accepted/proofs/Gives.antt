@@ -12,9 +12,9 @@ use Rattle.readers.specs.Reader.{Parsed, got, Reader, require}
 use Rattle.bitreader.specs.BitReader.{number_at, judged, field, bits}
 use Rattle.net.proofs.Laws.{both_l, both_r}
 use Rattle.readers.proofs.Gives as Logic
-use Rattle.readers.proofs.Gives.{fine-unless}
-pub use Rattle.readers.proofs.Gives.{value, stopped, gives_pure, gives_weaken, gives_then, gives-and, gives_each}
-pub use Rattle.readers.proofs.Gives.{gives_last, gives-first, gives_choice, gives-passing}
+use Rattle.readers.proofs.Gives.{fine_unless}
+pub use Rattle.readers.proofs.Gives.{value, stopped, gives_pure, gives_weaken, gives_then, gives_and, gives_each}
+pub use Rattle.readers.proofs.Gives.{gives_last, gives_first, gives_choice, gives_passing}
 
 -- the numbers of the table
 pub record Listed (n : ℕ) : Type 0 where
@@ -44,13 +44,13 @@ between low v end e = record {
 fine_judged : (low end n p w v : ℕ) → Listed n → Fine (λ a. Between low a end) (judged low end n p w v)
 unfolding judged
 fine_judged low end n p w v l =
-    fine-unless _ (both (leb low v) (ltb v end)) (got v (p + w)) n p w l (λ e. value (between low v end e))
+    fine_unless _ (both (leb low v) (ltb v end)) (got v (p + w)) n p w l (λ e. value (between low v end e))
 
 pub gives_field : (w low end n : ℕ) → Listed n → Gives (field w low end n) (λ v. Between low v end)
 unfolding field
 gives_field w low end n l = record {
   run = λ s p.
-      fine-unless _ (leb (p + w) (8 * length s)) (judged low end n p w (number_at s p w)) 28 p w (omega arith)
+      fine_unless _ (leb (p + w) (8 * length s)) (judged low end n p w (number_at s p w)) 28 p w (omega arith)
       (λ _. fine_judged low end n p w (number_at s p w) l);
 }
 

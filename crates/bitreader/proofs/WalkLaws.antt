@@ -56,11 +56,11 @@ Silents {n} (s ∷ ss) ks =
     left ((s.row κs).exit ks.0) x f ≡ ftrue) ×
     Silents ss ks.1
 
-fits-none :
+fits_none :
     {n : ℕ} (κs : Lfts n) (ss : List (Slot n)) (ks : Kepts ss) (a : Denots (types_at ss κs)) (ws : Fins κs ss ks a) →
     fits_of κs ss ks (dropped ss ks) a ws
-fits-none κs [] ks a ws = tt
-fits-none κs (s ∷ ss) ks a ws = (tt, fits-none κs ss ks.1 a.1 ws.1)
+fits_none κs [] ks a ws = tt
+fits_none κs (s ∷ ss) ks a ws = (tt, fits_none κs ss ks.1 a.1 ws.1)
 
 module _ {M : Type 1} {𝓤 : Ura M} (𝓛 : Logic 𝓤) where
   has_none :
@@ -96,10 +96,10 @@ module _ {M : Type 1} (𝓤 : Ura M) (T : Ended) (c : Clauses 𝓤 T) (κs : Lft
   abbrev pub Says : ((Result T κs).Denot → Type 0) → Type 1
   Says φ = (r : (Result T κs).Denot) (ws : Lasts T κs a) → ent 𝓤 (Ensured r ws) (fact 𝓤 (φ r))
 
-  heard-of :
+  heard_of :
       (𝓛 : Logic 𝓤) (φ : (Result T κs).Denot → Type 0) → Says φ → (r : (Result T κs).Denot) →
       ent 𝓤 (ensured 𝓛 T c κs a g r) (fact 𝓤 (φ r))
-  heard-of 𝓛 φ h r = ex_e 𝓤 _ (λ ws. via 𝓤 (Ensured r ws) (snd∗ 𝓤 (sem 𝓛 (lasts T κs a ws)) (Ensured r ws)) (h r ws))
+  heard_of 𝓛 φ h r = ex_e 𝓤 _ (λ ws. via 𝓤 (Ensured r ws) (snd∗ 𝓤 (sem 𝓛 (lasts T κs a ws)) (Ensured r ws)) (h r ws))
 
 abbrev head : Val → List Val → Val
 head v [] = v
@@ -139,7 +139,7 @@ module _ {M : Type 1} {𝓤 : Ura M} {𝓛 : Logic 𝓤} {K : Type 0} {Γ : List
       -- [what the callee leaves; …]: for some result, the tokens, what it owns and what is said of it
       use1 𝓛 (later (some (λ (r : R.Denot). (tokens ⊛ ‵ (R.own r (u ∷ []))) ⊛ raw (ensured 𝓛 T c κs a g r))))
       (id⊢ 𝓤 _) $ await t tt $ pick t (λ r. split t $ move t (1 ∷ []) $
-      use1 𝓛 (raw (fact 𝓤 (φ r))) (heard-of 𝓤 T c κs a g 𝓛 φ says r) $ heard t (φ r) (λ e. split t $ move t (1 ∷ []) $
+      use1 𝓛 (raw (fact 𝓤 (φ r))) (heard_of 𝓤 T c κs a g 𝓛 φ says r) $ heard t (φ r) (λ e. split t $ move t (1 ∷ []) $
       peeks t R (Is R) (shows 𝓛 R) r (u ∷ []) (λ is.
       -- the machine value that is returned is the result's
       subst (λ (v : Val). Is R r (v ∷ []) → Seq K 𝓛 (‵ (R.own r (v ∷ [])) ∷ tokens ∷ Γ) (lands C Λ E d v rest q))
@@ -155,7 +155,7 @@ module _ {M : Type 1} {𝓤 : Ura M} {𝓛 : Logic 𝓤} {K : Type 0} {Γ : List
   ends t T c κs qs bounds a vs g v r ws shown = step (λ s.
       let tokens : Item 𝓤 = raw (alive 𝓛 T.signature κs qs) in
       let result : Item 𝓤 = ‵ ((Result T κs).own r (v ∷ [])) in
-      let fits = fits-none κs T.signature.params T.kept a ws in
+      let fits = fits_none κs T.signature.params T.kept a ws in
       suffices t _ (ends_at 𝓛 T (none T) c ((κs, qs, bounds, a, vs), g) v r ws fits) $
       suffices t (⋆ 𝓛 (tokens ∷ result ∷ [])) (qed 𝓛 (tokens ∷ result ∷ []) ∵
       use0 𝓛 (raw (Ensured 𝓤 T c κs a g r ws)) shown $

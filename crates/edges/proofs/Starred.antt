@@ -40,18 +40,18 @@ pub starred_edges : StarredEdges
 unfolding opened
 starred_edges = record {
   no_bytes = refl;
-  one-stop = refl;
+  one_stop = refl;
   last_byte = refl;
-  sixth-byte = λ b. refl;
+  sixth_byte = λ b. refl;
   no_put = refl;
   listing = refl;
   all_ones = refl;
   first_bit = refl;
-  nothing-to-take = refl;
+  nothing_to_take = refl;
   full = refl;
   room = refl;
   covered = refl;
   covered_none = refl;
-  other-sort = refl;
+  other_sort = refl;
   oldest = refl;
 }

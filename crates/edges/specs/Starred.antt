@@ -13,7 +13,7 @@ pub record StarredEdges : Type 0 where
       ([])
       ≡ bytes "refused 28 at 0\n"
   -- 10 80 20 00 00: accepted.
-  pub one-stop :
+  pub one_stop :
       register_of
       (16 ∷ 128 ∷ 32 ∷ 0 ∷ 0 ∷ [])
       ([])
@@ -25,7 +25,7 @@ pub record StarredEdges : Type 0 where
       ([])
       ≡ bytes "refused 29 at 35\n"
   -- The same with a sixth byte, whatever it is: 29.
-  pub sixth-byte :
+  pub sixth_byte :
       (b : ℕ) →
       register_of
       (16 ∷ 128 ∷ 32 ∷ 0 ∷ 0 ∷ b ∷ [])
@@ -56,7 +56,7 @@ pub record StarredEdges : Type 0 where
       (0 ∷ [])
       ≡ bytes "net 1 2\npick 1 0 0 0\nnode 0 2 1\ntuple 0 -2147483648 from 0\ntuple 0 -2147483648 from 0\ntotal 2\n"
   -- An in at self, i held, no tuple: 2.
-  pub nothing-to-take :
+  pub nothing_to_take :
       register_of
       (16 ∷ 128 ∷ 72 ∷ 32 ∷ 0 ∷ 36 ∷ 128 ∷ 2 ∷ 0 ∷ [])
       (0 ∷ [])
@@ -92,7 +92,7 @@ pub record StarredEdges : Type 0 where
       (0 ∷ 0 ∷ [])
       ≡ bytes "net 1 3\npick 1 0 0 0\npick 2 0 0 2\nnode 0 1 1\ntuple 0 @0 from 0\ntotal 1\n"
   -- Formal reading against an address field: 2.
-  pub other-sort :
+  pub other_sort :
       register_of
       (16 ∷ 128 ∷ 72 ∷ 32 ∷ 0 ∷ 144 ∷ 73 ∷ 0 ∷ 4 ∷ 0 ∷ [])
       (0 ∷ [])

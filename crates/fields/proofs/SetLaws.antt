@@ -13,7 +13,7 @@ use mir.Val.{Fits}
 use Rattle.net.specs.Choice.{choose, fold}
 use Rattle.net.specs.Records.{address_of}
 use Rattle.net.specs.Groups.{halved, member}
-use Rattle.net.proofs.FoldLaws.{fold_none, fold_more, fold_end, fold-keeps}
+use Rattle.net.proofs.FoldLaws.{fold_none, fold_more, fold_end, fold_keeps}
 use Rattle.net.proofs.GroupLaws.{member_is}
 use Rattle.readers.specs.Reader.{require}
 use Rattle.readers.specs.Progress.{Went}
@@ -54,7 +54,7 @@ module _ (marks : List Bool) where
 
   bits_low : (i : ℕ) → fold i with_bit 0 < 2 ^ i
   unfolding with_bit
-  bits_low i = fold-keeps (λ j v. v < 2 ^ j) with_bit 0 i (omega arith) (λ j v _ h. omega (arith, h, bit_most (get_or marks j false)))
+  bits_low i = fold_keeps (λ j v. v < 2 ^ j) with_bit 0 i (omega arith) (λ j v _ h. omega (arith, h, bit_most (get_or marks j false)))
 
   pub group_low : (group_of marks).0 < 65536
   unfolding group_of with_bit

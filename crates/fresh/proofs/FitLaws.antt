@@ -17,16 +17,16 @@ use Rattle.fresh.specs.Types.{Action, Instruction, Net}
 use Rattle.fresh.specs.Fresh.{reading_fits, item_fits, pattern_fits, tuple_fits, process_fits, row_fits, node_fits, action_fits}
 use Rattle.fresh.specs.Fresh.{instruction_fits, net_fits}
 
-pub array-fits :
+pub array_fits :
     {A : Type 0} {d : A} {size : ℕ} {xs : List A} (test : A → Bool) → Every (λ i x. test x ≡ true) d size xs
     → both (eqb (length xs) size) (all size (λ i. test (get_or xs i d))) ≡ true
-array-fits {size} test e = both_i _ _ (eq-eqb _ _ e.size_is) (all_i size _ e.holds)
+array_fits {size} test e = both_i _ _ (eq-eqb _ _ e.size_is) (all_i size _ e.holds)
 
 pub net_fits_law :
     (s : Net) → Every (λ a x. node_fits x ≡ true) past_node 16 s.nodes
     → Every (λ p c. instruction_fits c ≡ true) past_instruction 512 s.code → net_fits s ≡ true
 unfolding net_fits node_at instruction_at
-net_fits_law s nodes code = both_i _ _ (array-fits node_fits nodes) (array-fits instruction_fits code)
+net_fits_law s nodes code = both_i _ _ (array_fits node_fits nodes) (array_fits instruction_fits code)
 
 pub action_fits_law :
     (c : Instruction) (a : Action) → action_fits a ≡ true → instruction_fits c ≡ true → instruction_fits (with_action c a) ≡ true

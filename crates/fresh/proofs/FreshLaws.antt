@@ -23,8 +23,8 @@ unfolding both
 both_true a b p = rw p
 
 -- the test leaves away what holds of every net of a running program
-pub fresh-tested :
+pub fresh_tested :
     (net : Net) (r : Bool) → net_fits net ≡ true
     → r ≡ both (sound_of net) (both (all 16 (λ a. starts_at net (address_of a))) (admits net)) → r ≡ fresh_of net
 unfolding fresh_of
-fresh-tested net r f e = e ∙ sym (both_true (net_fits net) _ f)
+fresh_tested net r f e = e ∙ sym (both_true (net_fits net) _ f)

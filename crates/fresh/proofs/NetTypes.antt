@@ -57,10 +57,10 @@ field_fits :
     → item_fits f.item ≡ true
 field_fits f vs h = item_fits_law f.item _ h.1.1.0
 
-template-field-fits :
+template_field_fits :
     (f : TemplateField) (vs : List Val) → Is (field templateField.the_type).row ((templateField.the_type).to f) vs
     → pattern_fits f.pattern ≡ true
-template-field-fits f vs h = pattern_fits_law f.pattern _ h.1.1.0
+template_field_fits f vs h = pattern_fits_law f.pattern _ h.1.1.0
 
 tuple_fits_law : (t : Tuple) (vs : List Val) → Is (field tuple.the_type).row ((tuple.the_type).to t) vs → tuple_fits t ≡ true
 unfolding tuple_fits field_at
@@ -99,7 +99,7 @@ instruction_fits_law c vs h =
     both_i _ _ (action_fits_law c.action _ h.1.1.0)
     (both_i _ _ (eq-eqb _ _ (long templateField.the_type c.template 4 _ known))
     (all_i 4 _
-    (element templateField.the_type (λ f. pattern_fits f.pattern ≡ true) template-field-fits c.template 4 _ known _)))
+    (element templateField.the_type (λ f. pattern_fits f.pattern ≡ true) template_field_fits c.template 4 _ known _)))
 
 node_fits_law : (x : Node) (vs : List Val) → Is (field node.the_type).row ((node.the_type).to x) vs → node_fits x ≡ true
 unfolding node_fits row_at process_at tuple_at

@@ -19,25 +19,25 @@ use Rattle.keeping.specs.Keeping.{may_take, may_read, may_put, may_send, may_cre
 use Rattle.keeping.specs.KeepingPromise.{KeepingPromise}
 use Rattle.keeping.specs.ReachingClaims.{KeepsIsEvery}
 use Rattle.net.proofs.Laws.{all_i, all_e}
-use Rattle.keeping.proofs.Unmarked.{meet-cases, meetAll-keeps}
+use Rattle.keeping.proofs.Unmarked.{meet_cases, meet_all_keeps}
 use Rattle.keeping.proofs.Reached.{keeps_is_every}
 
 -- ---- a place waits only below 512
 Low : Search → Type 0
 Low s = (q : Place) → Memᴰ q s.waiting → q.0 < 512
 
-waiting-low :
+waiting_low :
     (p q : Place) (ps : List Place) → p.0 < 512 → ((r : Place) → Memᴰ r ps → r.0 < 512) → Memᴰ q (p ∷ ps)
     → q.0 < 512
-waiting-low p q ps h f (Memᴰ.head e) = rw e h
-waiting-low p q ps h f (Memᴰ.tail m) = f q m
+waiting_low p q ps h f (Memᴰ.head e) = rw e h
+waiting_low p q ps h f (Memᴰ.tail m) = f q m
 
 low_meet : (s : Search) (p : Place) → Low s → Low (meet s p)
 unfolding Low
-low_meet s p f = meet-cases Low s p (λ _. f) (λ h _ q m. waiting-low p q s.waiting h f m)
+low_meet s p f = meet_cases Low s p (λ _. f) (λ h _ q m. waiting_low p q s.waiting h f m)
 
 low_meet_all : (s : Search) (ps : List Place) → Low s → Low (meet_all s ps)
-low_meet_all s ps f = meetAll-keeps Low ps (λ t p _. low_meet t p) s f
+low_meet_all s ps f = meet_all_keeps Low ps (λ t p _. low_meet t p) s f
 
 low_start : (p : Place) → Low (started_at p)
 unfolding started_at Low
@@ -48,25 +48,25 @@ record Agree (c d : List Instruction) : Type 0 where
   same : (p : Place) → p.0 < 512 → instruction_at c p ≡ instruction_at d p
 
 module _ (c d : List Instruction) (agree : Agree c d) where
-  visit-same :
+  visit_same :
       (marks : List Bool) (ps : List Place) → Low (record { marks = marks; waiting = ps })
       → visit_first c marks ps ≡ visit_first d marks ps
   unfolding visit_first Low
-  visit-same marks [] f = refl
-  visit-same marks (p ∷ ps) f = rw (agree.same p (f p (Memᴰ.head refl)))
+  visit_same marks [] f = refl
+  visit_same marks (p ∷ ps) f = rw (agree.same p (f p (Memᴰ.head refl)))
 
-  low-visit :
+  low_visit :
       (marks : List Bool) (ps : List Place) → Low (record { marks = marks; waiting = ps }) → Low (visit_first c marks ps)
   unfolding visit_first Low
-  low-visit marks [] f = f
-  low-visit marks (p ∷ ps) f = low_meet_all _ _ (λ q m. f q (Memᴰ.tail m))
+  low_visit marks [] f = f
+  low_visit marks (p ∷ ps) f = low_meet_all _ _ (λ q m. f q (Memᴰ.tail m))
 
   visits_same : (k : ℕ) (s : Search) → Low s → visits k c s ≡ visits k d s
   unfolding visits visit
   visits_same zero s f = refl
   visits_same (suc k) s f =
-      visits_same k (visit c s) (low-visit s.marks s.waiting f)
-      ∙ ap (visits k d) (visit-same s.marks s.waiting f)
+      visits_same k (visit c s) (low_visit s.marks s.waiting f)
+      ∙ ap (visits k d) (visit_same s.marks s.waiting f)
 
   reached_same : (p : Place) → reached_of c p ≡ reached_of d p
   unfolding reached_of
@@ -79,13 +79,13 @@ module _ (c d : List Instruction) (agree : Agree c d) where
       all_i 512 _ (λ i l. rw (← reached_same p, ← agree.same (place_of i) l) (all_e 512 _ h i l))
 
   -- what is reached in the one is reached in the other, where the instructions below n lead to places below n
-  reaches-carry :
+  reaches_carry :
       (n : ℕ) (from q : Place) → n ≤ 512 → from.0 < n
       → ((p r : Place) → p.0 < n → Follows r (instruction_at c p).action → r.0 < n)
       → Reaches c from q → (q.0 < n) × Reaches d from q
-  reaches-carry n from _ fits l closed itself = (l, itself)
-  reaches-carry n from q fits l closed (onward {p} m f) =
-      let before = reaches-carry n from p fits l closed m in
+  reaches_carry n from _ fits l closed itself = (l, itself)
+  reaches_carry n from q fits l closed (onward {p} m f) =
+      let before = reaches_carry n from p fits l closed m in
       (closed p q before.0 f, onward before.1 (rw (agree.same p (omega arith)) at f))
 
 agree_sym : (c d : List Instruction) → Agree c d → Agree d c
@@ -118,20 +118,20 @@ module _ (code : List Instruction) (k : ℕ) (few : k ≤ 512) (closed : Closed 
   unfolding Closed
   closed_short p q h f = closed p q h (rw (there.same p (omega arith)) at f)
 
-  keeps-every :
+  keeps_every :
       (p : Place) (a : Locality) (r : Row) → p.0 < k
       → (keeps_of code p a r ≡ true)
       ↔ ((q : Place) → Reaches code p q → permits r a (instruction_at code q).action ≡ true)
   unfolding KeepsIsEvery Closed
-  keeps-every p a r low = (
+  keeps_every p a r low = (
     λ h q m.
-        let c = reaches-carry code short back k p q few low closed m in
+        let c = reaches_carry code short back k p q few low closed m in
         rw (back.same q (omega (arith, c.0)))
         ((keeps_is_every short short_is p a r).0 (keeps_carry code short back p a r h) q c.1),
     λ h. keeps_carry short code there p a r
         ((keeps_is_every short short_is p a r).1
         (λ q m.
-        let c = reaches-carry short code there k p q few low closed_short m in
+        let c = reaches_carry short code there k p q few low closed_short m in
         rw (there.same q (omega (arith, c.0))) (h q c.1))),
   )
 
@@ -143,5 +143,5 @@ keeping_promise = record {
   puts = λ r l. refl;
   sends = λ r l. refl;
   creates = λ r. refl;
-  keeps = keeps-every;
+  keeps = keeps_every;
 }

@@ -12,7 +12,7 @@ use Rattle.keeping.specs.Types.{Place, Instruction}
 use Rattle.keeping.specs.Reaching.{Search, meet, visit_first, visit, visits, started_at}
 use Rattle.keeping.specs.ReachingClaims.{waiting_at, WaitOnce, NeverMoreWait}
 use Rattle.keeping.specs.Worklist.{unmarked}
-use Rattle.keeping.proofs.Unmarked.{unmarked-set, meet-cases, meetAll-keeps, fresh, fresh_measured, marked_set}
+use Rattle.keeping.proofs.Unmarked.{unmarked_set, meet_cases, meet_all_keeps, fresh, fresh_measured, marked_set}
 
 record Waits (s : Search) : Type 0 where
   long : length s.marks ≡ 512
@@ -52,10 +52,10 @@ module _ (marks : List Bool) (p : Place) (ps : List Place) where
     unfolding after before
     put = record {
       long = length-set marks p.0 true ∙ w.long;
-      room = omega (arith, unmarked-set marks p.0 (omega (arith, w.long)) new, w.room);
+      room = omega (arith, unmarked_set marks p.0 (omega (arith, w.long)) new, w.room);
       once =
           record {
-            few = omega (arith, unmarked-set marks p.0 (omega (arith, w.long)) new, w.room);
+            few = omega (arith, unmarked_set marks p.0 (omega (arith, w.long)) new, w.room);
             low = after_low;
             marked = after_marked;
             distinct = after_distinct;
@@ -64,7 +64,7 @@ module _ (marks : List Bool) (p : Place) (ps : List Place) where
 
 waits_meet : (s : Search) (p : Place) → Waits s → Waits (meet s p)
 unfolding before after
-waits_meet s p w = meet-cases Waits s p (λ _. w) (λ near new. put s.marks p s.waiting w near new)
+waits_meet s p w = meet_cases Waits s p (λ _. w) (λ near new. put s.marks p s.waiting w near new)
 
 -- ---- the first waiting place is taken off and visited
 taken : (marks : List Bool) (p : Place) (ps : List Place)
@@ -86,7 +86,7 @@ waits_first : (code : List Instruction) (marks : List Bool) (ps : List Place)
     → Waits (record { marks = marks; waiting = ps }) → Waits (visit_first code marks ps)
 unfolding visit_first
 waits_first code marks [] w = w
-waits_first code marks (p ∷ ps) w = meetAll-keeps Waits _ (λ t q _. waits_meet t q) _ (taken marks p ps w)
+waits_first code marks (p ∷ ps) w = meet_all_keeps Waits _ (λ t q _. waits_meet t q) _ (taken marks p ps w)
 
 waits_visits : (code : List Instruction) (k : ℕ) (s : Search) → Waits s → Waits (visits k code s)
 unfolding visits visit

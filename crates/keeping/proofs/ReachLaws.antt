@@ -35,17 +35,17 @@ none_marked code p h =
     let none = met_before (record { marks = replicate 512 false; waiting = [] }) p (λ low. absurd (omega arith)) in
     sym (ap (λ (s : Search). (visits 512 code s).marks) none ∙ nothing_waits code 512 (record { marks = replicate 512 false; waiting = [] }) refl)
 
-pub way-first :
+pub way_first :
     (code : List Instruction) (p : Place) (waiting : List ℕ) → p.0 < 512 → get_or waiting 0 0 ≡ p.0
     → Way code p (search_of (set (replicate 512 false) p.0 true) waiting 1)
-way-first code p waiting low e =
+way_first code p waiting low e =
     record { ok = true; underway = underway_first code p (address_of 0) zero_row waiting low e }
 
-pub all-marked :
+pub all_marked :
     (code : List Instruction) (p : Place) (marks : List Bool) (waiting : List ℕ) (count : ℕ)
     → Way code (place_of p.0) (search_of marks waiting count) → count ≤ 0 → marks ≡ reached_of code p
 unfolding search_of tops
-all-marked code p marks waiting count w h =
+all_marked code p marks waiting count w h =
     let e : count ≡ 0 = omega arith in ended code p (search_of marks waiting count) w (rw e)
 
 -- one turn: a visit has what it needs, and the loop is under way after it

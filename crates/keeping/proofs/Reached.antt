@@ -17,7 +17,7 @@ use Rattle.keeping.specs.Reaching.{visit_first, visit, visits, started_at, reach
 use Rattle.keeping.specs.Keeping.{permits, permits_marked, keeps_of}
 use Rattle.keeping.specs.ReachingClaims.{MarkedIsReached, KeepsIsEvery}
 use Rattle.net.proofs.Laws.{implies_i, implies_e, all_i, all_e}
-use Rattle.keeping.proofs.Unmarked.{unmarked_at, meet-cases, meetAll-keeps, fresh, fresh_measured}
+use Rattle.keeping.proofs.Unmarked.{unmarked_at, meet_cases, meet_all_keeps, fresh, fresh_measured}
 use Rattle.keeping.proofs.Unmarked.{Measured, measured_meet, measured_meet_all}
 use Rattle.keeping.proofs.Unmarked.{Marked, set_marked, marked_meet, met_marked}
 
@@ -47,18 +47,18 @@ in_follows q (Action.OutAll g p) m = rw (Memᴰ.eq_of_singleton m) out_all_next
 
 -- ---- marks
 marked_meet_all : (q : Place) (s : Search) (ps : List Place) → Marked s.marks q → Marked (meet_all s ps).marks q
-marked_meet_all q s ps h = meetAll-keeps (λ t. Marked t.marks q) ps (λ t p _. marked_meet q t p) s h
+marked_meet_all q s ps h = meet_all_keeps (λ t. Marked t.marks q) ps (λ t p _. marked_meet q t p) s h
 
-allMet-marked :
+all_met_marked :
     {k : ℕ} (q : Place) (ps : List Place) (s : Search)
     → Measured k s
     → Memᴰ q ps
     → q.0 < 512
     → Marked (meet_all s ps).marks q
 unfolding meet_all
-allMet-marked q (p ∷ ps) s h (Memᴰ.head e) low =
+all_met_marked q (p ∷ ps) s h (Memᴰ.head e) low =
     marked_meet_all q (meet s p) ps (rw e (met_marked s p h (rw e at low)))
-allMet-marked q (p ∷ ps) s h (Memᴰ.tail m) low = allMet-marked q ps (meet s p) (measured_meet _ s p h) m low
+all_met_marked q (p ∷ ps) s h (Memᴰ.tail m) low = all_met_marked q ps (meet s p) (measured_meet _ s p h) m low
 
 -- ---- the search: what is marked or waits satisfies R, and what is marked waits or satisfies C
 record Good (R C : Place → Type 0) (s : Search) : Type 0 where
@@ -68,7 +68,7 @@ record Good (R C : Place → Type 0) (s : Search) : Type 0 where
 
 good_meet : (R C : Place → Type 0) (s : Search) (p : Place) → R p → Good R C s → Good R C (meet s p)
 good_meet R C s p r g =
-    meet-cases (Good R C) s p (λ _. g)
+    meet_cases (Good R C) s p (λ _. g)
     (λ _ _.
     record {
       sound = λ q m. ⊎_elim (λ e. rw e r) (g.sound q) (set_marked s.marks p q m);
@@ -90,13 +90,13 @@ after code marks w ws =
     meet_all (record { marks = marks; waiting = ws }) (followers (instruction_at code w).action)
 
 module _ (code : List Instruction) (p : Place) (marks : List Bool) (w : Place) (ws : List Place) where
-  good-visit :
+  good_visit :
       (k : ℕ)
       → Measured k (record { marks = marks; waiting = ws })
       → Good (Reaches code p) (FollowersMarked code marks) (record { marks = marks; waiting = w ∷ ws })
       → Good (Reaches code p) (FollowersMarked code (after code marks w ws).marks) (after code marks w ws)
   unfolding after FollowersMarked
-  good-visit k h g =
+  good_visit k h g =
       record {
         sound = met.sound;
         waits = met.waits;
@@ -123,12 +123,12 @@ module _ (code : List Instruction) (p : Place) (marks : List Bool) (w : Place) (
 
       met : Good (Reaches code p) Excuse (meet_all old follow)
       met =
-          meetAll-keeps (Good (Reaches code p) Excuse) follow
+          meet_all_keeps (Good (Reaches code p) Excuse) follow
           (λ t q m. good_meet (Reaches code p) Excuse t q (onward (g.waits w (Memᴰ.head refl)) (in_follows q _ m)))
           old start
 
       closed : (q : Place) → Excuse q → FollowersMarked code (meet_all old follow).marks q
-      closed q (inl e) r f low = allMet-marked r follow old h (follows_in r _ (rw e at f)) low
+      closed q (inl e) r f low = all_met_marked r follow old h (follows_in r _ (rw e at f)) low
       closed q (inr c) r f low = marked_meet_all r old follow (c r f low)
 
 -- ---- all visits: as many as places wait or are unmarked, after which none waits
@@ -170,20 +170,20 @@ finish code p zero marks (w ∷ ws) h g = absurd (omega arith)
 finish code p (suc k) marks [] h g = at_rest code p k marks g
 finish code p (suc k) marks (w ∷ ws) h g =
     let less : Measured k (record { marks = marks; waiting = ws }) = record { long = h.long; left = omega arith } in
-    earlier _ _ (finish code p k _ _ (measured_meet_all k _ _ less) (good-visit code p marks w ws k less g))
+    earlier _ _ (finish code p k _ _ (measured_meet_all k _ _ less) (good_visit code p marks w ws k less g))
 
 -- ---- nothing follows past the end
 past_end : (code : List Instruction) (p : Place) → length code ≤ p.0 → (instruction_at code p).action ≡ Action.Stop
 unfolding instruction_at
 past_end code p h = ap (λ (c : Instruction). c.action) (get_or-eq_default code _ {n = p.0} h)
 
-followed-low :
+followed_low :
     (code : List Instruction) (p q : Place)
     → length code ≤ 512
     → Follows q (instruction_at code p).action
     → p.0 < 512
 unfolding followers
-followed-low code p q fits f =
+followed_low code p q fits f =
     elim (dec_le 512 p.0) [
       | yes h ↦ absurd (Memᴰ.not-nil (follows_in q Action.Stop (rw (past_end code p (omega arith)) at f)))
       | no n ↦ omega arith
@@ -218,7 +218,7 @@ complete :
 unfolding FollowersMarked
 complete code fits p _ itself low = (searched code p).kept p (met_marked fresh p fresh_measured low)
 complete code fits p q (onward {p = r} m f) low =
-    (searched code p).closed r (complete code fits p r m (followed-low code r q fits f)) q f low
+    (searched code p).closed r (complete code fits p r m (followed_low code r q fits f)) q f low
 
 -- ---- the two claims
 pub marked_is_reached : MarkedIsReached

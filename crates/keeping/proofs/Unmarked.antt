@@ -19,17 +19,17 @@ use Rattle.keeping.specs.Worklist.{unmarked}
 use Rattle.net.proofs.Laws.{both_l, both_r}
 
 -- a mark set where there was none
-pub unmarked-set :
+pub unmarked_set :
     (marks : List Bool) (i : ℕ)
     → i < length marks
     → get_or marks i false ≡ false
     → unmarked (set marks i true) + 1 ≡ unmarked marks
 unfolding unmarked
-unmarked-set [] i h e = absurd (not-suc-le-zero h)
-unmarked-set (true ∷ ms) zero h e = let z : ◌≡◌ {A = ℕ} 0 1 = cc in absurd (omega arith)
-unmarked-set (false ∷ ms) zero h e = omega arith
-unmarked-set (true ∷ ms) (suc i) h e = unmarked-set ms i (le_of_suc-le-suc h) e
-unmarked-set (false ∷ ms) (suc i) h e = omega (arith, unmarked-set ms i (le_of_suc-le-suc h) e)
+unmarked_set [] i h e = absurd (not-suc-le-zero h)
+unmarked_set (true ∷ ms) zero h e = let z : ◌≡◌ {A = ℕ} 0 1 = cc in absurd (omega arith)
+unmarked_set (false ∷ ms) zero h e = omega arith
+unmarked_set (true ∷ ms) (suc i) h e = unmarked_set ms i (le_of_suc-le-suc h) e
+unmarked_set (false ∷ ms) (suc i) h e = omega (arith, unmarked_set ms i (le_of_suc-le-suc h) e)
 
 pub unmarked_replicate : (n : ℕ) → unmarked (replicate n false) ≡ n
 unfolding unmarked
@@ -42,7 +42,7 @@ unmarked_at (suc n) zero = refl
 unmarked_at (suc n) (suc i) = unmarked_at n i
 
 -- ---- meeting a place: it was marked already or lies past the marks, or it is marked and waits now
-pub meet-cases :
+pub meet_cases :
     (P : Search → Type 0) (s : Search) (p : Place)
     → ((p.0 < 512 → get_or s.marks p.0 false ≡ true) → P s)
     → (p.0 < 512
@@ -50,7 +50,7 @@ pub meet-cases :
     → P (record { marks = set s.marks p.0 true; waiting = p ∷ s.waiting }))
     → P (meet s p)
 unfolding meet choose both
-meet-cases P s p old new = go _ refl
+meet_cases P s p old new = go _ refl
   where
     go : (b : Bool)
         → both (ltb p.0 512) (not (get_or s.marks p.0 false)) ≡ b
@@ -59,16 +59,16 @@ meet-cases P s p old new = go _ refl
     go false e = old (λ low. not-false _ (rw (lt-ltb p.0 512 low) at e))
 
 -- what meeting each of the places keeps
-pub meetAll-keeps :
+pub meet_all_keeps :
     (P : Search → Type 0) (ps : List Place)
     → ((t : Search) (p : Place) → Memᴰ p ps → P t → P (meet t p))
     → (s : Search)
     → P s
     → P (meet_all s ps)
 unfolding meet_all
-meetAll-keeps P [] step s h = h
-meetAll-keeps P (p ∷ ps) step s h =
-    meetAll-keeps P ps (λ t q m. step t q (Memᴰ.tail m)) (meet s p) (step s p (Memᴰ.head refl) h)
+meet_all_keeps P [] step s h = h
+meet_all_keeps P (p ∷ ps) step s h =
+    meet_all_keeps P ps (λ t q m. step t q (Memᴰ.tail m)) (meet s p) (step s p (Memᴰ.head refl) h)
 
 -- ---- the waiting and the unmarked places together: m of them, in a search with its 512 marks
 pub record Measured (m : ℕ) (s : Search) : Type 0 where
@@ -77,15 +77,15 @@ pub record Measured (m : ℕ) (s : Search) : Type 0 where
 
 pub measured_meet : (m : ℕ) (s : Search) (p : Place) → Measured m s → Measured m (meet s p)
 measured_meet m s p h =
-    meet-cases (Measured m) s p (λ _. h)
+    meet_cases (Measured m) s p (λ _. h)
     (λ low off.
     record {
       long = length-set s.marks p.0 true ∙ h.long;
-      left = omega (arith, unmarked-set s.marks p.0 (omega arith) off);
+      left = omega (arith, unmarked_set s.marks p.0 (omega arith) off);
     })
 
 pub measured_meet_all : (m : ℕ) (s : Search) (ps : List Place) → Measured m s → Measured m (meet_all s ps)
-measured_meet_all m s ps h = meetAll-keeps (Measured m) ps (λ t p _. measured_meet m t p) s h
+measured_meet_all m s ps h = meet_all_keeps (Measured m) ps (λ t p _. measured_meet m t p) s h
 
 -- no place marked, none waiting
 unfoldable pub fresh : Search
@@ -117,10 +117,10 @@ set_marked marks p q h =
 pub marked_meet : (q : Place) (s : Search) (p : Place) → Marked s.marks q → Marked (meet s p).marks q
 unfolding Marked
 marked_meet q s p h =
-    meet-cases (λ t. Marked t.marks q) s p (λ _. h) (λ _ _. marked_set s.marks p.0 q.0 h)
+    meet_cases (λ t. Marked t.marks q) s p (λ _. h) (λ _ _. marked_set s.marks p.0 q.0 h)
 
 pub met_marked : {k : ℕ} (s : Search) (p : Place) → Measured k s → p.0 < 512 → Marked (meet s p).marks p
 unfolding Marked
 met_marked s p h low =
-    meet-cases (λ t. Marked t.marks p) s p (λ old. old low)
+    meet_cases (λ t. Marked t.marks p) s p (λ old. old low)
     (λ _ _. get_or-set_same s.marks p.0 true false (omega arith))

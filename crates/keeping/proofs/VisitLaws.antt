@@ -24,7 +24,7 @@ use Rattle.keeping.specs.Keeping.{permits, permits_marked, keeps_of}
 use Rattle.keeping.specs.Worklist.{unmarked, tops, search_of, OnTop, Visited}
 use Rattle.net.proofs.Laws.{both_i, both_l, both_r, both_both, both_swap, both_end, same_truth, implies_i, implies_e, all_i, all_e}
 use Rattle.net.proofs.AllLaws.{and_both}
-use Rattle.keeping.proofs.Unmarked.{unmarked_at, meet-cases, meetAll-keeps, Measured, measured_meet, measured_meet_all}
+use Rattle.keeping.proofs.Unmarked.{unmarked_at, meet_cases, meet_all_keeps, Measured, measured_meet, measured_meet_all}
 use Rattle.keeping.proofs.Unmarked.{fresh, fresh_measured, Marked, marked_set, set_marked}
 use Rattle.keeping.proofs.NeverMoreWait.{never_more_wait}
 use Rattle.keeping.proofs.WorklistLaws.{tops_length, tops_last, met_before, met_new, left_is}
@@ -68,7 +68,7 @@ module _ (code : List Instruction) (a : Locality) (row : Row) where
   judged_meet : (ok : Bool) (s : Search) (p : Place) → Judged ok s → Judged ok (meet s p)
   unfolding good_all
   judged_meet ok s p j =
-      meet-cases (Judged ok) s p (λ _. j)
+      meet_cases (Judged ok) s p (λ _. j)
       (λ low _. record {
         long = length-set s.marks p.0 true ∙ j.long;
         judged = permits_set s.marks p j.long low ∙ ap (both (good p)) j.judged ∙ both_swap (good p) ok _;
@@ -82,7 +82,7 @@ module _ (code : List Instruction) (a : Locality) (row : Row) where
       → Judged ok (record { marks = marks; waiting = p ∷ ps }) → Judged (both ok (good p)) (visit_first code marks (p ∷ ps))
   unfolding visit_first good_all
   judged_first ok marks p ps j =
-      meetAll-keeps (Judged (both ok (good p))) _ (λ t q _. judged_meet _ t q) _
+      meet_all_keeps (Judged (both ok (good p))) _ (λ t q _. judged_meet _ t q) _
       (record { long = j.long; judged = j.judged ∙ sym (both_both ok (good p) _) })
 
 -- ---- visits

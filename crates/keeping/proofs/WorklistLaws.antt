@@ -19,20 +19,20 @@ use Rattle.keeping.specs.Types.{Place, Action}
 use Rattle.keeping.specs.Reaching.{Search, meet, meet_all, followers}
 use Rattle.keeping.specs.Worklist.{Onward, low_or, onward_to, Leads, unmarked, tops, search_of, OnTop, Visited}
 use Rattle.net.proofs.Laws.{choose_true, choose_false}
-use Rattle.keeping.proofs.Unmarked.{meet-cases, Measured, measured_meet, measured_meet_all, Marked, marked_meet, met_marked}
+use Rattle.keeping.proofs.Unmarked.{meet_cases, Measured, measured_meet, measured_meet_all, Marked, marked_meet, met_marked}
 
 -- ---- meeting a place that is marked, or past the marks, changes nothing
 module _ (s : Search) (p : Place) where
   pub met_before : (p.0 < 512 → Marked s.marks p) → meet s p ≡ s
   unfolding Marked
   met_before m =
-      meet-cases (λ t. t ≡ s) s p (λ _. refl)
+      meet_cases (λ t. t ≡ s) s p (λ _. refl)
       (λ low off. let z : ◌≡◌ {A = ℕ} 0 1 = cc (m low) in absurd (omega arith))
 
   pub met_new : p.0 < 512 → get_or s.marks p.0 false ≡ false
       → meet s p ≡ record { marks = set s.marks p.0 true; waiting = p ∷ s.waiting }
   met_new low off =
-      meet-cases (λ t. t ≡ record { marks = set s.marks p.0 true; waiting = p ∷ s.waiting }) s p
+      meet_cases (λ t. t ≡ record { marks = set s.marks p.0 true; waiting = p ∷ s.waiting }) s p
       (λ old. let z : ◌≡◌ {A = ℕ} 0 1 = cc (old low) in absurd (omega arith)) (λ _ _. refl)
 
 -- ---- what follows an action

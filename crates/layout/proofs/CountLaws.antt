@@ -8,7 +8,7 @@ use Rattle.net.specs.Shape.{Shaped}
 use Rattle.sound.specs.Soundness.{sound_of}
 use Rattle.layout.specs.Types.{Tuple, Node, Instruction, Net}
 use Rattle.layout.specs.Counts.{NodeCounts, Counts}
-use Rattle.net.proofs.Every.{filled-each}
+use Rattle.net.proofs.Every.{filled_each}
 use Rattle.sound.proofs.NodeFacts.{of_zero, NodeOk}
 use Rattle.sound.proofs.NodeChanges.{zero_node_law}
 use Rattle.sound.proofs.CodeFacts.{InstructionOk, instruction_each}
@@ -24,7 +24,7 @@ unfolding tuple_at
 node_few f n k x ok = record {
   stored_few = ok.room;
   fields_few =
-      filled-each {Q = λ (t : Tuple). t.count ≤ 4} ok.tuples_ok (λ t g. g.most)
+      filled_each {Q = λ (t : Tuple). t.count ≤ 4} ok.tuples_ok (λ t g. g.most)
       (of_zero (λ (t : Tuple). t.count ≤ 4) few_none);
 }
 
@@ -44,10 +44,10 @@ counts_of s shape h =
       addresses_few = ok.addresses_most;
       length_few = ok.length_most;
       nodes_few = λ a.
-          filled-each {Q = NodeCounts} ok.nodes_ok (node_few f n k)
+          filled_each {Q = NodeCounts} ok.nodes_ok (node_few f n k)
           (of_zero NodeCounts (node_few f n k _ (zero_node_law f n k))) a.0;
       code_few = λ p.
-          filled-each {Q = λ (c : Instruction). c.count ≤ 4} ok.code_ok (instruction_few f n k)
+          filled_each {Q = λ (c : Instruction). c.count ≤ 4} ok.code_ok (instruction_few f n k)
           (of_zero (λ (c : Instruction). c.count ≤ 4) (instruction_few f n k _ (zero_instruction_law f n k))) p.0;
     }
 

@@ -41,10 +41,10 @@ module _ (xs : List Bool) (at : ℕ) where
   wrote_as width x y ys r e w = rw (← e) w
 
   -- a number, then that many parts or one more
-  pub counted-then :
+  pub counted_then :
       (width x y n m : ℕ) (f : ℕ → List Bool) (ys zs : List Bool) (r q : ℕ) → x ≡ y → n ≡ m
       → Wrote xs at (bits_of width x) ys r → Wrote ys r (joined n f) zs q → Wrote xs at (bits_of width y ++ joined m f) zs q
-  counted-then width x y n m f ys zs r q e d w v =
+  counted_then width x y n m f ys zs r q e d w v =
       wrote_then xs at _ _ _ _ _ _ (wrote_as width x y ys r e w) (subst (λ (j : ℕ). Wrote ys r (joined j f) zs q) d v)
 
 -- ---- a reading

@@ -17,8 +17,8 @@ module _ (xs : List Bool) (at f n : ℕ) (x : Node) (ys : List Bool) (r : ℕ) w
   unfolding node_rows_bits
   wrote_single e w = subst (λ (t : List Bool). Wrote xs at t ys r) (sym (choose_true (eqb f 1) _ _ (eq-eqb f 1 e))) w
 
-  pub wrote-origins :
+  pub wrote_origins :
       (f ≡ 1 → ⊥) → Wrote xs at (joined n (λ o. row_bits n (row_at x (address_of o)))) ys r
       → Wrote xs at (node_rows_bits f n x) ys r
   unfolding node_rows_bits
-  wrote-origins e w = subst (λ (t : List Bool). Wrote xs at t ys r) (sym (choose_false (eqb f 1) _ _ (ne_eqb f 1 e))) w
+  wrote_origins e w = subst (λ (t : List Bool). Wrote xs at t ys r) (sym (choose_false (eqb f 1) _ _ (ne_eqb f 1 e))) w

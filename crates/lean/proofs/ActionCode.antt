@@ -16,8 +16,8 @@ use Rattle.lean_words.specs.Rights.{grants_flags}
 use Rattle.lean_code.specs.Fields.{word_from, defined_words, wants_words, bound_words}
 use Rattle.lean.specs.Words.{slot_at, with_slot, with_word}
 use Rattle.lean.specs.Actions.{Moved, Given, acted_with, moved_with, put_with, met_with, given_with, aim_at, aim_of, target_in}
-use Rattle.lean.specs.Actions.{put_of, tuple_from, out_put, outTo, out_at, out_of, met_at, meet_of, fewer, removed_of, take_met, takeAt, take_of, read_met, readAt, read_of}
-use Rattle.lean.specs.Actions.{room_in, given_by, given_at, put_below, out_all_put, outToAll, outAllOf}
+use Rattle.lean.specs.Actions.{put_of, tuple_from, out_put, out_to, out_at, out_of, met_at, meet_of, fewer, removed_of, take_met, take_place_at, take_of, read_met, read_at, read_of}
+use Rattle.lean.specs.Actions.{room_in, given_by, given_at, put_below, out_all_put, out_to_all, out_all_of}
 
 -- ---- the target
 module _
@@ -63,19 +63,19 @@ module _
     (t : List ℕ) (made : t ≡ put_words (wants_words (get_or (get_or slots (a % 16) []) (k % 4) []) a f (get_or h 5 0)) a)
     (b : Bool) (stored' : List ℕ) (tuples' : List (List (List ℕ))) (put : put_with b stored' tuples' ≡ put_of stored tuples l t)
   where
-    out_put_law : outTo l slots stored tuples h f a k ≡ out_put slots h a k (put_with b stored' tuples')
-    unfolding outTo tuple_from slot_at
+    out_put_law : out_to l slots stored tuples h f a k ≡ out_put slots h a k (put_with b stored' tuples')
+    unfolding out_to tuple_from slot_at
     out_put_law =
         ap (λ (y : List ℕ). out_put slots h a k (put_of stored tuples l y)) (sym made) ∙ ap (out_put slots h a k) (sym put)
 
-    pub out-done :
+    pub out_done :
         (slots' : List (List (List ℕ))) → b ≡ true → slots' ≡ with_word slots a k 8 (get_or h 3 0)
-        → moved_with 0 slots' stored' tuples' ≡ outTo l slots stored tuples h f a k
+        → moved_with 0 slots' stored' tuples' ≡ out_to l slots stored tuples h f a k
     unfolding out_put
-    out-done slots' e moved =
+    out_done slots' e moved =
         ap (λ (v : List (List (List ℕ))). moved_with 0 v stored' tuples') moved ∙ sym (out_put_law ∙ choose_true _ _ _ e)
 
-    pub out_full : b ≡ false → moved_with 3 slots stored' tuples' ≡ outTo l slots stored tuples h f a k
+    pub out_full : b ≡ false → moved_with 3 slots stored' tuples' ≡ out_to l slots stored tuples h f a k
     unfolding out_put
     out_full e = sym (out_put_law ∙ choose_false _ _ _ e)
 
@@ -106,19 +106,19 @@ module _
 
 -- ---- a tuple taken
 module _ (stored : List ℕ) (tuples : List (List (List ℕ))) (l i : ℕ) (ts : List (List ℕ)) (closed : ts ≡ closed_up (get_or tuples (l % 16) []) i) where
-  pub remove-one :
+  pub remove_one :
       0 < get_or stored (l % 16) 0
       → given_with (set stored (l % 16) (get_or stored (l % 16) 0 - 1)) (set tuples (l % 16) ts) ≡ removed_of stored tuples l i
   unfolding removed_of fewer
-  remove-one g =
+  remove_one g =
       ap (λ (v : List (List ℕ)). given_with (set stored (l % 16) (get_or stored (l % 16) 0 - 1)) (set tuples (l % 16) v)) closed
       ∙ ap (λ (v : List ℕ). given_with v (set tuples (l % 16) (closed_up (get_or tuples (l % 16) []) i)))
       (sym (choose_true _ _ _ (lt-ltb 0 (get_or stored (l % 16) 0) g)))
 
-  pub remove-none :
+  pub remove_none :
       get_or stored (l % 16) 0 ≤ 0 → given_with stored (set tuples (l % 16) ts) ≡ removed_of stored tuples l i
   unfolding removed_of fewer
-  remove-none g =
+  remove_none g =
       ap (λ (v : List (List ℕ)). given_with stored (set tuples (l % 16) v)) closed
       ∙ ap (λ (v : List ℕ). given_with v (set tuples (l % 16) (closed_up (get_or tuples (l % 16) []) i)))
       (sym (choose_false _ _ _ (le-ltb 0 (get_or stored (l % 16) 0) g)))
@@ -147,31 +147,31 @@ module _
       unfolding out_at
       out_refused u = sym (at_target_law ∙ choose_true _ _ _ (le-leb 16 l u))
 
-      pub out_reached : (m : Moved) → l < 16 → m ≡ outTo l slots stored tuples h f a k → m ≡ out_of slots stored tuples rows h f a k
+      pub out_reached : (m : Moved) → l < 16 → m ≡ out_to l slots stored tuples h f a k → m ≡ out_of slots stored tuples rows h f a k
       unfolding out_at
       out_reached m u e = e ∙ sym (at_target_law ∙ choose_false _ _ _ (lt-leb 16 l u))
 
     -- an in
     module _ (aim : l ≡ aim_of (get_or (get_or slots (a % 16) []) (k % 4) []) a h f (get_or rows (a % 16) []) 0) where
       pub take_refused : 16 ≤ l → moved_with (l - 16) slots stored tuples ≡ take_of slots stored tuples rows h f a k
-      unfolding take_of takeAt
+      unfolding take_of take_place_at
       take_refused u =
-          sym (ap (λ (y : ℕ). takeAt y slots stored tuples h f a k) (target_is slots stored tuples rows h f a k l 0 aim)
+          sym (ap (λ (y : ℕ). take_place_at y slots stored tuples h f a k) (target_is slots stored tuples rows h f a k l 0 aim)
           ∙ choose_true _ _ _ (le-leb 16 l u))
 
       module _ (u : l < 16) (i : ℕ) (slots' : List (List (List ℕ))) (met : met_with i slots' ≡ meet_of slots stored tuples h f a k l) where
         take_met_law : take_of slots stored tuples rows h f a k ≡ take_met l stored tuples (met_with i slots')
-        unfolding take_of takeAt
+        unfolding take_of take_place_at
         take_met_law =
-            ap (λ (y : ℕ). takeAt y slots stored tuples h f a k) (target_is slots stored tuples rows h f a k l 0 aim)
+            ap (λ (y : ℕ). take_place_at y slots stored tuples h f a k) (target_is slots stored tuples rows h f a k l 0 aim)
             ∙ choose_false _ _ _ (lt-leb 16 l u)
             ∙ ap (take_met l stored tuples) (sym met)
 
-        pub take-some :
+        pub take_some :
             (stored' : List ℕ) (tuples' : List (List (List ℕ))) → i < 16 → given_with stored' tuples' ≡ removed_of stored tuples l i
             → moved_with 0 slots' stored' tuples' ≡ take_of slots stored tuples rows h f a k
         unfolding take_met
-        take-some stored' tuples' g e =
+        take_some stored' tuples' g e =
             ap (λ (r : Given). moved_with 0 slots' r.stored r.tuples) e ∙ sym (take_met_law ∙ choose_true _ _ _ (lt-ltb i 16 g))
 
         pub take_none : 16 ≤ i → moved_with 2 slots' stored tuples ≡ take_of slots stored tuples rows h f a k
@@ -181,16 +181,16 @@ module _
     -- a read
     module _ (aim : l ≡ aim_of (get_or (get_or slots (a % 16) []) (k % 4) []) a h f (get_or rows (a % 16) []) 1) where
       pub read_refused : 16 ≤ l → acted_with (l - 16) slots ≡ read_of slots stored tuples rows h f a k
-      unfolding read_of readAt
+      unfolding read_of read_at
       read_refused u =
-          sym (ap (λ (y : ℕ). readAt y slots stored tuples h f a k) (target_is slots stored tuples rows h f a k l 1 aim)
+          sym (ap (λ (y : ℕ). read_at y slots stored tuples h f a k) (target_is slots stored tuples rows h f a k l 1 aim)
           ∙ choose_true _ _ _ (le-leb 16 l u))
 
       module _ (u : l < 16) (i : ℕ) (slots' : List (List (List ℕ))) (met : met_with i slots' ≡ meet_of slots stored tuples h f a k l) where
         read_met_law : read_of slots stored tuples rows h f a k ≡ read_met (met_with i slots')
-        unfolding read_of readAt
+        unfolding read_of read_at
         read_met_law =
-            ap (λ (y : ℕ). readAt y slots stored tuples h f a k) (target_is slots stored tuples rows h f a k l 1 aim)
+            ap (λ (y : ℕ). read_at y slots stored tuples h f a k) (target_is slots stored tuples rows h f a k l 1 aim)
             ∙ choose_false _ _ _ (lt-leb 16 l u)
             ∙ ap read_met (sym met)
 
@@ -209,12 +209,12 @@ or_implies true b = refl
 or_implies false b = refl
 
 module _ (stored : List ℕ) (tuples : List (List (List ℕ))) where
-  pub put-member :
+  pub put_member :
       (member : Bool) (l : ℕ) (t : List ℕ) (b : Bool) (stored' : List ℕ) (tuples' : List (List (List ℕ)))
       → member ≡ true → put_with b stored' tuples' ≡ put_of stored tuples l t
       → given_with stored' tuples' ≡ given_at member l t (given_with stored tuples)
   unfolding given_at given_by
-  put-member member l t b stored' tuples' e put = ap given_by put ∙ sym (choose_true _ _ _ e)
+  put_member member l t b stored' tuples' e put = ap given_by put ∙ sym (choose_true _ _ _ e)
 
   pub put_other : (member : Bool) (l : ℕ) (t : List ℕ) → member ≡ false → given_with stored tuples ≡ given_at member l t (given_with stored tuples)
   unfolding given_at
@@ -242,26 +242,26 @@ module _
     (a k : ℕ) (b : Bool)
   where
     module _ (room : b ≡ room_in stored g) where
-      pub all_full : b ≡ false → moved_with 3 slots stored tuples ≡ outToAll slots stored tuples g h f a k
-      unfolding outToAll
+      pub all_full : b ≡ false → moved_with 3 slots stored tuples ≡ out_to_all slots stored tuples g h f a k
+      unfolding out_to_all
       all_full q = sym (choose_false _ _ _ (sym room ∙ q))
 
       pub all_done :
           (t : List ℕ) (slots' : List (List (List ℕ))) (stored' : List ℕ) (tuples' : List (List (List ℕ))) → b ≡ true
           → t ≡ put_words (wants_words (get_or (get_or slots (a % 16) []) (k % 4) []) a f (get_or h 5 0)) a
           → given_with stored' tuples' ≡ put_below 16 stored tuples g t → slots' ≡ with_word slots a k 8 (get_or h 3 0)
-          → moved_with 0 slots' stored' tuples' ≡ outToAll slots stored tuples g h f a k
-      unfolding outToAll out_all_put tuple_from slot_at
+          → moved_with 0 slots' stored' tuples' ≡ out_to_all slots stored tuples g h f a k
+      unfolding out_to_all out_all_put tuple_from slot_at
       all_done t slots' stored' tuples' q made given moved =
           ap (λ (v : List (List (List ℕ))). moved_with 0 v stored' tuples') moved
           ∙ ap (out_all_put slots h a k) (given ∙ ap (put_below 16 stored tuples g) made)
           ∙ sym (choose_true _ _ _ (sym room ∙ q))
 
     module _ (known : b ≡ defined_words (get_or (get_or slots (a % 16) []) (k % 4) []) f) where
-      pub all_lacks : b ≡ false → moved_with 6 slots stored tuples ≡ outAllOf slots stored tuples g h f a k
-      unfolding outAllOf slot_at
+      pub all_lacks : b ≡ false → moved_with 6 slots stored tuples ≡ out_all_of slots stored tuples g h f a k
+      unfolding out_all_of slot_at
       all_lacks q = sym (choose_false _ _ _ (sym known ∙ q))
 
-      pub all_defined : (m : Moved) → b ≡ true → m ≡ outToAll slots stored tuples g h f a k → m ≡ outAllOf slots stored tuples g h f a k
-      unfolding outAllOf slot_at
+      pub all_defined : (m : Moved) → b ≡ true → m ≡ out_to_all slots stored tuples g h f a k → m ≡ out_all_of slots stored tuples g h f a k
+      unfolding out_all_of slot_at
       all_defined m q e = e ∙ sym (choose_true _ _ _ (sym known ∙ q))

@@ -28,7 +28,7 @@ use Rattle.lean_code.specs.Fields.{word_from, template_words, defined_words}
 use Rattle.lean_code.specs.Heads.{target_written, target_from, action_words, head_words}
 use Rattle.lean_code.specs.Ranged.{RangedSlot}
 use Rattle.lean_code.proofs.WordLaws.{value_address}
-use Rattle.lean_code.proofs.FieldLaws.{from_code, from_host, from_variable, target-in}
+use Rattle.lean_code.proofs.FieldLaws.{from_code, from_host, from_variable, target_in_law}
 use Rattle.lean_code.proofs.Rewritten.{busy_in_law, variable_in_law}
 use Rattle.lean_code.proofs.TemplateLaws.{Fielded, fielded, defined_in_law}
 use Rattle.lean.specs.Types.{Locality, Process, Row, Target, Action, Instruction, Net, Answer, Picked}
@@ -63,10 +63,10 @@ module _ (start : Net) (w : Words) (a k : ℕ) (ws : List ℕ) (p : Process) (c 
       let e : get_or ws 9 0 % 256 ≡ get_or ws 9 0 = omega arith in
       ap (λ (q : Process). q.origin.0) (sym seat.decoded ∙ busy_in_law ws seat.busy) ∙ e
 
-  pub seat-row :
+  pub seat_row :
       row_for (node_at (net_in start w) (address_of a)) p
       ≡ row_in (get_or (get_or w.rows (a % 16) []) (get_or ws 9 0 % 16) [])
-  seat-row =
+  seat_row =
       let host = seat_host start w a k ws p c seat in
       let o : p.origin.0 < w.count = (seat_running start w a k ws p c seat).origin_ok in
       let same = seat_origin in
@@ -173,7 +173,7 @@ module _
         let near : x % 16 ≡ x = omega arith in
         ap (λ (i : ℕ). grants_flags fs i right) near
         ∙ grants fs x (omega arith)
-        ∙ ap (λ (r : Row). granted r (f (address_of x))) (sym (seat-row start w a k ws p c seat))
+        ∙ ap (λ (r : Row). granted r (f (address_of x))) (sym (seat_row start w a k ws p c seat))
 
     reached :
         (b : Bool) → x < 256 → defined_words ws (template_words c) ≡ true
@@ -217,7 +217,7 @@ module _
     aimed =
         let defined = defined_in_law w.count a ws p (seat_few start w a k ws p c seat) seat.used (seat_ranged start w a k ws p c seat)
         (seat_values start w a k ws p c seat) c (seat_fields start w a k ws p c seat) in
-        let target = target-in w.count a ws p (seat_few start w a k ws p c seat) seat.used (seat_ranged start w a k ws p c seat)
+        let target = target_in_law w.count a ws p (seat_few start w a k ws p c seat) seat.used (seat_ranged start w a k ws p c seat)
         (seat_values start w a k ws p c seat) t sound in
         rw (seat.words_are, at_from, at-written, from_high start w a k ws p c seat t sound, step_is, target, ← defined)
         (by_word _ _ refl refl)

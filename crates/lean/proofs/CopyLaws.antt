@@ -38,7 +38,7 @@ module _ (start : Net) (w : Words) where
     code_is = refl;
   }
 
-  pub decoding-more :
+  pub decoding_more :
       (net : Net) (a : ℕ) (x : Node) → Decoding start w net a → a < 16 → x ≡ node_in w a
       → Decoding start w
       (record {
@@ -49,7 +49,7 @@ module _ (start : Net) (w : Words) where
         code = net.code;
       })
       (a + 1)
-  decoding-more net a x h l e = record {
+  decoding_more net a x h l e = record {
     low = omega arith;
     format_is = h.format_is;
     addresses_are = h.addresses_are;

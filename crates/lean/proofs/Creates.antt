@@ -32,12 +32,12 @@ use Rattle.lean_code.proofs.Rewritten.{variable_anew, place_anew}
 use Rattle.lean_code.proofs.WordLaws.{value_address}
 use Rattle.lean.specs.Types.{Place, Process, Node, Action, Instruction, Net, Picked}
 use Rattle.lean.specs.Words.{Words, Grid, processes_in, rows_in, node_with, node_in, net_in, slot_at, with_slot, with_word}
-use Rattle.lean.specs.Actions.{Created, created_with, open_of, createOf}
+use Rattle.lean.specs.Actions.{Created, created_with, open_of, create_of}
 use Rattle.lean.specs.Rounds.{after_created, create_words}
 use Rattle.lean.specs.Standing.{Seated, Agrees}
 use Rattle.lean.proofs.ActionTypes.{CreateAgrees}
-use Rattle.lean.proofs.Aims.{seat_ranged, seat_origin, seat-row, seat_acts, seat_head, alike}
-use Rattle.lean.proofs.Frame.{process-anew, node_in_law, row_at_law, with-slot}
+use Rattle.lean.proofs.Aims.{seat_ranged, seat_origin, seat_row, seat_acts, seat_head, alike}
+use Rattle.lean.proofs.Frame.{process_anew, node_in_law, row_at_law, with_slot_law}
 use Rattle.lean.proofs.Opened.{others_rows, creator_rows_law, opened_rows_law}
 use Rattle.lean.proofs.Seats.{net_ok, nodes_are, code_below, seat_host, seat_running}
 use Rattle.lean.proofs.Starts.{alone_step}
@@ -76,11 +76,11 @@ module _ (start : Net) (size : length start.nodes ≡ 16) (w w' : Words) (a b : 
       (length-set (set old a x) b y ∙ length-set old a x ∙ sized) each)
 
 -- ---- two words of one slot
-word-word :
+word_word :
     (slots : List (List (List ℕ))) (a k i j x y : ℕ) → Grid 16 4 slots
     → with_word (with_word slots a k i x) a k j y ≡ with_slot slots a k (set (set (slot_at slots a k) i x) j y)
 unfolding with_word with_slot slot_at
-word-word slots a k i j x y g =
+word_word slots a k i j x y g =
     let row = get_or slots (a % 16) [] in
     let us = set (get_or row (k % 4) []) i x in
     let host : a % 16 < 16 = omega arith in
@@ -138,7 +138,7 @@ module _
     slots_are =
         let few = known.0 in
         let near : v % 16 ≡ v = omega arith in
-        word-word w.slots a k (get_or h 4 0 % 16) 8 n (get_or h 3 0) seat.stands.sized.slots_are
+        word_word w.slots a k (get_or h 4 0 % 16) 8 n (get_or h 3 0) seat.stands.sized.slots_are
         ∙ ap (with_slot w.slots a k)
         (rw (
           seat.words_are,
@@ -177,7 +177,7 @@ module _
     row_is =
         let near : a % 16 ≡ a = omega (arith, host) in
         let low : o % 16 ≡ o = omega (arith, origin) in
-        seat-row start w a k ws p c seat ∙ ap₂ (λ (i j : ℕ). row_in (get_or (get_or w.rows i []) j [])) near low
+        seat_row start w a k ws p c seat ∙ ap₂ (λ (i j : ℕ). row_in (get_or (get_or w.rows i []) j [])) near low
 
     own_is : own_row x (address_of a) ≡ row_in (get_or (get_or w.rows a []) a [])
     unfolding own_row
@@ -188,7 +188,7 @@ module _
     w' = record { count = n + 1; slots = with_slot w.slots a k us; stored = w.stored; tuples = w.tuples; rows = rows }
 
     slots_at : with_slot w.slots a k us ≡ set w.slots a (set (get_or w.slots a []) k us)
-    slots_at = with-slot w.slots a k us host seat.slot
+    slots_at = with_slot_law w.slots a k us host seat.slot
 
     others : (i : ℕ) → i ≢ a → i ≢ n → node_in w' i ≡ node_in w i
     unfolding node_in
@@ -202,14 +202,14 @@ module _
     processes_are =
         ap (λ (ss : List (List (List ℕ))). processes_in (get_or ss a [])) slots_at
         ∙ ap processes_in (get_or-set_same w.slots a (set (get_or w.slots a []) k us) [] (omega (arith, host, seat.stands.sized.slots_are.long)))
-        ∙ process-anew (get_or w.slots a []) k us (seat.stands.sized.slots_are.wide a host)
+        ∙ process_anew (get_or w.slots a []) k us (seat.stands.sized.slots_are.wide a host)
         ∙ ap₂ (λ (ps : List Process) (z : Process). set ps k z) (ap (λ (y : Node). y.processes) (sym node_is)) process_is
 
-    creator-is :
+    creator_is :
         node_in w' a
         ≡ with_rows (with_process x k (moved_to (with_variable p v (Value.Address (address_of n))) q)) (creator_rows start.format x p (address_of n))
     unfolding node_in node_with with_rows with_process
-    creator-is = λ d. record {
+    creator_is = λ d. record {
       rows =
           creator_rows_law w.rows a o n host origin room apart seat.stands.sized.rows_are.long grid x p rows_are
           (seat_origin start w a k ws p c seat) row_is own_is start.format d;
@@ -239,18 +239,18 @@ module _
       tuples = ap (λ (y : Node). y.tuples) zero_is d;
     }
 
-    created-is :
+    created_is :
         Agrees start
         (after_created w
         (created_with 0 (n + 1) (with_word (with_word w.slots a k (get_or h 4 0 % 16) n) a k 8 (get_or h 3 0))
         (open_of start.format w.rows a (get_or (slot_at w.slots a k) 9 0) n)))
         (performed (created s (address_of a) k p v q))
     unfolding after_created performed created created_at opened unused number_of net_in
-    created-is =
+    created_is =
         rw (slots_are, seat.words_are)
         (record {
           answer_is = refl;
-          net_is = two_anew start (nodes_are start w seat.stands) w w' a n _ _ apart host room others creator-is opened-is;
+          net_is = two_anew start (nodes_are start w seat.stands) w w' a n _ _ apart host room others creator_is opened-is;
           ranged = record {
             slots_in = slot_ranged w.slots a k us seat.stands.ranged.slots_in words_ranged;
             tuples_in_law = seat.stands.ranged.tuples_in_law;
@@ -258,9 +258,9 @@ module _
         })
 
 pub create_agrees : CreateAgrees
-unfolding CreateAgrees create_words createOf lean_acting at_variable asked carried_out create unchanged choose number_of after_created net_in
+unfolding CreateAgrees create_words create_of lean_acting at_variable asked carried_out create unchanged choose number_of after_created net_in
 create_agrees start w a k ws p c seat v q act =
     rw (alone_step start w a k ws p c seat (Action.New v q) act)
     (alike (λ (x : Created) (r : Picked). Agrees start (after_created w x) r) (ltb w.count 16) _ _ _ _
-    (λ e. created-is start w a k ws p c seat v q act (ltb-true w.count 16 e))
+    (λ e. created_is start w a k ws p c seat v q act (ltb-true w.count 16 e))
     (λ _. record { answer_is = refl; net_is = refl; ranged = seat.stands.ranged }))

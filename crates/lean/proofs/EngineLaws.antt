@@ -27,10 +27,10 @@ use Rattle.lean.specs.Rounds.{Tables, RanWords, tables_with, ran_words}
 use Rattle.lean.specs.Standing.{Stands, Tabled, MadeEach}
 use Rattle.lean.specs.Calls.{room_for, net_after, answers_after}
 use Rattle.lean.proofs.LoadTypes.{Fits, LoadAgrees, HeadsAgree, FieldsAgree, SetsAgree, NeedsAgree}
-use Rattle.lean.proofs.PickLaws.{ActionLaws, ran-agrees}
+use Rattle.lean.proofs.PickLaws.{ActionLaws, ran_agrees}
 
 -- ---- the tables
-pub made-with :
+pub made_with_law :
     (code : List Instruction) (size format : ℕ) (heads : List (List ℕ)) (fields : List (List (List ℕ))) (sets needs : List (List Bool))
     (w₀ : Words) (picks xs₀ : List ℕ) (w : Words) (xs : List ℕ)
     → heads ≡ loaded_heads code size (replicate 512 (replicate 6 0))
@@ -40,7 +40,7 @@ pub made-with :
     → MadeEach (tables_with heads fields sets needs format) w₀ picks xs₀ w xs
     → MadeEach (tables_of code size format) w₀ picks xs₀ w xs
 unfolding tables_of
-made-with code size format heads fields sets needs w₀ picks xs₀ w xs p q r t m = rw (p, q, r, t) at m
+made_with_law code size format heads fields sets needs w₀ picks xs₀ w xs p q r t m = rw (p, q, r, t) at m
 
 -- ---- a list of picks on a sound net
 pub record LoadLaws : Type 0 where
@@ -57,7 +57,7 @@ module _ (loads : LoadLaws) (actions : ActionLaws) (s : Net) (shaped : Shaped s)
     heads_are = loads.heads s shaped sound;
     fields_are = loads.fields s shaped sound;
     sets_are = loads.sets s shaped sound;
-    needs-are = loads.needs s shaped sound;
+    needs_are = loads.needs s shaped sound;
     format_is = refl;
     readings_are = λ q h. fits.readings_fit q (omega (arith, (sound_apart s shaped sound).length_most));
   }
@@ -80,11 +80,11 @@ module _ (loads : LoadLaws) (actions : ActionLaws) (s : Net) (shaped : Shaped s)
   module _ (picks : List ℕ) where
     made_net : net_in s (ran_words (tables_of s.code s.length s.format) (words_of s) picks).words ≡ (lean_ran_from s picks).net
     made_net =
-        (ran-agrees actions s _ tabled (words_of s) stands picks).0 ∙ ap (λ (t : Net). (lean_ran_from t picks).net) loaded_back
+        (ran_agrees actions s _ tabled (words_of s) stands picks).0 ∙ ap (λ (t : Net). (lean_ran_from t picks).net) loaded_back
 
     made_numbers : (ran_words (tables_of s.code s.length s.format) (words_of s) picks).answers ≡ numbers (lean_ran_from s picks)
     made_numbers =
-        (ran-agrees actions s _ tabled (words_of s) stands picks).1 ∙ ap (λ (t : Net). numbers (lean_ran_from t picks)) loaded_back
+        (ran_agrees actions s _ tabled (words_of s) stands picks).1 ∙ ap (λ (t : Net). numbers (lean_ran_from t picks)) loaded_back
 
     -- from words as they were loaded
     module _

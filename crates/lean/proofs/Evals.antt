@@ -9,7 +9,7 @@ use lib.ListN.{get_or, set}
 use borrow.Author.Tests.{lt-ltb, lt-leb, ltb-true}
 use Rattle.net.specs.Choice.{choose, both, implies, all}
 use Rattle.net.specs.Records.{address_of, place_of, node_at, row_for, sent_from, free_slot, instruction_at, with_action, zero_instruction}
-use Rattle.net.proofs.Every.{filled-each}
+use Rattle.net.proofs.Every.{filled_each}
 use Rattle.net.proofs.Laws.{choose_true, choose_false}
 use Rattle.net.proofs.NodeLaws.{row_in_law}
 use Rattle.matching.specs.Matching.{evaluated_of}
@@ -30,13 +30,13 @@ use Rattle.lean_code.specs.Needs.{needs_of}
 use Rattle.lean_code.proofs.Admission.{low_target, low_action, admission}
 use Rattle.lean.specs.Types.{Locality, Place, Process, Target, Action, Instruction, Net, Answer, Picked}
 use Rattle.lean.specs.Words.{Words, net_in}
-use Rattle.lean.specs.Actions.{Acted, copy_of, start_of, evalAt, evalOf}
+use Rattle.lean.specs.Actions.{Acted, copy_of, start_of, eval_at, eval_of}
 use Rattle.lean.specs.Rounds.{after_acted, eval_words}
 use Rattle.lean.specs.Standing.{Stands, Seated, Agrees}
 use Rattle.lean.proofs.ActionTypes.{EvalAgrees}
 use Rattle.lean.proofs.Aims.{seat_few, seat_acts, seat_head, seat_asks, alike, aimed}
 use Rattle.lean.proofs.Frame.{row_at_law}
-use Rattle.lean.proofs.Hosts.{same-acted}
+use Rattle.lean.proofs.Hosts.{same_acted}
 use Rattle.lean.proofs.Seats.{net_ok, nodes_are, code_below, seat_host}
 use Rattle.lean.proofs.Starts.{copy_in, copy_ranged, started}
 
@@ -63,7 +63,7 @@ module _ (start : Net) (w : Words) (stands : Stands start w) where
   unfolding net_in instruction_at zero_instruction low_action
   code_low q h =
       let ok = net_ok start w stands in
-      filled-each ok.code_ok (λ c d. action_low start.format w.count start.length c.action c ok.addresses_most d)
+      filled_each ok.code_ok (λ c d. action_low start.format w.count start.length c.action c ok.addresses_most d)
       (λ c e. ap (λ (d : Instruction). low_action d.action) e) q h
 
 -- an instruction without a template has nothing undefined
@@ -87,7 +87,7 @@ module _
 
     -- what the eval comes to at the address, or with the answer, that a number stands for
     Comes : ℕ → Picked → Type 0
-    Comes l r = Agrees start (after_acted w (evalAt l w.slots w.rows (needs_of start.code sent) h a k)) r
+    Comes l r = Agrees start (after_acted w (eval_at l w.slots w.rows (needs_of start.code sent) h a k)) r
 
     -- ---- at an address
     module _ (l : ℕ) (used : l < w.count) where
@@ -119,14 +119,14 @@ module _
           ∙ copy_in start w a k ws p c seat sent.0 a (omega (arith, known.1, code_below start w seat.stands)) (omega arith))
 
       reached : Comes l (carried_out s (address_of a) k p (evaluated_of (address_of a) p c) (Request.Eval (address_of l) sent q))
-      unfolding Comes evalAt carried_out eval number_of
+      unfolding Comes eval_at carried_out eval number_of
       reached =
           let host = seat_host start w a k ws p c seat in
           let near : l % 16 ≡ l = omega (arith, low) in
           let here : a % 16 ≡ a = omega arith in
           rw (choose_false _ _ _ (lt-leb 16 l low), near, here, judged)
           (alike (λ (x : Acted) (r : Picked). Agrees start (after_acted w x) r) _ _ _ _ _ (λ _. admitted)
-          (λ _. same-acted start w a k ws p c seat 5 Answer.NotWithin refl))
+          (λ _. same_acted start w a k ws p c seat 5 Answer.NotWithin refl))
 
     -- ---- by the target
     asks :
@@ -138,14 +138,14 @@ module _
         ∙ sym (choose_true _ _ _ (bare_defined (address_of a) p c known.3))
 
     pub eval_comes : Agrees start (eval_words w (needs_of start.code sent) h (template_words c) a k) (lean_process_step s (address_of a) k p c)
-    unfolding eval_words evalOf Comes evalAt choose number_of action_words aimed_words at_variable granted
+    unfolding eval_words eval_of Comes eval_at choose number_of action_words aimed_words at_variable granted
     eval_comes =
         aimed start w a k ws p c seat t (λ l. Request.Eval l sent q) 3
         (seat_head start w a k ws p c seat (Action.Eval t sent q) 2 act)
         (seat_head start w a k ws p c seat (Action.Eval t sent q) 1 act)
         known.0 asks (ap at_variable act) (λ fs l g. grants_send fs l g) Comes
-        (same-acted start w a k ws p c seat 6 Answer.NotSet refl)
-        (same-acted start w a k ws p c seat 4 Answer.NoRight refl)
+        (same_acted start w a k ws p c seat 6 Answer.NotSet refl)
+        (same_acted start w a k ws p c seat 4 Answer.NoRight refl)
         (λ l used _. reached l used)
 
 pub eval_agrees : EvalAgrees

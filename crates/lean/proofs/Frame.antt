@@ -16,7 +16,7 @@ use Rattle.lean_words.specs.Filled.{filled}
 use Rattle.lean_words.specs.Processes.{process_in}
 use Rattle.lean_words.specs.Stores.{tuple_in}
 use Rattle.lean_words.specs.Rights.{row_in}
-use Rattle.lean_words.proofs.FilledLaws.{length_filled, filled_at, filled-set, filled-same}
+use Rattle.lean_words.proofs.FilledLaws.{length_filled, filled_at, filled_set, filled_same}
 use Rattle.lean.specs.Types.{Process, Tuple, Row, Node, Net}
 use Rattle.lean.specs.Words.{Words, Grid, Sized, processes_in, tuples_in, rows_in, node_with, node_in, net_in, slot_at, with_slot}
 
@@ -51,30 +51,30 @@ unfolding rows_in
 row_in_law policy o h = filled_at _ _ past_row 16 o h (omega (arith, length-replicate 16 zero_row))
 
 -- one anew
-pub process-anew :
+pub process_anew :
     (slots : List (List ℕ)) (k : ℕ) (p : List ℕ) → length slots ≡ 4
     → processes_in (set slots k p) ≡ set (processes_in slots) k (process_in p)
 unfolding processes_in
-process-anew slots k p size =
-    filled-set past_process 4 _ _ (length-replicate 4 free_process) _ k _
+process_anew slots k p size =
+    filled_set past_process 4 _ _ (length-replicate 4 free_process) _ k _
     (λ i h n. ap process_in (get_or-set_other slots k i p [] n))
     (λ h. ap process_in (get_or-set_same slots k p [] (omega arith)))
 
-pub tuple-anew :
+pub tuple_anew :
     (store : List (List ℕ)) (j : ℕ) (t : List ℕ) → length store ≡ 16
     → tuples_in (set store j t) ≡ set (tuples_in store) j (tuple_in t)
 unfolding tuples_in
-tuple-anew store j t size =
-    filled-set past_tuple 16 _ _ (length-replicate 16 zero_tuple) _ j _
+tuple_anew store j t size =
+    filled_set past_tuple 16 _ _ (length-replicate 16 zero_tuple) _ j _
     (λ i h n. ap tuple_in (get_or-set_other store j i t [] n))
     (λ h. ap tuple_in (get_or-set_same store j t [] (omega arith)))
 
-pub row-anew :
+pub row_anew :
     (policy : List (List Bool)) (o : ℕ) (flags : List Bool) → length policy ≡ 16
     → rows_in (set policy o flags) ≡ set (rows_in policy) o (row_in flags)
 unfolding rows_in
-row-anew policy o flags size =
-    filled-set past_row 16 _ _ (length-replicate 16 zero_row) _ o _
+row_anew policy o flags size =
+    filled_set past_row 16 _ _ (length-replicate 16 zero_row) _ o _
     (λ i h n. ap row_in (get_or-set_other policy o i flags [] n))
     (λ h. ap row_in (get_or-set_same policy o flags [] (omega arith)))
 
@@ -89,27 +89,27 @@ module _ (start : Net) (size : length start.nodes ≡ 16) where
   node_in_law w a h = filled_at (node_in w) start.nodes past_node 16 a h (omega arith)
 
   -- one node anew
-  pub node-anew :
+  pub node_anew :
       (w w' : Words) (a : ℕ) (x : Node) → w'.count ≡ w.count → ((i : ℕ) → i ≢ a → node_in w' i ≡ node_in w i)
       → node_in w' a ≡ x → net_in start w' ≡ with_node (net_in start w) (address_of a) x
   unfolding net_in with_node
-  node-anew w w' a x count others here =
+  node_anew w w' a x count others here =
       ap₂
       (λ (n : ℕ) (xs : List Node).
       record { format = start.format; addresses = n; length = start.length; nodes = xs; code = start.code })
       count
-      (filled-set past_node 16 (node_in w') start.nodes size (node_in w) a x (λ i h n. others i n) (λ h. here))
+      (filled_set past_node 16 (node_in w') start.nodes size (node_in w) a x (λ i h n. others i n) (λ h. here))
 
   module _ (w : Words) (sized : Sized w) (a : ℕ) (h : a < 16) where
     -- slots
-    pub slots-anew :
+    pub slots_anew :
         (slots : List (List ℕ))
         → net_in start (with_slots w (set w.slots a slots))
         ≡ with_node (net_in start w) (address_of a)
         (record { rows = (node_in w a).rows; processes = processes_in slots; stored = (node_in w a).stored; tuples = (node_in w a).tuples })
     unfolding node_in node_with
-    slots-anew slots =
-        node-anew w _ a _ refl
+    slots_anew slots =
+        node_anew w _ a _ refl
         (λ i n.
         ap (λ (s : List (List ℕ)). node_with s (get_or w.stored i 0) (get_or w.tuples i []) (get_or w.rows i []))
         (get_or-set_other w.slots a i slots [] n))
@@ -122,22 +122,22 @@ module _ (start : Net) (size : length start.nodes ≡ 16) where
         ≡ with_host (net_in start w) (address_of a) k (process_in p)
     unfolding with_host with_process node_in node_with
     slot_anew k p =
-        slots-anew _
+        slots_anew _
         ∙ ap
         (λ (ps : List Process).
         with_node (net_in start w) (address_of a)
         (record { rows = (node_in w a).rows; processes = ps; stored = (node_in w a).stored; tuples = (node_in w a).tuples }))
-        (process-anew (get_or w.slots a []) k p (sized.slots_are.wide a h))
+        (process_anew (get_or w.slots a []) k p (sized.slots_are.wide a h))
         ∙ ap (λ (x : Node). with_node (net_in start w) (address_of a) (with_process x k (process_in p))) (sym (node_in_law w a h))
 
     -- stores
-    pub store-anew :
+    pub store_anew :
         (n : ℕ) (store : List (List ℕ))
         → net_in start (with_stores w (set w.stored a n) (set w.tuples a store))
         ≡ with_node (net_in start w) (address_of a) (with_store (node_at (net_in start w) (address_of a)) n (tuples_in store))
     unfolding node_in node_with
-    store-anew n store =
-        node-anew w _ a _ refl
+    store_anew n store =
+        node_anew w _ a _ refl
         (λ i e.
         ap₂ (λ (m : ℕ) (ts : List (List ℕ)). node_with (get_or w.slots i []) m ts (get_or w.rows i []))
         (get_or-set_other w.stored a i n 0 e)
@@ -148,13 +148,13 @@ module _ (start : Net) (size : length start.nodes ≡ 16) where
         ∙ ap (λ (x : Node). with_store x n (tuples_in store)) (sym (node_in_law w a h)))
 
     -- rows
-    pub rows-anew :
+    pub rows_anew :
         (policy : List (List Bool))
         → net_in start (with_policies w (set w.rows a policy))
         ≡ with_node (net_in start w) (address_of a) (with_rows (node_at (net_in start w) (address_of a)) (rows_in policy))
     unfolding node_in node_with with_rows
-    rows-anew policy =
-        node-anew w _ a _ refl
+    rows_anew policy =
+        node_anew w _ a _ refl
         (λ i e.
         ap (λ (p : List (List Bool)). node_with (get_or w.slots i []) (get_or w.stored i 0) (get_or w.tuples i []) p)
         (get_or-set_other w.rows a i policy [] e))
@@ -191,10 +191,10 @@ unfolding slot_at
 slot_in slots a k h l =
     ap₂ (λ (i j : ℕ). get_or (get_or slots i []) j []) (let e : a % 16 ≡ a = omega arith in e) (let e : k % 4 ≡ k = omega arith in e)
 
-pub with-slot :
+pub with_slot_law :
     (slots : List (List (List ℕ))) (a k : ℕ) (p : List ℕ) → a < 16 → k < 4
     → with_slot slots a k p ≡ set slots a (set (get_or slots a []) k p)
 unfolding with_slot
-with-slot slots a k p h l =
+with_slot_law slots a k p h l =
     ap₂ (λ (i j : ℕ). set slots i (set (get_or slots i []) j p)) (let e : a % 16 ≡ a = omega arith in e)
     (let e : k % 4 ≡ k = omega arith in e)

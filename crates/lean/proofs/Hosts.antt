@@ -17,9 +17,9 @@ use Rattle.lean.specs.Words.{Words, Sized, net_in, slot_at, with_slot}
 use Rattle.lean.specs.Rounds.{after_acted, after_moved}
 use Rattle.lean.specs.Standing.{Seated, Agrees}
 use Rattle.lean.proofs.Aims.{seat_ranged}
-use Rattle.lean.proofs.Frame.{with_slots, with-slot, slot_anew}
+use Rattle.lean.proofs.Frame.{with_slots, with_slot_law, slot_anew}
 use Rattle.lean.proofs.Seats.{nodes_are, code_below, seat_host}
-use Rattle.lean.proofs.SizedKept.{grid-put}
+use Rattle.lean.proofs.SizedKept.{grid_put}
 
 module _ (start : Net) (w : Words) (a k : ℕ) (ws : List ℕ) (p : Process) (c : Instruction) (seat : Seated start w a k ws p c) where
   abbrev pub with_host_words : List ℕ → Words
@@ -28,7 +28,7 @@ module _ (start : Net) (w : Words) (a k : ℕ) (ws : List ℕ) (p : Process) (c 
   pub host_sized : (us : List ℕ) → Sized (with_host_words us)
   unfolding with_slot
   host_sized us = record {
-    slots_are = grid-put w.slots (a % 16) (k % 4) us (omega arith) seat.stands.sized.slots_are;
+    slots_are = grid_put w.slots (a % 16) (k % 4) us (omega arith) seat.stands.sized.slots_are;
     stored_are = seat.stands.sized.stored_are;
     tuples_are = seat.stands.sized.tuples_are;
     rows_are = seat.stands.sized.rows_are;
@@ -38,7 +38,7 @@ module _ (start : Net) (w : Words) (a k : ℕ) (ws : List ℕ) (p : Process) (c 
   pub host_anew : (us : List ℕ) → net_in start (with_host_words us) ≡ with_host (net_in start w) (address_of a) k (process_in us)
   host_anew us =
       let host = seat_host start w a k ws p c seat in
-      ap (λ (slots : List (List (List ℕ))). net_in start (with_slots w slots)) (with-slot w.slots a k us host seat.slot)
+      ap (λ (slots : List (List (List ℕ))). net_in start (with_slots w slots)) (with_slot_law w.slots a k us host seat.slot)
       ∙ slot_anew start (nodes_are start w seat.stands) w seat.stands.sized a host k us
 
   -- moved on
@@ -65,8 +65,8 @@ module _ (start : Net) (w : Words) (a k : ℕ) (ws : List ℕ) (p : Process) (c 
   unfolding after_moved unchanged
   same_moved n x e = record { answer_is = e; net_is = refl; ranged = seat.stands.ranged }
 
-  pub same-acted :
+  pub same_acted :
       (n : ℕ) (x : Answer) → n ≡ number_of x
       → Agrees start (after_acted w (record { answer = n; slots = w.slots })) (unchanged x (net_in start w))
   unfolding after_acted unchanged
-  same-acted n x e = record { answer_is = e; net_is = refl; ranged = seat.stands.ranged }
+  same_acted n x e = record { answer_is = e; net_is = refl; ranged = seat.stands.ranged }

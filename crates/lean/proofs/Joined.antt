@@ -57,7 +57,7 @@ pub held_length : (s : Net) (vs : List Val) → Is (row net.the_type) s vs → s
 held_length s vs held sound = (sound_apart s (net_shaped s vs held) sound).length_most
 
 module _ (s : Net) (picks : List ℕ) (xs₀ : List ℕ) (w : Words) (xs : List ℕ) where
-  pub ran-net :
+  pub ran_net :
       (r : Net) (slots : List (List (List ℕ))) (stored : List ℕ) (tuples : List (List (List ℕ))) (rows : List (List (List Bool)))
       (vs : List Val) → r ≡ net_in s w
       → MadeEach (tables_of s.code s.length s.format) (words_with s.addresses slots stored tuples rows) picks xs₀ w xs
@@ -67,11 +67,11 @@ module _ (s : Net) (picks : List ℕ) (xs₀ : List ℕ) (w : Words) (xs : List 
       → rows ≡ loaded_rows s.nodes (replicate 16 (replicate 16 (replicate 65 false)))
       → Is (row net.the_type) s vs → sound_of s ≡ true
       → r ≡ (lean_ran_from s picks).net
-  ran-net r slots stored tuples rows vs e made p q t u held sound =
+  ran_net r slots stored tuples rows vs e made p q t u held sound =
       e
       ∙ loaded_net load_laws action_laws s (net_shaped s vs held) sound (fits s vs held) picks slots stored tuples rows xs₀ w xs made p q t u
 
-  pub ran-answers :
+  pub ran_answers :
       (slots : List (List (List ℕ))) (stored : List ℕ) (tuples : List (List (List ℕ))) (rows : List (List (List Bool)))
       (vs : List Val)
       → MadeEach (tables_of s.code s.length s.format) (words_with s.addresses slots stored tuples rows) picks xs₀ w xs
@@ -81,5 +81,5 @@ module _ (s : Net) (picks : List ℕ) (xs₀ : List ℕ) (w : Words) (xs : List 
       → rows ≡ loaded_rows s.nodes (replicate 16 (replicate 16 (replicate 65 false)))
       → Is (row net.the_type) s vs → sound_of s ≡ true
       → xs ≡ over xs₀ 0 (numbers (lean_ran_from s picks))
-  ran-answers slots stored tuples rows vs made p q t u held sound =
+  ran_answers slots stored tuples rows vs made p q t u held sound =
       loaded_answers load_laws action_laws s (net_shaped s vs held) sound (fits s vs held) picks slots stored tuples rows xs₀ w xs made p q t u

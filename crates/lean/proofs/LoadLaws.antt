@@ -7,7 +7,7 @@ use mathlib.Core.List.{List, []}
 use lib.ListN.{length, get_or, replicate}
 use Rattle.net.specs.Records.{address_of, node_at}
 use Rattle.net.specs.Shape.{Shaped}
-use Rattle.net.proofs.Every.{filled-each}
+use Rattle.net.proofs.Every.{filled_each}
 use Rattle.net.proofs.Past.{past_node}
 use Rattle.sound.specs.Soundness.{sound_of}
 use Rattle.sound.proofs.NodeFacts.{of_zero, NodeOk}
@@ -31,7 +31,7 @@ module _ (s : Net) (shape : Shaped s) (sound : sound_of s ≡ true) (fits : Fits
 
   node_ok : (a : ℕ) → a < 16 → NodeOk s.format s.addresses s.length (at a)
   unfolding node_at
-  node_ok = filled-each ok.nodes_ok (λ x h. h) (of_zero (NodeOk s.format s.addresses s.length) (zero_node_law _ _ _))
+  node_ok = filled_each ok.nodes_ok (λ x h. h) (of_zero (NodeOk s.format s.addresses s.length) (zero_node_law _ _ _))
 
   slots_at : (a : ℕ) → a < 16 → get_or (words_of s).slots a [] ≡ slots_of (at a)
   unfolding words_of loaded_slots node_of node_at
@@ -54,7 +54,7 @@ module _ (s : Net) (shape : Shaped s) (sound : sound_of s ≡ true) (fits : Fits
   node_is a h =
       (λ d. node_with (slots_at a h d) (counts_at a h d) (tuples_at a h d) (rows_at a h d))
       ∙ node_back s.format s.addresses s.length ok.addresses_most ok.length_most (at a) (node_ok a h)
-      (λ k v l. fits.values-fit a k v h l) (λ j i l. fits.items-fit a j i h l)
+      (λ k v l. fits.values_fit a k v h l) (λ j i l. fits.items_fit a j i h l)
 
   net_is : net_in s (words_of s) ≡ s
   unfolding net_in node_at words_of
@@ -91,13 +91,13 @@ module _ (s : Net) (shape : Shaped s) (sound : sound_of s ≡ true) (fits : Fits
       each = λ a k h l.
           subst (λ (xs : List (List ℕ)). RangedSlot (get_or xs k [])) (sym (slots_at a h))
           (slots_ranged s.format s.addresses s.length ok.addresses_most ok.length_most (at a) (node_ok a h)
-          (λ k v l. fits.values-fit a k v h l) (λ j i l. fits.items-fit a j i h l) k l);
+          (λ k v l. fits.values_fit a k v h l) (λ j i l. fits.items_fit a j i h l) k l);
     };
     tuples_in_law = record {
       each = λ a j h l.
           subst (λ (xs : List (List ℕ)). RangedTuple (get_or xs j [])) (sym (tuples_at a h))
           (store_ranged s.format s.addresses s.length ok.addresses_most ok.length_most (at a) (node_ok a h)
-          (λ k v l. fits.values-fit a k v h l) (λ j i l. fits.items-fit a j i h l) j l);
+          (λ k v l. fits.values_fit a k v h l) (λ j i l. fits.items_fit a j i h l) j l);
     };
   }
 

@@ -22,10 +22,10 @@ use Rattle.lean.specs.Loading.{words_of, loaded_heads, loaded_fields, loaded_set
 
 -- the readings of a net are of 32 bits, and its addresses of 8, as a program's are: their words are in range
 pub record Fits (s : Net) : Type 0 where
-  pub values-fit :
+  pub values_fit :
       (a k v : ℕ) → a < 16 → k < 4 → v < 8
       → value_word (variable_at (process_at (node_at s (address_of a)) k) v) < 4294967553
-  pub items-fit :
+  pub items_fit :
       (l j i : ℕ) → l < 16 → j < 16 → i < 4
       → item_word (field_at (tuple_at (node_at s (address_of l)) j) i) < 4294967553
   pub readings_fit : (q : ℕ) → q < 512 → RangedTemplate (instruction_at s.code (place_of q))

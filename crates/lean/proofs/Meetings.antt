@@ -19,7 +19,7 @@ use Rattle.step.specs.Pick.{with_host}
 use Rattle.lean_words.specs.Stores.{tuple_in, oldest_in}
 use Rattle.lean_code.specs.Fields.{template_words, defined_words, wants_words, bound_words}
 use Rattle.lean_code.specs.Ranged.{RangedSlot}
-use Rattle.lean_code.proofs.BoundLaws.{bound-in, bound_ranged}
+use Rattle.lean_code.proofs.BoundLaws.{bound_in, bound_ranged}
 use Rattle.lean_code.proofs.StoredLaws.{oldest_in_law, oldest_stored}
 use Rattle.lean.specs.Types.{Place, Process, Tuple, Node, Instruction, Net}
 use Rattle.lean.specs.Words.{Words, net_in, with_slot}
@@ -91,13 +91,13 @@ module _
     abbrev pub bound_to : ℕ → List ℕ
     bound_to j = bound_words ws (template_words c) (get_or store j []) q.0
 
-    pub bound-host :
+    pub bound_host :
         (j : ℕ) → j < 16
         → net_in start (with_host_words start w a k ws p c seat (bound_to j)) ≡ with_host s (address_of a) k (moved_to (bound_of p (tuple_at x j) e) q)
-    bound-host j h =
+    bound_host j h =
         host_anew start w a k ws p c seat (bound_to j)
         ∙ ap (with_host s (address_of a) k)
-        (bound-in w.count a p c (seat_fields start w a k ws p c seat) (get_or store j [])
+        (bound_in w.count a p c (seat_fields start w a k ws p c seat) (get_or store j [])
         (seat.stands.ranged.tuples_in_law.each l j low h) ws (seat_ranged start w a k ws p c seat) seat.busy seat.decoded q.0
         (omega (arith, code_below start w seat.stands))
         ∙ ap (λ (t : Tuple). moved_to (bound_of p t e) q) (sym (each j h)))

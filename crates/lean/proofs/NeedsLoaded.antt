@@ -63,13 +63,13 @@ module _ (code : List Instruction) (before : List (List Bool)) where
       get_or-set_same (loaded_needs code n before) n _ [] (omega (arith, length_needs n))
       ∙ rw (sent_is n t sent next e, lt-ltb sent.0 512 low)
 
-  pub needs-at :
+  pub needs_at_law :
       (q n : ℕ) (t : Target) (sent next : Place) → q < n → n ≤ length before → sent.0 < 512
       → (instruction_at code (place_of q)).action ≡ Action.Eval t sent next
       → get_or (loaded_needs code n before) q [] ≡ needs_of code sent
   unfolding loaded_needs fold
-  needs-at q zero t sent next h l low e = absurd (omega arith)
-  needs-at q (suc n) t sent next h l low e = go (λ u. needs-at q n t sent next u (omega arith) low e) (split q n h)
+  needs_at_law q zero t sent next h l low e = absurd (omega arith)
+  needs_at_law q (suc n) t sent next h l low e = go (λ u. needs_at_law q n t sent next u (omega arith) low e) (split q n h)
     where
       go :
           (q < n → get_or (loaded_needs code n before) q [] ≡ needs_of code sent) → (q < n) ⊎ (q ≡ n)
@@ -85,5 +85,5 @@ needs_agree s shape sound q t sent next h e =
     let acts : Acts s.format s.addresses s.length (Action.Eval t sent next) (instruction_at s.code (place_of q)) =
     subst (λ (x : Action). Acts s.format s.addresses s.length x (instruction_at s.code (place_of q))) e
     (instruction_at_law s ok (place_of q) h) in
-    needs-at s.code (replicate 512 (replicate 69 false)) q s.length t sent next h
+    needs_at_law s.code (replicate 512 (replicate 69 false)) q s.length t sent next h
     (omega (arith, ok.length_most, length-replicate 512 (replicate 69 false))) (omega (arith, acts.1, ok.length_most)) e

@@ -75,9 +75,9 @@ variable_low :
     (x : Variable) (vs : List Val) → Is (field variable.the_type).row ((variable.the_type).to x) vs → value_word x.value < 4294967553
 variable_low x vs h = value_low x.value _ h.1.1.0
 
-template-low :
+template_low :
     (f : TemplateField) (vs : List Val) → Is (field templateField.the_type).row ((templateField.the_type).to f) vs → Low f.pattern
-template-low f vs h = pattern_low f.pattern _ h.1.1.0
+template_low f vs h = pattern_low f.pattern _ h.1.1.0
 
 -- ---- and those that hold them
 record LowTuple (t : Tuple) : Type 0 where
@@ -110,12 +110,12 @@ node_low x vs h = record {
   tuples = element tuple.the_type LowTuple tuple_low x.tuples 16 _ h.1.1.1.1.1.0 _;
 }
 
-instruction-low :
+instruction_low :
     (c : Instruction) (vs : List Val) → Is (field instruction.the_type).row ((instruction.the_type).to c) vs → RangedTemplate c
 unfolding Low pattern_at
-instruction-low c vs h = record {
+instruction_low c vs h = record {
   readings = λ i z l.
-      element templateField.the_type (λ f. Low f.pattern) template-low c.template 4 _ h.1.1.1.1.0 _ i l z;
+      element templateField.the_type (λ f. Low f.pattern) template_low c.template 4 _ h.1.1.1.1.0 _ i l z;
 }
 
 pub net_fits_law : NetFits
@@ -124,7 +124,7 @@ net_fits_law s vs h =
     let nodes-known = h.1.1.1.1.1.0 in
     let code-known = h.1.1.1.1.1.1.0 in
     record {
-      values-fit = λ a k v l m n. ((element node.the_type LowNode node_low s.nodes 16 _ nodes-known _ a l).processes k m).values v n;
-      items-fit = λ a j i l m n. ((element node.the_type LowNode node_low s.nodes 16 _ nodes-known _ a l).tuples j m).items i n;
-      readings_fit = λ q l. element instruction.the_type RangedTemplate instruction-low s.code 512 _ code-known _ q l;
+      values_fit = λ a k v l m n. ((element node.the_type LowNode node_low s.nodes 16 _ nodes-known _ a l).processes k m).values v n;
+      items_fit = λ a j i l m n. ((element node.the_type LowNode node_low s.nodes 16 _ nodes-known _ a l).tuples j m).items i n;
+      readings_fit = λ q l. element instruction.the_type RangedTemplate instruction_low s.code 512 _ code-known _ q l;
     }

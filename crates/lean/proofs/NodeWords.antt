@@ -14,7 +14,7 @@ use Rattle.net.specs.Records.{zero_field, zero_tuple, free_process, zero_row}
 use Rattle.net.specs.declared.tuple.Item.{Item}
 use Rattle.net.specs.declared.tuple.Field.{Field}
 use Rattle.net.proofs.Laws.{choose_true, choose_false}
-use Rattle.net.proofs.Every.{filled-each}
+use Rattle.net.proofs.Every.{filled_each}
 use Rattle.net.proofs.Past.{past_field, past_process, past_tuple, past_row}
 use Rattle.sound.specs.Soundness.{item_sound}
 use Rattle.sound.proofs.NodeFacts.{of_zero, TupleOk, ProcessOk, NodeOk}
@@ -22,7 +22,7 @@ use Rattle.lean_words.specs.Items.{item_word, value_word}
 use Rattle.lean_words.specs.Processes.{free_words, busy_words, process_words, process_in}
 use Rattle.lean_words.specs.Stores.{no_tuple, tuple_words, tuple_in}
 use Rattle.lean_words.specs.Rights.{row_flags, row_in}
-use Rattle.lean_words.proofs.BackLaws.{word_above, process-back, tuple-back, length_busy, variable_word, origin_word, length_tuple, item_at}
+use Rattle.lean_words.proofs.BackLaws.{word_above, process_back, tuple_back, length_busy, variable_word, origin_word, length_tuple, item_at}
 use Rattle.lean_words.proofs.FilledLaws.{length_filled, filled_at, filled_whole}
 use Rattle.lean_words.proofs.RowLaws.{length_row, row_back}
 use Rattle.lean_code.specs.Ranged.{RangedSlot, RangedTuple}
@@ -78,7 +78,7 @@ module _ (n : ℕ) (few : n ≤ 16) where
   tuple_plain t ok = record {
     size = ok.fields_ok.size_is;
     mark = omega (arith, ok.mark_ok);
-    items = filled-each ok.fields_ok (λ f e. e) (λ f e. ap (λ (g : Field). item_sound n g.item) e);
+    items = filled_each ok.fields_ok (λ f e. e) (λ f e. ap (λ (g : Field). item_sound n g.item) e);
   }
 
   item_there : (x : Item) → item_sound n x ≡ true → item_word x ≢ 256
@@ -88,7 +88,7 @@ module _ (n : ℕ) (few : n ≤ 16) where
 
   module _ (t : Tuple) (ok : Plain n t) (fit : (i : ℕ) → i < 4 → item_word (field_at t i) < 4294967553) where
     plain_back : tuple_in (tuple_words t) ≡ t
-    plain_back = tuple-back t n (omega arith) ok.size ok.mark ok.items fit
+    plain_back = tuple_back t n (omega arith) ok.size ok.mark ok.items fit
 
     plain_ranged : RangedTuple (tuple_words t)
     plain_ranged = record {
@@ -133,7 +133,7 @@ module _
   where
     plain : (j : ℕ) → j < 16 → Plain n (tuple_at x j)
     unfolding tuple_at
-    plain = filled-each ok.tuples_ok (tuple_plain n few) (of_zero (Plain n) (zero_plain n few))
+    plain = filled_each ok.tuples_ok (tuple_plain n few) (of_zero (Plain n) (zero_plain n few))
 
     slots_back : processes_in (slots_of x) ≡ x.processes
     unfolding processes_in process_at
@@ -141,7 +141,7 @@ module _
         filled_whole past_process 4 (λ i. process_in (get_or (slots_of x) i [])) (replicate 4 free_process) refl x.processes
         ok.processes_ok.size_is
         (λ i h. ap process_in (slot_at x i h)
-        ∙ process-back n k (omega arith) short (process_at x i) (ok.processes_ok.holds i h) (λ v. values i v h))
+        ∙ process_back n k (omega arith) short (process_at x i) (ok.processes_ok.holds i h) (λ v. values i v h))
 
     store_back : tuples_in (store_of x) ≡ x.tuples
     unfolding tuples_in tuple_at

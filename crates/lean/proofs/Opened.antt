@@ -19,7 +19,7 @@ use Rattle.lean_words.proofs.RowLaws.{row_gained}
 use Rattle.lean.specs.Types.{Process, Row, Node}
 use Rattle.lean.specs.Words.{Grid, rows_in}
 use Rattle.lean.specs.Actions.{open_alike, opened_policy, gained_at, open_by_origin, open_of}
-use Rattle.lean.proofs.Frame.{row-anew}
+use Rattle.lean.proofs.Frame.{row_anew}
 
 -- one row for every origin
 rows_alike_law : (fs : List Bool) → rows_in (replicate 16 fs) ≡ alike (row_in fs)
@@ -97,7 +97,7 @@ module _
       creator_by false =
           ap (λ (r : List (List (List Bool))). rows_in (get_or r a [])) origin_is
           ∙ ap rows_in (get_or-set_same (set rows l new_policy) a own_policy [] (omega (arith, length-set rows l new_policy)))
-          ∙ row-anew policy o (more o) grid.long
+          ∙ row_anew policy o (more o) grid.long
           ∙ rw (row_is, rows_are, origin-as, more_in o origin)
 
       opened_by : (b : Bool)
@@ -113,8 +113,8 @@ module _
       opened_by false =
           ap (λ (r : List (List (List Bool))). rows_in (get_or r l [])) origin_is
           ∙ ap rows_in (get_or-set_other (set rows l new_policy) a l own_policy [] (λ e. apart (sym e)) ∙ get_or-set_same rows l new_policy [] (omega arith))
-          ∙ row-anew (set policy a (more a)) l (more a) (length-set policy a (more a) ∙ grid.long)
-          ∙ ap (λ (r : List Row). set r l (row_in (more a))) (row-anew policy a (more a) grid.long)
+          ∙ row_anew (set policy a (more a)) l (more a) (length-set policy a (more a) ∙ grid.long)
+          ∙ ap (λ (r : List Row). set r l (row_in (more a))) (row_anew policy a (more a) grid.long)
           ∙ rw (own_is, rows_are, more_in a host)
 
       pub creator_rows_law : (f : ℕ) → rows_in (get_or (open_of f rows a o l) a []) ≡ creator_rows f x p (address_of l)

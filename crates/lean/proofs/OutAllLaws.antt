@@ -31,7 +31,7 @@ use Rattle.lean_code.proofs.BoundLaws.{fold_pair}
 use Rattle.lean_code.proofs.TemplateLaws.{defined_in_law}
 use Rattle.lean.specs.Types.{Place, Process, Action, Instruction, Net, Answer, Picked}
 use Rattle.lean.specs.Words.{Words, Sized, RangedTuples, net_in, with_word}
-use Rattle.lean.specs.Actions.{Moved, Put, Given, moved_with, given_with, put_of, tuple_from, room_in, given_by, given_at, put_below, out_all_put, outToAll, outAllOf}
+use Rattle.lean.specs.Actions.{Moved, Put, Given, moved_with, given_with, put_of, tuple_from, room_in, given_by, given_at, put_below, out_all_put, out_to_all, out_all_of}
 use Rattle.lean.specs.Rounds.{after_moved, out_all_words}
 use Rattle.lean.specs.Standing.{Seated, Agrees}
 use Rattle.lean.proofs.ActionTypes.{OutAllAgrees}
@@ -39,8 +39,8 @@ use Rattle.lean.proofs.Aims.{seat_few, seat_ranged, seat_values, seat_fields, se
 use Rattle.lean.proofs.Frame.{with_stores, stored_at}
 use Rattle.lean.proofs.Hosts.{with_host_words, host_sized, moved_words, host_moved, moved_ranged, same_moved}
 use Rattle.lean.proofs.Seats.{nodes_are}
-use Rattle.lean.proofs.SizedKept.{grid-put}
-use Rattle.lean.proofs.StoreChanges.{put-anew, put_full, put_ranged, slot_ranged}
+use Rattle.lean.proofs.SizedKept.{grid_put}
+use Rattle.lean.proofs.StoreChanges.{put_anew, put_full, put_ranged, slot_ranged}
 use Rattle.lean.proofs.Tuples.{out_tuple, tuple_is, tuple_ranged, tuple_from_law}
 
 -- the members of a set, as flags
@@ -63,19 +63,19 @@ module _ (start : Net) (size : length start.nodes ≡ 16) (w : Words) (t : List 
     abbrev n : ℕ
     n = get_or r.stored l 0
 
-    room-stored :
+    room_stored :
         n < 16
         → Storing (given_with (set r.stored l (n + 1)) (set r.tuples l (set (get_or r.tuples l []) n t)))
         (added s (address_of l) (tuple_in t))
-    room-stored room = record {
+    room_stored room = record {
       sized = record {
         slots_are = b.sized.slots_are;
         stored_are = length-set r.stored l (n + 1) ∙ b.sized.stored_are;
-        tuples_are = grid-put r.tuples l n t h b.sized.tuples_are;
+        tuples_are = grid_put r.tuples l n t h b.sized.tuples_are;
         rows_are = b.sized.rows_are;
         each_row = b.sized.each_row;
       };
-      net_is = put-anew start size here b.sized l h t room ∙ ap (λ (s' : Net). added s' (address_of l) (tuple_in t)) b.net_is;
+      net_is = put_anew start size here b.sized l h t room ∙ ap (λ (s' : Net). added s' (address_of l) (tuple_in t)) b.net_is;
       tuples_in_law = put_ranged r.tuples l n t h b.tuples_in_law ranged;
     }
 
@@ -92,14 +92,14 @@ module _ (start : Net) (size : length start.nodes ≡ 16) (w : Words) (t : List 
     put_stored =
         let near : l % 16 ≡ l = omega arith in
         rw near
-        (chosen_lt (λ (u : Put). Storing (given_by u) (added s (address_of l) (tuple_in t))) n 16 _ _ room-stored full_stored)
+        (chosen_lt (λ (u : Put). Storing (given_by u) (added s (address_of l) (tuple_in t))) n 16 _ _ room_stored full_stored)
 
   -- at each member
-  all-stored :
+  all_stored :
       (g : Group) (s : Net) → Storing (given_with w.stored w.tuples) s
       → Storing (put_below 16 w.stored w.tuples (member_flags g) t) (added_all s g (tuple_in t))
   unfolding put_below given_at added_all
-  all-stored g s b =
+  all_stored g s b =
       fold_pair Storing _ _ 16 _ s b
       (λ l r s' h u.
       rw (flag_at g l h)
@@ -150,7 +150,7 @@ module _
       unfolding after_moved out_all_put with_word performed number_of alone_words
       done =
           let stored =
-          all-stored start (nodes_are start w seat.stands)
+          all_stored start (nodes_are start w seat.stands)
           (with_host_words start w a k ws p c seat (moved_words start w a k ws p c seat q.0)) tuple
           (tuple_ranged start w a k ws p c seat known.3.each there) g _
           (record {
@@ -196,7 +196,7 @@ module _
         rw (ap at_variable act, seat_asks start w a k ws p c seat x act)
         (ap (λ (b : Bool). carried_out s (address_of a) k p e (choose b (Request.OutAll g q) Request.Lack)) defined)
 
-    by-known :
+    by_known :
         (b : Bool) → defined_words ws (template_words c) ≡ b
         → Agrees start
         (after_moved w
@@ -207,12 +207,12 @@ module _
         (moved_with 6 w.slots w.stored w.tuples)))
         (carried_out s (address_of a) k p e (choose b (Request.OutAll g q) Request.Lack))
     unfolding choose carried_out number_of alone_words
-    by-known true d = rw (tuple_from_law start w a k ws p c seat known.3.each d h (head_is 5)) (reached d)
-    by-known false d = same_moved start w a k ws p c seat 6 Answer.NotSet refl
+    by_known true d = rw (tuple_from_law start w a k ws p c seat known.3.each d h (head_is 5)) (reached d)
+    by_known false d = same_moved start w a k ws p c seat 6 Answer.NotSet refl
 
     agrees : Agrees start (out_all_words w (set_flags c) h (template_words c) a k) (lean_process_step s (address_of a) k p c)
-    unfolding out_all_words outAllOf outToAll
-    agrees = rw (flags_are, seat.words_are, step_is) (by-known _ refl)
+    unfolding out_all_words out_all_of out_to_all
+    agrees = rw (flags_are, seat.words_are, step_is) (by_known _ refl)
 
 pub out_all_agrees : OutAllAgrees
 unfolding OutAllAgrees

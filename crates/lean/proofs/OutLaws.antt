@@ -25,7 +25,7 @@ use Rattle.lean_code.specs.Fields.{template_words, defined_words}
 use Rattle.lean_code.specs.Heads.{aimed_words, action_words, head_words}
 use Rattle.lean.specs.Types.{Place, Process, Target, Action, Instruction, Net, Answer, Picked}
 use Rattle.lean.specs.Words.{Words, net_in, with_word}
-use Rattle.lean.specs.Actions.{Put, put_with, put_of, out_put, outTo, out_at, out_of}
+use Rattle.lean.specs.Actions.{Put, put_with, put_of, out_put, out_to, out_at, out_of}
 use Rattle.lean.specs.Rounds.{after_moved, out_words}
 use Rattle.lean.specs.Standing.{Seated, Agrees}
 use Rattle.lean.proofs.ActionTypes.{OutAgrees}
@@ -33,7 +33,7 @@ use Rattle.lean.proofs.Aims.{seat_few, seat_acts, seat_head, seat_asks, alike, a
 use Rattle.lean.proofs.Frame.{stored_at}
 use Rattle.lean.proofs.Hosts.{with_host_words, host_sized, moved_words, host_moved, moved_ranged, same_moved}
 use Rattle.lean.proofs.Seats.{nodes_are}
-use Rattle.lean.proofs.StoreChanges.{put-anew, slot_ranged, put_ranged}
+use Rattle.lean.proofs.StoreChanges.{put_anew, slot_ranged, put_ranged}
 use Rattle.lean.proofs.Tuples.{out_tuple, tuple_is, tuple_ranged, tuple_from_law}
 
 module _
@@ -82,7 +82,7 @@ module _
           rw (head_is 3) (record {
             answer_is = refl;
             net_is =
-                put-anew start (nodes_are start w seat.stands)
+                put_anew start (nodes_are start w seat.stands)
                 (with_host_words start w a k ws p c seat (moved_words start w a k ws p c seat q.0))
                 (host_sized start w a k ws p c seat _) l low tuple room
                 ∙ ap₂ (λ (s' : Net). added s' (address_of l)) (host_moved start w a k ws p c seat q known.1)
@@ -102,7 +102,7 @@ module _
       reached :
           Agrees start (after_moved w (out_at l w.slots w.stored w.tuples h (template_words c) a k))
           (carried_out s (address_of a) k p e (Request.Out (address_of l) q))
-      unfolding out_at outTo put_of carried_out out aimed_words
+      unfolding out_at out_to put_of carried_out out aimed_words
       reached =
           let near : l % 16 ≡ l = omega (arith, low) in
           rw (choose_false _ _ _ (lt-leb 16 l low), near, tuple_from_law start w a k ws p c seat known.2.each there h (head_is 5))

@@ -18,7 +18,7 @@ use Rattle.plans.specs.Answer.{number_of}
 use Rattle.step.specs.Pick.{host_of, slot_of, spare_of, unchanged}
 use Rattle.step.specs.Ran.{numbers, answered}
 use Rattle.lean_step.specs.LeanStep.{lean_process_step, lean_slot_step, lean_step_of, lean_pick_of, lean_ran_from}
-use Rattle.lean_step.proofs.LeanKept.{lean-sound-kept}
+use Rattle.lean_step.proofs.LeanKept.{lean_sound_kept}
 use Rattle.lean_words.specs.Processes.{process_in, busy_in}
 use Rattle.lean_code.specs.Fields.{template_words}
 use Rattle.lean_code.specs.Heads.{head_words, action_words, aimed_words, alone_words, set_flags}
@@ -87,38 +87,38 @@ module _ (laws : ActionLaws) (start : Net) where
     acted n = act_by n w (head_words c) (template_words c) (set_flags c) need start.format a k
 
     -- what is shown of the action with the number n holds of the one that is chosen
-    as-numbered :
+    as_numbered :
         (n : ℕ) → get_or (head_words c) 0 0 ≡ n → Agrees start (acted n) (lean_process_step (net_in start w) (address_of a) k p c)
         → Agrees start (acted (get_or (head_words c) 0 0)) (lean_process_step (net_in start w) (address_of a) k p c)
-    as-numbered n e h =
+    as_numbered n e h =
         subst (λ (m : ℕ). Agrees start (acted m) (lean_process_step (net_in start w) (address_of a) k p c)) (sym e) h
 
     numbered : (x : Action) → c.action ≡ x → get_or (head_words c) 0 0 ≡ get_or (action_words c.count x) 0 0
     unfolding head_words
     numbered x e = ap (λ (y : Action). get_or (action_words c.count y) 0 0) e
 
-    by-action :
+    by_action :
         (x : Action) → c.action ≡ x
         → ((t : Target) (sent q : Place) → c.action ≡ Action.Eval t sent q → need ≡ needs_of start.code sent)
         → Agrees start (acted (get_or (head_words c) 0 0)) (lean_process_step (net_in start w) (address_of a) k p c)
     unfolding acted act_by choose action_words aimed_words alone_words StopAgrees OutAgrees TakeAgrees ReadAgrees EvalAgrees CreateAgrees ForkAgrees OutAllAgrees
-    by-action Action.Stop e need-is = as-numbered 0 (numbered _ e) (laws.stop start w a k ws p c seat e)
-    by-action (Action.Out t q) e need-is = as-numbered 1 (numbered _ e) (laws.out start w a k ws p c seat t q e)
-    by-action (Action.In t q) e need-is = as-numbered 2 (numbered _ e) (laws.take start w a k ws p c seat t q e)
-    by-action (Action.Read t q) e need-is = as-numbered 3 (numbered _ e) (laws.read start w a k ws p c seat t q e)
-    by-action (Action.Eval t sent q) e need-is =
-        as-numbered 4 (numbered _ e) (rw (need-is t sent q e) (laws.eval start w a k ws p c seat t sent q e))
-    by-action (Action.New v q) e need-is = as-numbered 5 (numbered _ e) (laws.create start w a k ws p c seat v q e)
-    by-action (Action.Fork q r) e need-is = as-numbered 6 (numbered _ e) (laws.fork start w a k ws p c seat q r e)
-    by-action (Action.OutAll g q) e need-is = as-numbered 7 (numbered _ e) (laws.out_all_law start w a k ws p c seat g q e)
+    by_action Action.Stop e need-is = as_numbered 0 (numbered _ e) (laws.stop start w a k ws p c seat e)
+    by_action (Action.Out t q) e need-is = as_numbered 1 (numbered _ e) (laws.out start w a k ws p c seat t q e)
+    by_action (Action.In t q) e need-is = as_numbered 2 (numbered _ e) (laws.take start w a k ws p c seat t q e)
+    by_action (Action.Read t q) e need-is = as_numbered 3 (numbered _ e) (laws.read start w a k ws p c seat t q e)
+    by_action (Action.Eval t sent q) e need-is =
+        as_numbered 4 (numbered _ e) (rw (need-is t sent q e) (laws.eval start w a k ws p c seat t sent q e))
+    by_action (Action.New v q) e need-is = as_numbered 5 (numbered _ e) (laws.create start w a k ws p c seat v q e)
+    by_action (Action.Fork q r) e need-is = as_numbered 6 (numbered _ e) (laws.fork start w a k ws p c seat q r e)
+    by_action (Action.OutAll g q) e need-is = as_numbered 7 (numbered _ e) (laws.out_all_law start w a k ws p c seat g q e)
 
   module _ (tb : Tables) (tabled : Tabled start tb) where
     -- ---- the instruction at the process's place, from the tables
-    act-agrees :
+    act_agrees :
         (w : Words) (a k : ℕ) (ws : List ℕ) (p : Process) (c : Instruction) → Seated start w a k ws p c
         → Agrees start (act_of tb w a k (get_or ws 8 0)) (lean_process_step (net_in start w) (address_of a) k p c)
     unfolding act_of act_with acted
-    act-agrees w a k ws p c seat =
+    act_agrees w a k ws p c seat =
         let q = get_or ws 8 0 in
         let place = seat_place start w a k ws p c seat in
         let below : q < start.length = subst (λ (i : ℕ). i < start.length) place (seat_running start w a k ws p c seat).place in
@@ -133,24 +133,24 @@ module _ (laws : ActionLaws) (start : Net) where
         let g : get_or tb.sets (q % 512) [] ≡ set_flags c =
         ap (λ (i : ℕ). get_or tb.sets i []) low ∙ tabled.sets_are q below ∙ ap set_flags here in
         rw (h, f, g, tabled.format_is)
-        (by-action w a k ws p c seat (get_or tb.needs (q % 512) []) c.action refl
+        (by_action w a k ws p c seat (get_or tb.needs (q % 512) []) c.action refl
         (λ t sent next e.
         ap (λ (i : ℕ). get_or tb.needs i []) low
-        ∙ tabled.needs-are q t sent next below (ap (λ (d : Instruction). d.action) here ∙ e)))
+        ∙ tabled.needs_are q t sent next below (ap (λ (d : Instruction). d.action) here ∙ e)))
 
     -- ---- a pick
-    same-agrees :
+    same_agrees :
         (w : Words) → Stands start w → (n : ℕ) (x : Answer) → n ≡ number_of x
         → Agrees start (record { answer = n; words = w }) (unchanged x (net_in start w))
     unfolding unchanged
-    same-agrees w stands n x e = record { answer_is = e; net_is = refl; ranged = stands.ranged }
+    same_agrees w stands n x e = record { answer_is = e; net_is = refl; ranged = stands.ranged }
 
     -- the process of a slot
-    slot-agrees :
+    slot_agrees :
         (w : Words) → Stands start w → (a k : ℕ) → a < w.count → k < 4
         → Agrees start (step_at tb w a k (get_or (slot_at w.slots a k) 8 0)) (lean_slot_step (net_in start w) (address_of a) k)
     unfolding step_at lean_slot_step number_of free_process busy_in net_in
-    slot-agrees w stands a k used slot =
+    slot_agrees w stands a k used slot =
         let ws = slot_at w.slots a k in
         let host = host_below start w stands a used in
         let here : process_at (node_at (net_in start w) (address_of a)) k ≡ process_in ws =
@@ -159,22 +159,22 @@ module _ (laws : ActionLaws) (start : Net) where
         (by_place (Agrees start) (get_or ws 8 0) _ _ _ _ _
         (λ free. ap (λ (q : Process). q.busy) (free_in ws free))
         (λ busy. ap (λ (q : Process). q.busy) (busy_in_law ws busy))
-        (λ _. same-agrees w stands 7 Answer.FreeSlot refl)
-        (λ busy. act-agrees w a k ws _ _ (seated start tb w a k stands tabled used slot busy)))
+        (λ _. same_agrees w stands 7 Answer.FreeSlot refl)
+        (λ busy. act_agrees w a k ws _ _ (seated start tb w a k stands tabled used slot busy)))
 
     pub step_agrees : (w : Words) → Stands start w → (b : ℕ) → Agrees start (step_words tb w b) (lean_step_of (net_in start w) b)
     unfolding step_words lean_step_of host_of slot_of spare_of number_of net_in
     step_agrees w stands b =
         alike (Agrees start) (eqb (b % 4) 0) _ _ _ _
         (λ _. turned (Agrees start) w.count (b / 16) _ _ _ _
-        (λ _. same-agrees w stands 8 Answer.NotInUse refl)
-        (λ used. slot-agrees w stands (b / 16) (b / 4 % 4) used (omega arith)))
-        (λ _. same-agrees w stands 9 Answer.Malformed refl)
+        (λ _. same_agrees w stands 8 Answer.NotInUse refl)
+        (λ used. slot_agrees w stands (b / 16) (b / 4 % 4) used (omega arith)))
+        (λ _. same_agrees w stands 9 Answer.Malformed refl)
 
     pub step_stands : (w : Words) → Stands start w → (b : ℕ) → Stands start (step_words tb w b).words
     step_stands w stands b =
         let agrees = step_agrees w stands b in
-        let kept = lean-sound-kept (net_in start w) b stands.shaped stands.sound in
+        let kept = lean_sound_kept (net_in start w) b stands.shaped stands.sound in
         record {
           shaped = subst Shaped (sym agrees.net_is) kept.1;
           sound = ap sound_of agrees.net_is ∙ kept.0;
@@ -183,16 +183,16 @@ module _ (laws : ActionLaws) (start : Net) where
         }
 
     -- ---- a list of picks
-    pub ran-agrees :
+    pub ran_agrees :
         (w : Words) → Stands start w → (picks : List ℕ)
         → (net_in start (ran_words tb w picks).words ≡ (lean_ran_from (net_in start w) picks).net)
         × ((ran_words tb w picks).answers ≡ numbers (lean_ran_from (net_in start w) picks))
     unfolding ran_words lean_ran_from numbers answered_words answered
-    ran-agrees w stands [] = (refl, refl)
-    ran-agrees w stands (b ∷ bs) =
+    ran_agrees w stands [] = (refl, refl)
+    ran_agrees w stands (b ∷ bs) =
         let agrees = step_agrees w stands b in
         let picked : lean_pick_of (net_in start w) b ≡ lean_step_of (net_in start w) b = pick_steps (net_in start w) b stands.sound in
-        let rest = ran-agrees (step_words tb w b).words (step_stands w stands b) bs in
+        let rest = ran_agrees (step_words tb w b).words (step_stands w stands b) bs in
         let from : net_in start (step_words tb w b).words ≡ (lean_pick_of (net_in start w) b).net =
         agrees.net_is ∙ ap (λ (r : Picked). r.net) (sym picked) in
         let first : (step_words tb w b).answer % 256 ≡ number_of (lean_pick_of (net_in start w) b).answer =

@@ -7,31 +7,31 @@ use native.Mathlib.Omega.{arith}
 use lib.ListN.{length, get_or, set, replicate, length-set, length-replicate, get_or-replicate}
 use Rattle.net.specs.Choice.{choose, fold}
 use Rattle.net.proofs.Every.{chosen, chosen_lt}
-use Rattle.net.proofs.FoldLaws.{fold-keeps}
+use Rattle.net.proofs.FoldLaws.{fold_keeps}
 use Rattle.lean_step.proofs.Covering.{at_set}
 use Rattle.lean_words.specs.Stores.{closed_up}
 use Rattle.lean_words.specs.Rights.{with_flags, gained_flags}
 use Rattle.lean_words.proofs.FilledLaws.{length_filled}
 use Rattle.lean.specs.Words.{Words, Grid, Sized, slot_at, with_slot, with_word}
-use Rattle.lean.specs.Actions.{Acted, Moved, Created, Put, Met, Given, stop_of, put_of, out_put, outTo, out_at, out_of, met_at, meet_of, fewer, removed_of}
-use Rattle.lean.specs.Actions.{take_met, takeAt, take_of, read_met, readAt, read_of, start_in, start_at, start_of, fork_of, evalAt, evalOf}
-use Rattle.lean.specs.Actions.{open_alike, opened_policy, gained_at, open_by_origin, open_of, createOf, given_by, given_at, put_below, out_all_put, outToAll, outAllOf}
+use Rattle.lean.specs.Actions.{Acted, Moved, Created, Put, Met, Given, stop_of, put_of, out_put, out_to, out_at, out_of, met_at, meet_of, fewer, removed_of}
+use Rattle.lean.specs.Actions.{take_met, take_place_at, take_of, read_met, read_at, read_of, start_in, start_at, start_of, fork_of, eval_at, eval_of}
+use Rattle.lean.specs.Actions.{open_alike, opened_policy, gained_at, open_by_origin, open_of, create_of, given_by, given_at, put_below, out_all_put, out_to_all, out_all_of}
 use Rattle.lean.specs.Rounds.{Tables, Stepped, after_acted, after_moved, after_created, stop_words, out_words, take_words, read_words}
 use Rattle.lean.specs.Rounds.{eval_words, create_words, fork_words, out_all_words, act_by, act_with, act_of, step_at, step_words}
 
 -- ---- one row of a grid anew
-pub grid-set :
+pub grid_set :
     {A : Type 0} {n m : ℕ} (xs : List (List A)) (i : ℕ) (ys : List A) → Grid n m xs → length ys ≡ m → Grid n m (set xs i ys)
-grid-set {A} {n} {m} xs i ys g e = record {
+grid_set {A} {n} {m} xs i ys g e = record {
   long = length-set xs i ys ∙ g.long;
   wide = λ j h. at_set (λ (zs : List A). length zs ≡ m) xs i j ys [] (λ _. e) (g.wide j h);
 }
 
 -- one element of one row
-pub grid-put :
+pub grid_put :
     {A : Type 0} {n m : ℕ} (xs : List (List A)) (i j : ℕ) (y : A) → i < n → Grid n m xs
     → Grid n m (set xs i (set (get_or xs i []) j y))
-grid-put xs i j y h g = grid-set xs i _ g (length-set (get_or xs i []) j y ∙ g.wide i h)
+grid_put xs i j y h g = grid_set xs i _ g (length-set (get_or xs i []) j y ∙ g.wide i h)
 
 low16 : (a : ℕ) → a % 16 < 16
 low16 a = omega arith
@@ -39,7 +39,7 @@ low16 a = omega arith
 module _ (slots : List (List (List ℕ))) (g : Grid 16 4 slots) where
   slot_kept : (a k : ℕ) (p : List ℕ) → Grid 16 4 (with_slot slots a k p)
   unfolding with_slot
-  slot_kept a k p = grid-put slots (a % 16) (k % 4) p (low16 a) g
+  slot_kept a k p = grid_put slots (a % 16) (k % 4) p (low16 a) g
 
   word_kept : (a k i x : ℕ) → Grid 16 4 (with_word slots a k i x)
   unfolding with_word
@@ -47,7 +47,7 @@ module _ (slots : List (List (List ℕ))) (g : Grid 16 4 slots) where
 
   start_kept : (l j : ℕ) (p : List ℕ) → Grid 16 4 (start_in slots l j p)
   unfolding start_in
-  start_kept l j p = grid-put slots (l % 16) j p (low16 l) g
+  start_kept l j p = grid_put slots (l % 16) j p (low16 l) g
 
 -- ---- what an action leaves
 record ActedOk (r : Acted) : Type 0 where
@@ -86,7 +86,7 @@ put_kept stored tuples l t h =
     (λ _. record {
       stores_ok = record {
         stored_ok = length-set stored (l % 16) _ ∙ h.stored_ok;
-        tuples_ok = grid-put tuples (l % 16) _ t (low16 l) h.tuples_ok;
+        tuples_ok = grid_put tuples (l % 16) _ t (low16 l) h.tuples_ok;
       };
     })
     (λ _. record { stores_ok = h })
@@ -124,11 +124,11 @@ module _ (policy : List (List Bool)) (g : Grid 16 65 policy) where
   gained_at_law o l = gained_length (get_or policy (o % 16) []) l ∙ g.wide (o % 16) (low16 o)
 
   gained_grid : (i o l : ℕ) → Grid 16 65 (set policy i (gained_flags (get_or policy (o % 16) []) l))
-  gained_grid i o l = grid-set policy i _ g (gained_at_law o l)
+  gained_grid i o l = grid_set policy i _ g (gained_at_law o l)
 
   opened_grid : (a l : ℕ) → Grid 16 65 (opened_policy policy a l)
   unfolding opened_policy
-  opened_grid a l = grid-set _ (l % 16) _ (gained_grid (a % 16) a l) (gained_at_law a l)
+  opened_grid a l = grid_set _ (l % 16) _ (gained_grid (a % 16) a l) (gained_at_law a l)
 
 module _ (rows : List (List (List Bool))) (h : RowsOk rows) where
   alike_kept : (a o l : ℕ) → RowsOk (open_alike rows a o l)
@@ -170,14 +170,14 @@ module _ (slots : List (List (List ℕ))) (g : Grid 16 4 slots) (a k : ℕ) wher
   unfolding fork_of
   fork_sized h = start_sized h a _
 
-  eval_sized : (rows : List (List (List Bool))) (need : List Bool) (h : List ℕ) (f : List (List ℕ)) → ActedOk (evalOf slots rows need h f a k)
-  unfolding evalOf evalAt
+  eval_sized : (rows : List (List (List Bool))) (need : List Bool) (h : List ℕ) (f : List (List ℕ)) → ActedOk (eval_of slots rows need h f a k)
+  unfolding eval_of eval_at
   eval_sized rows need h f =
       chosen ActedOk _ _ _ (λ _. record { slots_ok = g })
       (λ _. chosen ActedOk _ _ _ (λ _. start_sized h _ a) (λ _. record { slots_ok = g }))
 
-  create_sized : (n : ℕ) (rows : List (List (List Bool))) (format : ℕ) (h : List ℕ) → RowsOk rows → CreatedOk (createOf n slots rows format h a k)
-  unfolding createOf
+  create_sized : (n : ℕ) (rows : List (List (List Bool))) (format : ℕ) (h : List ℕ) → RowsOk rows → CreatedOk (create_of n slots rows format h a k)
+  unfolding create_of
   create_sized n rows format h r =
       chosen CreatedOk _ _ _
       (λ _. record { slots_ok = word_kept _ (word_kept slots g a k _ n) a k 8 _; rows_ok = open_kept format rows r a _ n })
@@ -194,7 +194,7 @@ module _ (slots : List (List (List ℕ))) (g : Grid 16 4 slots) (a k : ℕ) wher
         (λ _. record { slots_ok = g; stores_ok = ok.stores_ok })
 
     out_sized : (rows : List (List (List Bool))) → MovedOk (out_of slots stored tuples rows h f a k)
-    unfolding out_of out_at outTo
+    unfolding out_of out_at out_to
     out_sized rows =
         chosen MovedOk _ _ _ (λ _. same_moved _) (λ _. out_put_sized _ (put_kept stored tuples _ _ s))
 
@@ -210,13 +210,13 @@ module _ (slots : List (List (List ℕ))) (g : Grid 16 4 slots) (a k : ℕ) wher
           slots_ok = ok.slots_ok;
           stores_ok = record {
             stored_ok = fewer_kept stored l s.stored_ok;
-            tuples_ok = grid-set tuples (l % 16) _ s.tuples_ok (length_filled _ _ 16 ∙ s.tuples_ok.wide (l % 16) (low16 l));
+            tuples_ok = grid_set tuples (l % 16) _ s.tuples_ok (length_filled _ _ 16 ∙ s.tuples_ok.wide (l % 16) (low16 l));
           };
         })
         (λ _. record { slots_ok = ok.slots_ok; stores_ok = s })
 
     take_sized : (rows : List (List (List Bool))) → MovedOk (take_of slots stored tuples rows h f a k)
-    unfolding take_of takeAt
+    unfolding take_of take_place_at
     take_sized rows = chosen MovedOk _ _ _ (λ _. same_moved _) (λ _. take_met_sized _ _ (meet_sized _))
 
     read_met_sized : (m : Met) → MetOk m → ActedOk (read_met m)
@@ -224,11 +224,11 @@ module _ (slots : List (List (List ℕ))) (g : Grid 16 4 slots) (a k : ℕ) wher
     read_met_sized m ok = chosen ActedOk _ _ _ (λ _. record { slots_ok = ok.slots_ok }) (λ _. record { slots_ok = ok.slots_ok })
 
     read_sized : (rows : List (List (List Bool))) → ActedOk (read_of slots stored tuples rows h f a k)
-    unfolding read_of readAt
+    unfolding read_of read_at
     read_sized rows = chosen ActedOk _ _ _ (λ _. record { slots_ok = g }) (λ _. read_met_sized _ (meet_sized _))
 
-    out_all_sized : (set : List Bool) → MovedOk (outAllOf slots stored tuples set h f a k)
-    unfolding outAllOf outToAll out_all_put
+    out_all_sized : (set : List Bool) → MovedOk (out_all_of slots stored tuples set h f a k)
+    unfolding out_all_of out_to_all out_all_put
     out_all_sized set =
         chosen MovedOk _ _ _
         (λ _. chosen MovedOk _ _ _

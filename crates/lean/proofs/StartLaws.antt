@@ -10,7 +10,7 @@ use Rattle.net.specs.Choice.{choose}
 use Rattle.lean_words.specs.Processes.{free_words, free_slot_in}
 use Rattle.lean_words.specs.Rights.{admits_words}
 use Rattle.lean.specs.Words.{slot_at, with_slot, with_word}
-use Rattle.lean.specs.Actions.{Acted, acted_with, target_in, stop_of, copy_of, start_in, start_at, start_of, evalAt, evalOf}
+use Rattle.lean.specs.Actions.{Acted, acted_with, target_in, stop_of, copy_of, start_in, start_at, start_of, eval_at, eval_of}
 
 module _ (slots : List (List (List ℕ))) where
   pub stop_is : (a k : ℕ) (ws : List ℕ) → ws ≡ free_words → acted_with 1 (with_slot slots a k ws) ≡ stop_of slots a k
@@ -35,19 +35,19 @@ module _ (slots : List (List (List ℕ))) where
 
   module _ (rows : List (List (List Bool))) (need : List Bool) (h : List ℕ) (f : List (List ℕ)) (a k x : ℕ)
       (is : x ≡ target_in slots rows h f a k 3) where
-    at_target_law : (r : Acted) → r ≡ evalAt x slots rows need h a k → r ≡ evalOf slots rows need h f a k
-    unfolding evalOf
-    at_target_law r e = e ∙ ap (λ (i : ℕ). evalAt i slots rows need h a k) is
+    at_target_law : (r : Acted) → r ≡ eval_at x slots rows need h a k → r ≡ eval_of slots rows need h f a k
+    unfolding eval_of
+    at_target_law r e = e ∙ ap (λ (i : ℕ). eval_at i slots rows need h a k) is
 
-    pub eval_refused : 16 ≤ x → acted_with (x - 16) slots ≡ evalOf slots rows need h f a k
-    unfolding evalAt choose
+    pub eval_refused : 16 ≤ x → acted_with (x - 16) slots ≡ eval_of slots rows need h f a k
+    unfolding eval_at choose
     eval_refused far = at_target_law _ (rw (le-leb 16 x far))
 
     module _ (near : x < 16) (within : Bool) (judged : within ≡ admits_words need (get_or (get_or rows (x % 16) []) (a % 16) []) x) where
-      pub eval_admitted : within ≡ true → (r : Acted) → r ≡ start_of slots h a k x a → r ≡ evalOf slots rows need h f a k
-      unfolding evalAt choose
+      pub eval_admitted : within ≡ true → (r : Acted) → r ≡ start_of slots h a k x a → r ≡ eval_of slots rows need h f a k
+      unfolding eval_at choose
       eval_admitted ok r e = at_target_law r (rw (lt-leb 16 x near, ← judged, ok) e)
 
-      pub eval_barred : within ≡ false → acted_with 5 slots ≡ evalOf slots rows need h f a k
-      unfolding evalAt choose
+      pub eval_barred : within ≡ false → acted_with 5 slots ≡ eval_of slots rows need h f a k
+      unfolding eval_at choose
       eval_barred ko = at_target_law _ (rw (lt-leb 16 x near, ← judged, ko))

@@ -23,7 +23,7 @@ use Rattle.lean_words.specs.Processes.{free_words, busy_in, process_in, free_slo
 use Rattle.lean_words.proofs.BackLaws.{free_back}
 use Rattle.lean_code.specs.Heads.{alone_words, action_words, head_words}
 use Rattle.lean_code.specs.Ranged.{RangedSlot}
-use Rattle.lean_code.proofs.Firsts.{first_same, first-number}
+use Rattle.lean_code.proofs.Firsts.{first_same, first_number}
 use Rattle.lean_code.proofs.Rewritten.{busy_in_law, of_origin, place_anew, origin_anew}
 use Rattle.lean.specs.Types.{Place, Process, Action, Instruction, Net, Answer}
 use Rattle.lean.specs.Words.{Words, net_in, slot_at, with_slot, with_word}
@@ -33,10 +33,10 @@ use Rattle.lean.specs.Standing.{Seated, Agrees}
 use Rattle.lean.proofs.ActionTypes.{StopAgrees, ForkAgrees}
 use Rattle.lean.proofs.Aims.{seat_ranged, seat_origin, seat_acts, seat_head, seat_asks, alike}
 use Rattle.lean.proofs.Frame.{slot_anew, process_at_law}
-use Rattle.lean.proofs.Hosts.{with_host_words, moved_words, host_sized, host_anew, host_moved, moved_ranged, same-acted}
+use Rattle.lean.proofs.Hosts.{with_host_words, moved_words, host_sized, host_anew, host_moved, moved_ranged, same_acted}
 use Rattle.lean.proofs.NodeWords.{free_ranged}
 use Rattle.lean.proofs.Seats.{nodes_are, code_below, free_in, seat_host, seat_busy}
-use Rattle.lean.proofs.StoreChanges.{each-one, slot_ranged}
+use Rattle.lean.proofs.StoreChanges.{each_one, slot_ranged}
 
 -- ---- the words of a slot say whether it is free
 busy_word : (us : List ℕ) → not (process_in us).busy ≡ leb 512 (get_or us 8 0)
@@ -58,7 +58,7 @@ module _ (start : Net) (w : Words) (a k : ℕ) (ws : List ℕ) (p : Process) (c 
   free_is : (l : ℕ) → l < 16 → free_slot (node_at s (address_of l)) ≡ slot_named (free_slot_in (get_or w.slots l []))
   unfolding free_slot free_slot_in slot_named
   free_is l h =
-      first-number 4 _ Slot.Number Slot.Full
+      first_number 4 _ Slot.Number Slot.Full
       ∙ ap slot_named
       (first_same 4 _ _ (λ j. j) 4
       (λ j g.
@@ -107,7 +107,7 @@ module _ (start : Net) (w : Words) (a k : ℕ) (ws : List ℕ) (p : Process) (c 
           ranged = record {
             slots_in = record {
               each =
-                  each-one RangedSlot 16 4 (with_slot w.slots a k moved)
+                  each_one RangedSlot 16 4 (with_slot w.slots a k moved)
                   (slot_ranged w.slots a k moved seat.stands.ranged.slots_in (moved_ranged start w a k ws p c seat q.0)).each l j _ low
                   (subst RangedSlot (sym same) ranged);
             };
@@ -123,7 +123,7 @@ module _ (start : Net) (w : Words) (a k : ℕ) (ws : List ℕ) (p : Process) (c 
         let near : l % 16 ≡ l = omega arith in
         rw (near, free_is l low)
         (alike (λ (x : Acted) (u : Slot). Agrees start (after_acted w x) (started_in s (address_of a) k (address_of l) p copy q u)) _ _ _ _ _
-        (λ _. copied _) (λ _. same-acted start w a k ws p c seat 3 Answer.NoRoom refl))
+        (λ _. copied _) (λ _. same_acted start w a k ws p c seat 3 Answer.NoRoom refl))
 
 -- ---- an action that has no target
 module _ (start : Net) (w : Words) (a k : ℕ) (ws : List ℕ) (p : Process) (c : Instruction) (seat : Seated start w a k ws p c) where

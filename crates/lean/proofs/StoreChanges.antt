@@ -15,11 +15,11 @@ use Rattle.step.specs.Pick.{added, taken}
 use Rattle.lean_step.proofs.Covering.{at_set}
 use Rattle.lean_words.specs.Stores.{no_tuple, tuple_in, moved_up, closed_up}
 use Rattle.lean_words.proofs.FilledLaws.{length_filled}
-use Rattle.lean_words.proofs.TakenLaws.{closed_at, tuples-closed}
+use Rattle.lean_words.proofs.TakenLaws.{closed_at, tuples_closed}
 use Rattle.lean_code.specs.Ranged.{RangedItem, RangedSlot, RangedTuple}
 use Rattle.lean.specs.Types.{Locality, Tuple, Node, Net}
 use Rattle.lean.specs.Words.{Words, Grid, Sized, RangedSlots, RangedTuples, tuples_in, node_with, node_in, net_in, with_slot}
-use Rattle.lean.proofs.Frame.{with_stores, with_store, tuple-anew, node_in_law, store-anew, stored_at, tuple_at_law}
+use Rattle.lean.proofs.Frame.{with_stores, with_store, tuple_anew, node_in_law, store_anew, stored_at, tuple_at_law}
 
 -- ---- in the net
 same_node : (s : Net) (a : Locality) → with_node s a (node_at s a) ≡ s
@@ -49,15 +49,15 @@ module _ (start : Net) (size : length start.nodes ≡ 16) (w : Words) (sized : S
   unfolding node_in node_with
   tuples_are = ap (λ (y : Node). y.tuples) (node_in_law start size w l h)
 
-  pub put-anew :
+  pub put_anew :
       (t : List ℕ) → n < 16
       → net_in start (with_stores w (set w.stored l (n + 1)) (set w.tuples l (set store n t)))
       ≡ added s (address_of l) (tuple_in t)
   unfolding added with_tuple
-  put-anew t room =
-      store-anew start size w sized l h (n + 1) (set store n t)
+  put_anew t room =
+      store_anew start size w sized l h (n + 1) (set store n t)
       ∙ ap (λ (ts : List Tuple). with_node s (address_of l) (with_store x (n + 1) ts))
-      (tuple-anew store n t (sized.tuples_are.wide l h) ∙ ap (λ (ts : List Tuple). set ts n (tuple_in t)) (sym tuples_are))
+      (tuple_anew store n t (sized.tuples_are.wide l h) ∙ ap (λ (ts : List Tuple). set ts n (tuple_in t)) (sym tuples_are))
       ∙ ap (with_node s (address_of l))
       (ap (λ (m : ℕ). with_store x (m + 1) (set x.tuples m (tuple_in t))) (sym stored_is)
       ∙ sym (choose_true _ _ x (lt-ltb x.stored 16 (rw stored_is room))))
@@ -68,20 +68,20 @@ module _ (start : Net) (size : length start.nodes ≡ 16) (w : Words) (sized : S
   put_full t full =
       ap (with_node s (address_of l)) (choose_false _ _ x (le-ltb x.stored 16 (rw stored_is full))) ∙ same_node s (address_of l)
 
-  pub taken-anew :
+  pub taken_anew :
       (i : ℕ) → i < 16
       → net_in start (with_stores w (set w.stored l (n - 1)) (set w.tuples l (closed_up store i)))
       ≡ taken s (address_of l) i
   unfolding taken without_tuple tuples_in
-  taken-anew i g =
-      store-anew start size w sized l h (n - 1) (closed_up store i)
+  taken_anew i g =
+      store_anew start size w sized l h (n - 1) (closed_up store i)
       ∙ ap (with_node s (address_of l))
       (λ d. record {
         rows = x.rows;
         processes = x.processes;
         stored = sym stored_is d - 1;
         tuples =
-            tuples-closed x store (tuple_at_law start size w l h) i g (sized.tuples_are.wide l h)
+            tuples_closed x store (tuple_at_law start size w l h) i g (sized.tuples_are.wide l h)
             (ap length tuples_are ∙ length_filled _ (replicate 16 zero_tuple) 16) d;
       })
 
@@ -92,20 +92,20 @@ module _ (P : List ℕ → Type 0) (n m : ℕ) (xs : List (List (List ℕ))) (ea
       → (i j : ℕ) → i < n → j < m → P (get_or (get_or (set xs a ys) i []) j [])
   each_row a ys f i j h l = at_set (λ (zs : List (List ℕ)). P (get_or zs j [])) xs a i ys [] (λ _. f j l) (each i j h l)
 
-  pub each-one :
+  pub each_one :
       (a k : ℕ) (y : List ℕ) → a < n → P y → (i j : ℕ) → i < n → j < m → P (get_or (get_or (set xs a (set (get_or xs a []) k y)) i []) j [])
-  each-one a k y g p = each_row a _ (λ j l. at_set P (get_or xs a []) k j y [] (λ _. p) (each a j g l))
+  each_one a k y g p = each_row a _ (λ j l. at_set P (get_or xs a []) k j y [] (λ _. p) (each a j g l))
 
 pub slot_ranged :
     (slots : List (List (List ℕ))) (a k : ℕ) (ws : List ℕ) → RangedSlots slots → RangedSlot ws → RangedSlots (with_slot slots a k ws)
 unfolding with_slot
 slot_ranged slots a k ws r p =
-    record { each = each-one RangedSlot 16 4 slots r.each (a % 16) (k % 4) ws (omega arith) p }
+    record { each = each_one RangedSlot 16 4 slots r.each (a % 16) (k % 4) ws (omega arith) p }
 
 pub put_ranged :
     (tuples : List (List (List ℕ))) (l n : ℕ) (t : List ℕ) → l < 16 → RangedTuples tuples → RangedTuple t
     → RangedTuples (set tuples l (set (get_or tuples l []) n t))
-put_ranged tuples l n t h r p = record { each = each-one RangedTuple 16 16 tuples r.each l n t h p }
+put_ranged tuples l n t h r p = record { each = each_one RangedTuple 16 16 tuples r.each l n t h p }
 
 none_ranged : RangedTuple no_tuple
 unfolding no_tuple
@@ -121,11 +121,11 @@ none_ranged = record { size = refl; fields = go }
     go (suc (suc (suc zero))) h = zero_item
     go (suc (suc (suc (suc i)))) h = absurd (omega arith)
 
-pub taken-ranged :
+pub taken_ranged :
     (tuples : List (List (List ℕ))) (l i : ℕ) → l < 16 → Grid 16 16 tuples → RangedTuples tuples
     → RangedTuples (set tuples l (closed_up (get_or tuples l []) i))
 unfolding moved_up
-taken-ranged tuples l i h g r =
+taken_ranged tuples l i h g r =
     let ts = get_or tuples l [] in
     record {
       each = each_row RangedTuple 16 16 tuples r.each l (closed_up ts i) (λ j u.

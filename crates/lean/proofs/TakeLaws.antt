@@ -23,15 +23,15 @@ use Rattle.lean_code.specs.Fields.{template_words, defined_words}
 use Rattle.lean_code.specs.Heads.{aimed_words, action_words, head_words}
 use Rattle.lean.specs.Types.{Place, Process, Target, Action, Instruction, Net, Answer}
 use Rattle.lean.specs.Words.{Words, net_in, with_slot}
-use Rattle.lean.specs.Actions.{Met, met_with, fewer, removed_of, take_met, takeAt, take_of, read_met, readAt, read_of}
+use Rattle.lean.specs.Actions.{Met, met_with, fewer, removed_of, take_met, take_place_at, take_of, read_met, read_at, read_of}
 use Rattle.lean.specs.Rounds.{after_acted, after_moved, take_words, read_words}
 use Rattle.lean.specs.Standing.{Seated, Agrees}
 use Rattle.lean.proofs.ActionTypes.{TakeAgrees, ReadAgrees}
 use Rattle.lean.proofs.Aims.{seat_few, seat_acts, seat_head, seat_asks, aimed}
-use Rattle.lean.proofs.Hosts.{with_host_words, host_sized, same_moved, same-acted}
-use Rattle.lean.proofs.Meetings.{bound_to, bound-host, bound_slot, meeting}
+use Rattle.lean.proofs.Hosts.{with_host_words, host_sized, same_moved, same_acted}
+use Rattle.lean.proofs.Meetings.{bound_to, bound_host, bound_slot, meeting}
 use Rattle.lean.proofs.Seats.{nodes_are}
-use Rattle.lean.proofs.StoreChanges.{taken-anew, slot_ranged, taken-ranged}
+use Rattle.lean.proofs.StoreChanges.{taken_anew, slot_ranged, taken_ranged}
 
 -- ---- at an address
 module _
@@ -59,21 +59,21 @@ module _
     unfolding fewer
     fewer_is g = rw near (choose_true _ _ _ (lt-ltb 0 (get_or w.stored l 0) g))
 
-    take-some :
+    take_some :
         (j : ℕ) → j < 16 → j < get_or w.stored l 0
         → Agrees start (after_moved w (take_met l w.stored w.tuples (met_with j (with_slot w.slots a k (bound j)))))
         (in_found s (address_of a) k (address_of l) q (Found.At j) (bound_of p (tuple_at (node_at s (address_of l)) j) e))
     unfolding take_met removed_of in_found after_moved performed number_of
-    take-some j g m =
+    take_some j g m =
         rw (choose_true _ _ _ (lt-ltb j 16 g), fewer_is (omega arith), near) (record {
           answer_is = refl;
           net_is =
-              taken-anew start (nodes_are start w seat.stands) (with_host_words start w a k ws p c seat (bound j))
+              taken_anew start (nodes_are start w seat.stands) (with_host_words start w a k ws p c seat (bound j))
               (host_sized start w a k ws p c seat (bound j)) l low j g
-              ∙ ap (λ (s' : Net). taken s' (address_of l) j) (bound-host start w a k ws p c seat there q next l used j g);
+              ∙ ap (λ (s' : Net). taken s' (address_of l) j) (bound_host start w a k ws p c seat there q next l used j g);
           ranged = record {
             slots_in = slot_ranged w.slots a k (bound j) seat.stands.ranged.slots_in (bound_slot start w a k ws p c seat there q next l used j g);
-            tuples_in_law = taken-ranged w.tuples l j low seat.stands.sized.tuples_are seat.stands.ranged.tuples_in_law;
+            tuples_in_law = taken_ranged w.tuples l j low seat.stands.sized.tuples_are seat.stands.ranged.tuples_in_law;
           };
         })
 
@@ -84,15 +84,15 @@ module _
     unfolding take_met in_found number_of
     take_none j g = rw (choose_false _ _ _ (le-ltb j 16 g)) (same_moved start w a k ws p c seat 2 Answer.NoTuple refl)
 
-    pub take-reached :
-        Agrees start (after_moved w (takeAt l w.slots w.stored w.tuples h (template_words c) a k))
+    pub take_reached :
+        Agrees start (after_moved w (take_place_at l w.slots w.stored w.tuples h (template_words c) a k))
         (carried_out s (address_of a) k p e (Request.In (address_of l) q))
-    unfolding takeAt carried_out input
-    take-reached =
+    unfolding take_place_at carried_out input
+    take_reached =
         rw (choose_false _ _ _ (lt-leb 16 l low))
         (meeting start w a k ws p c seat there q next l used
         (λ (m : Met) (f : Found) (r : Process). Agrees start (after_moved w (take_met l w.stored w.tuples m)) (in_found s (address_of a) k (address_of l) q f r))
-        take-some take_none h at_next at_count)
+        take_some take_none h at_next at_count)
 
     -- ---- read
     read_some :
@@ -103,7 +103,7 @@ module _
     read_some j g m =
         rw (choose_true _ _ _ (lt-ltb j 16 g)) (record {
           answer_is = refl;
-          net_is = bound-host start w a k ws p c seat there q next l used j g;
+          net_is = bound_host start w a k ws p c seat there q next l used j g;
           ranged = record {
             slots_in = slot_ranged w.slots a k (bound j) seat.stands.ranged.slots_in (bound_slot start w a k ws p c seat there q next l used j g);
             tuples_in_law = seat.stands.ranged.tuples_in_law;
@@ -114,13 +114,13 @@ module _
         (j : ℕ) → 16 ≤ j
         → Agrees start (after_acted w (read_met (met_with j w.slots))) (read_found s (address_of a) k q Found.Nothing p)
     unfolding read_met read_found number_of
-    read_none j g = rw (choose_false _ _ _ (le-ltb j 16 g)) (same-acted start w a k ws p c seat 2 Answer.NoTuple refl)
+    read_none j g = rw (choose_false _ _ _ (le-ltb j 16 g)) (same_acted start w a k ws p c seat 2 Answer.NoTuple refl)
 
-    pub read-reached :
-        Agrees start (after_acted w (readAt l w.slots w.stored w.tuples h (template_words c) a k))
+    pub read_reached :
+        Agrees start (after_acted w (read_at l w.slots w.stored w.tuples h (template_words c) a k))
         (carried_out s (address_of a) k p e (Request.Read (address_of l) q))
-    unfolding readAt carried_out read
-    read-reached =
+    unfolding read_at carried_out read
+    read_reached =
         rw (choose_false _ _ _ (lt-leb 16 l low))
         (meeting start w a k ws p c seat there q next l used
         (λ (m : Met) (f : Found) (r : Process). Agrees start (after_acted w (read_met m)) (read_found s (address_of a) k q f r))
@@ -132,26 +132,26 @@ module _
     (t : Target) (q : Place)
   where
     take_in : c.action ≡ Action.In t q → Agrees start (take_words w (head_words c) (template_words c) a k) (lean_process_step (net_in start w) (address_of a) k p c)
-    unfolding take_words take_of takeAt choose granted number_of action_words aimed_words asked at_variable Acts
+    unfolding take_words take_of take_place_at choose granted number_of action_words aimed_words asked at_variable Acts
     take_in act =
         let x : Action = Action.In t q in
         let known = seat_acts start w a k ws p c seat x act in
         aimed start w a k ws p c seat t (λ l. Request.In l q) 0 (seat_head start w a k ws p c seat x 2 act) (seat_head start w a k ws p c seat x 1 act) known.0 (seat_asks start w a k ws p c seat x act)
         (ap at_variable act) (λ fs l low. grants_take fs l low)
-        (λ l r. Agrees start (after_moved w (takeAt l w.slots w.stored w.tuples (head_words c) (template_words c) a k)) r)
+        (λ l r. Agrees start (after_moved w (take_place_at l w.slots w.stored w.tuples (head_words c) (template_words c) a k)) r)
         (same_moved start w a k ws p c seat 6 Answer.NotSet refl) (same_moved start w a k ws p c seat 4 Answer.NoRight refl)
-        (λ l used there. take-reached start w a k ws p c seat there q known.1 l used (head_words c) (seat_head start w a k ws p c seat x 3 act) (seat_head start w a k ws p c seat x 5 act))
+        (λ l used there. take_reached start w a k ws p c seat there q known.1 l used (head_words c) (seat_head start w a k ws p c seat x 3 act) (seat_head start w a k ws p c seat x 5 act))
 
     read_in : c.action ≡ Action.Read t q → Agrees start (read_words w (head_words c) (template_words c) a k) (lean_process_step (net_in start w) (address_of a) k p c)
-    unfolding read_words read_of readAt choose granted number_of action_words aimed_words asked at_variable Acts
+    unfolding read_words read_of read_at choose granted number_of action_words aimed_words asked at_variable Acts
     read_in act =
         let x : Action = Action.Read t q in
         let known = seat_acts start w a k ws p c seat x act in
         aimed start w a k ws p c seat t (λ l. Request.Read l q) 1 (seat_head start w a k ws p c seat x 2 act) (seat_head start w a k ws p c seat x 1 act) known.0 (seat_asks start w a k ws p c seat x act)
         (ap at_variable act) (λ fs l low. grants_read fs l low)
-        (λ l r. Agrees start (after_acted w (readAt l w.slots w.stored w.tuples (head_words c) (template_words c) a k)) r)
-        (same-acted start w a k ws p c seat 6 Answer.NotSet refl) (same-acted start w a k ws p c seat 4 Answer.NoRight refl)
-        (λ l used there. read-reached start w a k ws p c seat there q known.1 l used (head_words c) (seat_head start w a k ws p c seat x 3 act) (seat_head start w a k ws p c seat x 5 act))
+        (λ l r. Agrees start (after_acted w (read_at l w.slots w.stored w.tuples (head_words c) (template_words c) a k)) r)
+        (same_acted start w a k ws p c seat 6 Answer.NotSet refl) (same_acted start w a k ws p c seat 4 Answer.NoRight refl)
+        (λ l used there. read_reached start w a k ws p c seat there q known.1 l used (head_words c) (seat_head start w a k ws p c seat x 3 act) (seat_head start w a k ws p c seat x 5 act))
 
 pub take_agrees : TakeAgrees
 unfolding TakeAgrees

@@ -77,14 +77,14 @@ unfoldable pub out_put : List (List (List ℕ)) → List ℕ → ℕ → ℕ →
 out_put slots h a k r =
     choose r.done (moved_with 0 (with_word slots a k 8 (get_or h 3 0)) r.stored r.tuples) (moved_with 3 slots r.stored r.tuples)
 
-unfoldable pub outTo :
+unfoldable pub out_to :
     ℕ → List (List (List ℕ)) → List ℕ → List (List (List ℕ)) → List ℕ → List (List ℕ) → ℕ → ℕ → Moved
-outTo l slots stored tuples h f a k = out_put slots h a k (put_of stored tuples l (tuple_from slots h f a k))
+out_to l slots stored tuples h f a k = out_put slots h a k (put_of stored tuples l (tuple_from slots h f a k))
 
 unfoldable pub out_at :
     ℕ → List (List (List ℕ)) → List ℕ → List (List (List ℕ)) → List ℕ → List (List ℕ) → ℕ → ℕ → Moved
 out_at l slots stored tuples h f a k =
-    choose (leb 16 l) (moved_with (l - 16) slots stored tuples) (outTo l slots stored tuples h f a k)
+    choose (leb 16 l) (moved_with (l - 16) slots stored tuples) (out_to l slots stored tuples h f a k)
 
 unfoldable pub out_of :
     List (List (List ℕ)) → List ℕ → List (List (List ℕ)) → List (List (List Bool)) → List ℕ → List (List ℕ) → ℕ → ℕ → Moved
@@ -131,26 +131,26 @@ take_met l stored tuples m =
     (moved_with 0 m.slots (removed_of stored tuples l m.place).stored (removed_of stored tuples l m.place).tuples)
     (moved_with 2 m.slots stored tuples)
 
-unfoldable pub takeAt :
+unfoldable pub take_place_at :
     ℕ → List (List (List ℕ)) → List ℕ → List (List (List ℕ)) → List ℕ → List (List ℕ) → ℕ → ℕ → Moved
-takeAt l slots stored tuples h f a k =
+take_place_at l slots stored tuples h f a k =
     choose (leb 16 l) (moved_with (l - 16) slots stored tuples) (take_met l stored tuples (meet_of slots stored tuples h f a k l))
 
 unfoldable pub take_of :
     List (List (List ℕ)) → List ℕ → List (List (List ℕ)) → List (List (List Bool)) → List ℕ → List (List ℕ) → ℕ → ℕ → Moved
-take_of slots stored tuples rows h f a k = takeAt (target_in slots rows h f a k 0) slots stored tuples h f a k
+take_of slots stored tuples rows h f a k = take_place_at (target_in slots rows h f a k 0) slots stored tuples h f a k
 
 unfoldable pub read_met : Met → Acted
 read_met m = choose (ltb m.place 16) (acted_with 0 m.slots) (acted_with 2 m.slots)
 
-unfoldable pub readAt :
+unfoldable pub read_at :
     ℕ → List (List (List ℕ)) → List ℕ → List (List (List ℕ)) → List ℕ → List (List ℕ) → ℕ → ℕ → Acted
-readAt l slots stored tuples h f a k =
+read_at l slots stored tuples h f a k =
     choose (leb 16 l) (acted_with (l - 16) slots) (read_met (meet_of slots stored tuples h f a k l))
 
 unfoldable pub read_of :
     List (List (List ℕ)) → List ℕ → List (List (List ℕ)) → List (List (List Bool)) → List ℕ → List (List ℕ) → ℕ → ℕ → Acted
-read_of slots stored tuples rows h f a k = readAt (target_in slots rows h f a k 1) slots stored tuples h f a k
+read_of slots stored tuples rows h f a k = read_at (target_in slots rows h f a k 1) slots stored tuples h f a k
 
 -- ---- fork and eval: the process goes on, and its copy starts in the slot j of l, 4 where there is none
 unfoldable pub copy_of : List ℕ → List ℕ → ℕ → List ℕ
@@ -171,15 +171,15 @@ start_of slots h a k l origin = start_at (free_slot_in (get_or slots (l % 16) []
 unfoldable pub fork_of : List (List (List ℕ)) → List ℕ → ℕ → ℕ → Acted
 fork_of slots h a k = start_of slots h a k a (get_or (slot_at slots a k) 9 0)
 
-unfoldable pub evalAt :
+unfoldable pub eval_at :
     ℕ → List (List (List ℕ)) → List (List (List Bool)) → List Bool → List ℕ → ℕ → ℕ → Acted
-evalAt l slots rows need h a k =
+eval_at l slots rows need h a k =
     choose (leb 16 l) (acted_with (l - 16) slots)
     (choose (admits_words need (get_or (get_or rows (l % 16) []) (a % 16) []) l) (start_of slots h a k l a) (acted_with 5 slots))
 
-unfoldable pub evalOf :
+unfoldable pub eval_of :
     List (List (List ℕ)) → List (List (List Bool)) → List Bool → List ℕ → List (List ℕ) → ℕ → ℕ → Acted
-evalOf slots rows need h f a k = evalAt (target_in slots rows h f a k 3) slots rows need h a k
+eval_of slots rows need h f a k = eval_at (target_in slots rows h f a k 3) slots rows need h a k
 
 -- ---- new: the rows, by format, of a process of origin o that opens the address l
 unfoldable pub open_alike : List (List (List Bool)) → ℕ → ℕ → ℕ → List (List (List Bool))
@@ -203,9 +203,9 @@ open_by_origin rows a o l = gained_at (set rows (l % 16) (opened_policy (get_or 
 unfoldable pub open_of : ℕ → List (List (List Bool)) → ℕ → ℕ → ℕ → List (List (List Bool))
 open_of format rows a o l = choose (eqb format 1) (open_alike rows a o l) (open_by_origin rows a o l)
 
-unfoldable pub createOf :
+unfoldable pub create_of :
     ℕ → List (List (List ℕ)) → List (List (List Bool)) → ℕ → List ℕ → ℕ → ℕ → Created
-createOf n slots rows format h a k =
+create_of n slots rows format h a k =
     choose (ltb n 16)
     (created_with 0 (n + 1) (with_word (with_word slots a k (get_or h 4 0 % 16) n) a k 8 (get_or h 3 0))
     (open_of format rows a (get_or (slot_at slots a k) 9 0) n))
@@ -230,14 +230,14 @@ put_below n stored tuples g t =
 unfoldable pub out_all_put : List (List (List ℕ)) → List ℕ → ℕ → ℕ → Given → Moved
 out_all_put slots h a k r = moved_with 0 (with_word slots a k 8 (get_or h 3 0)) r.stored r.tuples
 
-unfoldable pub outToAll :
+unfoldable pub out_to_all :
     List (List (List ℕ)) → List ℕ → List (List (List ℕ)) → List Bool → List ℕ → List (List ℕ) → ℕ → ℕ → Moved
-outToAll slots stored tuples g h f a k =
+out_to_all slots stored tuples g h f a k =
     choose (room_in stored g)
     (out_all_put slots h a k (put_below 16 stored tuples g (tuple_from slots h f a k)))
     (moved_with 3 slots stored tuples)
 
-unfoldable pub outAllOf :
+unfoldable pub out_all_of :
     List (List (List ℕ)) → List ℕ → List (List (List ℕ)) → List Bool → List ℕ → List (List ℕ) → ℕ → ℕ → Moved
-outAllOf slots stored tuples g h f a k =
-    choose (defined_words (slot_at slots a k) f) (outToAll slots stored tuples g h f a k) (moved_with 6 slots stored tuples)
+out_all_of slots stored tuples g h f a k =
+    choose (defined_words (slot_at slots a k) f) (out_to_all slots stored tuples g h f a k) (moved_with 6 slots stored tuples)

@@ -2,7 +2,7 @@
 use Rattle.std.specs.Prelude.{ℕ, ◌/◌, ◌%◌, Bool, List, [], ◌∷◌, eqb, leb, get_or}
 use Rattle.net.specs.Choice.{choose}
 use Rattle.lean.specs.Words.{Words, slot_at}
-use Rattle.lean.specs.Actions.{Acted, Moved, Created, stop_of, out_of, take_of, read_of, evalOf, createOf, fork_of, outAllOf}
+use Rattle.lean.specs.Actions.{Acted, Moved, Created, stop_of, out_of, take_of, read_of, eval_of, create_of, fork_of, out_all_of}
 
 -- ---- the tables of a code, by place, and the format
 pub record Tables : Type 0 where
@@ -53,16 +53,16 @@ unfoldable pub read_words : Words → List ℕ → List (List ℕ) → ℕ → �
 read_words w h f a k = after_acted w (read_of w.slots w.stored w.tuples w.rows h f a k)
 
 unfoldable pub eval_words : Words → List Bool → List ℕ → List (List ℕ) → ℕ → ℕ → Stepped
-eval_words w need h f a k = after_acted w (evalOf w.slots w.rows need h f a k)
+eval_words w need h f a k = after_acted w (eval_of w.slots w.rows need h f a k)
 
 unfoldable pub create_words : Words → ℕ → List ℕ → ℕ → ℕ → Stepped
-create_words w format h a k = after_created w (createOf w.count w.slots w.rows format h a k)
+create_words w format h a k = after_created w (create_of w.count w.slots w.rows format h a k)
 
 unfoldable pub fork_words : Words → List ℕ → ℕ → ℕ → Stepped
 fork_words w h a k = after_acted w (fork_of w.slots h a k)
 
 unfoldable pub out_all_words : Words → List Bool → List ℕ → List (List ℕ) → ℕ → ℕ → Stepped
-out_all_words w g h f a k = after_moved w (outAllOf w.slots w.stored w.tuples g h f a k)
+out_all_words w g h f a k = after_moved w (out_all_of w.slots w.stored w.tuples g h f a k)
 
 -- by the action's number
 unfoldable pub act_by : ℕ → Words → List ℕ → List (List ℕ) → List Bool → List Bool → ℕ → ℕ → ℕ → Stepped

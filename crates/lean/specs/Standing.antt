@@ -27,7 +27,7 @@ pub record Tabled (start : Net) (tb : Tables) : Type 0 where
   pub heads_are : (q : ℕ) → q < start.length → get_or tb.heads q [] ≡ head_words (instruction_at start.code (place_of q))
   pub fields_are : (q : ℕ) → q < start.length → get_or tb.fields q [] ≡ template_words (instruction_at start.code (place_of q))
   pub sets_are : (q : ℕ) → q < start.length → get_or tb.sets q [] ≡ set_flags (instruction_at start.code (place_of q))
-  pub needs-are :
+  pub needs_are :
       (q : ℕ) (t : Target) (sent next : Place)
       → q < start.length
       → (instruction_at start.code (place_of q)).action ≡ Action.Eval t sent next

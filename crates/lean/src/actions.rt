@@ -1,8 +1,8 @@
 // What each action does to the words: a is the host, k the slot, at the place of the instruction.
 ghost use Rattle.std.specs.Prelude.{◌≡◌};
 ghost use Rattle.lean.specs.Words.{with_word};
-ghost use Rattle.lean.specs.Actions.{acted_with, moved_with, created_with, put_with, met_with, given_with, aim_of, removed_of, stop_of, put_of, outTo, out_of, meet_of, take_of};
-ghost use Rattle.lean.specs.Actions.{read_of, start_of, fork_of, evalOf, open_alike, open_by_origin, open_of, createOf, room_in, given_at, put_below, outToAll, outAllOf};
+ghost use Rattle.lean.specs.Actions.{acted_with, moved_with, created_with, put_with, met_with, given_with, aim_of, removed_of, stop_of, put_of, out_to, out_of, meet_of, take_of};
+ghost use Rattle.lean.specs.Actions.{read_of, start_of, fork_of, eval_of, open_alike, open_by_origin, open_of, create_of, room_in, given_at, put_below, out_to_all, out_all_of};
 
 use lean_code::fields::{WRITTEN, bind, defined, made, met, word_from};
 use lean_words::processes::{free_slot, free_words};
@@ -81,7 +81,7 @@ fn out_to(
     k: usize,
     l: usize,
 ) -> usize
-    ensures { moved_with result procs.new stored.new tuples.new ≡ outTo l procs.old stored.old tuples.old h.now f.now a k }
+    ensures { moved_with result procs.new stored.new tuples.new ≡ out_to l procs.old stored.old tuples.old h.now f.now a k }
 {
     let t = made(&procs[a % 16][k % 4], a, f, h[5]);
     if put(stored, tuples, l, t) {
@@ -234,7 +234,7 @@ pub(crate) fn eval(
     a: usize,
     k: usize,
 ) -> usize
-    ensures { acted_with result procs.new ≡ evalOf procs.old rows.now need.now h.now f.now a k }
+    ensures { acted_with result procs.new ≡ eval_of procs.old rows.now need.now h.now f.now a k }
 {
     let l = aim(&procs[a % 16][k % 4], a, h, f, &rows[a % 16], 3);
     if 16 <= l {
@@ -289,7 +289,7 @@ pub(crate) fn create(
     a: usize,
     k: usize,
 ) -> usize
-    ensures { created_with result n.new procs.new rows.new ≡ createOf n.old procs.old rows.old format h.now a k }
+    ensures { created_with result n.new procs.new rows.new ≡ create_of n.old procs.old rows.old format h.now a k }
 {
     let l = *n;
     if l < 16 {
@@ -359,7 +359,7 @@ fn out_to_all(
     a: usize,
     k: usize,
 ) -> usize
-    ensures { moved_with result procs.new stored.new tuples.new ≡ outToAll procs.old stored.old tuples.old set.now h.now f.now a k }
+    ensures { moved_with result procs.new stored.new tuples.new ≡ out_to_all procs.old stored.old tuples.old set.now h.now f.now a k }
 {
     if room_at_all(stored, set) {
         let t = made(&procs[a % 16][k % 4], a, f, h[5]);
@@ -381,7 +381,7 @@ pub(crate) fn out_all(
     a: usize,
     k: usize,
 ) -> usize
-    ensures { moved_with result procs.new stored.new tuples.new ≡ outAllOf procs.old stored.old tuples.old set.now h.now f.now a k }
+    ensures { moved_with result procs.new stored.new tuples.new ≡ out_all_of procs.old stored.old tuples.old set.now h.now f.now a k }
 {
     if defined(&procs[a % 16][k % 4], f) {
         out_to_all(procs, stored, tuples, set, h, f, a, k)

@@ -15,7 +15,7 @@ use Rattle.net.specs.Choice.{choose, both, implies, all}
 use Rattle.net.specs.Records.{rights_at, instruction_at, address_of, place_of}
 use Rattle.net.specs.Groups.{member, all_members}
 use Rattle.net.proofs.Laws.{both_i, both_l, both_r, both_both, both_end, same_truth, implies_i, implies_e, choose_true, choose_false, all_i, all_e}
-use Rattle.net.proofs.FoldLaws.{fold-keeps}
+use Rattle.net.proofs.FoldLaws.{fold_keeps}
 use Rattle.keeping.specs.Keeping.{may_take, may_read, may_put, may_send, may_create, at_target, may_put_all, permits, permits_marked, keeps_of}
 use Rattle.keeping.specs.Reaching.{reached_of}
 use Rattle.keeping.proofs.Unmarked.{unmarked_at}
@@ -38,11 +38,11 @@ wanted : ℕ → (ℕ → Bool) → List Bool → Bool
 wanted n test need = all n (λ i. implies (get_or need i false) (test i))
 
 -- one flag more
-wanted-set :
+wanted_set :
     (n : ℕ) (test : ℕ → Bool) (need : List Bool) (j : ℕ) → length need ≡ n → j < n
     → wanted n test (set need j true) ≡ both (wanted n test need) (test j)
 unfolding wanted
-wanted-set n test need j size low =
+wanted_set n test need j size low =
     same_truth _ _
     (λ h.
     both_i _ _ (all_i n _ (λ i l. implies_i _ _ (λ m. implies_e _ _ (all_e n _ h i l) (kept i m (ℕ_discrete i j)))))
@@ -135,10 +135,10 @@ module _ (r : Row) (a : Locality) where
     unfolding all_granted add_right at_target low_target
     right_more (Target.Written l) low =
         let h : l.0 < 16 = ltb-true l.0 16 low in
-        wanted-set 69 _ need _ size (omega arith) ∙ ap (both (wanted 69 (granted r a) need)) (there _ l.0 h (omega arith))
+        wanted_set 69 _ need _ size (omega arith) ∙ ap (both (wanted 69 (granted r a) need)) (there _ l.0 h (omega arith))
     right_more Target.Own low =
         let e : 65 + right % 4 ≡ 65 + right = omega arith in
-        wanted-set 69 _ need _ size (omega arith) ∙ ap (both (wanted 69 (granted r a) need)) (ap (granted r a) e ∙ own)
+        wanted_set 69 _ need _ size (omega arith) ∙ ap (both (wanted 69 (granted r a) need)) (ap (granted r a) e ∙ own)
     right_more (Target.Held v) low = sym (both_end _)
 
   member_more : (i : ℕ) (xs : List Bool) (b : Bool) → i < 16 → length xs ≡ 69
@@ -146,14 +146,14 @@ module _ (r : Row) (a : Locality) where
   unfolding all_granted implies
   member_more i xs true h size =
       rw or-true
-      (wanted-set 69 _ xs (i + 32) size (omega arith) ∙ ap (both (wanted 69 (granted r a) xs)) (granted_put r a (i + 32) i h refl))
+      (wanted_set 69 _ xs (i + 32) size (omega arith) ∙ ap (both (wanted 69 (granted r a) xs)) (granted_put r a (i + 32) i h refl))
   member_more i xs false h size = rw (or-false, set-get_or) (sym (both_end _))
 
   members_more : (need : List Bool) (g : Group) → length need ≡ 69
       → (length (add_members need g) ≡ 69) × (all_granted (add_members need g) ≡ both (all_granted need) (may_put_all r g))
   unfolding add_members may_put_all all_members all add_member
   members_more need g size =
-      fold-keeps
+      fold_keeps
       (λ i xs.
       (length xs ≡ 69) × (all_granted xs ≡ both (all_granted need) (all i (λ m. implies (member g (address_of m)) (may_put r (address_of m))))))
       (add_member g) need 16 (size, sym (both_end _))
@@ -175,7 +175,7 @@ module _ (r : Row) (a : Locality) where
       right_more 1 (may_read r) (omega arith) (λ i m h e. granted_read r a i m h (omega arith)) refl need size t low
   action_more need (Action.Eval t sent q) size low =
       right_more 3 (may_send r) (omega arith) (λ i m h e. granted_send r a i m h (omega arith)) refl need size t low
-  action_more need (Action.New v q) size low = wanted-set 69 _ need 64 size (omega arith)
+  action_more need (Action.New v q) size low = wanted_set 69 _ need 64 size (omega arith)
   action_more need (Action.Fork q q') size low = sym (both_end _)
   action_more need (Action.OutAll g q) size low = (members_more need g size).1
 
@@ -202,7 +202,7 @@ module _ (r : Row) (a : Locality) where
     needs_granted : (p : Place) → all_granted (needs_of code p) ≡ keeps_of code p a r
     unfolding needs_of keeps_of permits_marked add_reached all all_granted
     needs_granted p =
-        (fold-keeps
+        (fold_keeps
         (λ i xs.
         (length xs ≡ 69)
         × (all_granted xs

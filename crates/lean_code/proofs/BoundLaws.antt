@@ -97,34 +97,34 @@ module _ (n a : ℕ) (p : Process) where
     e = evaluated_of (address_of a) p c
 
     -- a field past the count binds nothing
-    bound-past :
+    bound_past :
         (i : ℕ) (q : Process) → i < 4
         → bound_field q (item_in (get_or tw i 0)) (want_of (address_of a) p (pattern_at c i))
         ≡ choose (ltb i e.count) (bound_field q (field_at (tuple_in tw) i) (want_at e i)) q
     unfolding bound_field evaluated_of
-    bound-past i q l =
+    bound_past i q l =
         rw (field_in_law tw i l, want_in n a p c ok i l)
         (chosen_lt (λ (x : Process). bound_field q (item_in (get_or tw i 0)) (want_of (address_of a) p (pattern_at c i)) ≡ x) i c.count _ _
         (λ h. refl) (λ h. ap (bound_field q (item_in (get_or tw i 0))) (want_past n a p c ok i l h)))
 
-    bound-turn :
+    bound_turn :
         (i : ℕ) (us : List ℕ) (q : Process) → i < 4 → Bound us q
         → Bound (set us (get_or (get_or (template_words c) i []) 3 0 % 16) (get_or tw i 0))
         (choose (ltb i e.count) (bound_field q (field_at (tuple_in tw) i) (want_at e i)) q)
-    bound-turn i us q l b =
-        rw (template_at c i l, ← (bound-past i q l))
+    bound_turn i us q l b =
+        rw (template_at c i l, ← (bound_past i q l))
         (field_bound us q b (get_or tw i 0) (fields.fields i l) (pattern_at c i) (ok.each i l))
 
     module _ (ws : List ℕ) (slot : RangedSlot ws) (busy : get_or ws 8 0 < 512) (decoded : process_in ws ≡ p) where
       all_bound : Bound (fold 4 (λ i q. set q (get_or (get_or (template_words c) i []) 3 0 % 16) (get_or tw i 0)) ws) (bound_of p (tuple_in tw) e)
       unfolding bound_of
-      all_bound = fold_pair Bound _ _ 4 ws p (record { slot = slot; busy = busy; decoded = decoded }) bound-turn
+      all_bound = fold_pair Bound _ _ 4 ws p (record { slot = slot; busy = busy; decoded = decoded }) bound_turn
 
-      pub bound-in :
+      pub bound_in :
           (next : ℕ) → next < 512
           → process_in (bound_words ws (template_words c) tw next) ≡ moved_to (bound_of p (tuple_in tw) e) (place_of next)
       unfolding bound_words
-      bound-in next h =
+      bound_in next h =
           place_anew _ all_bound.slot.size all_bound.busy next h
           ∙ ap (λ (q : Process). moved_to q (place_of next)) all_bound.decoded
 

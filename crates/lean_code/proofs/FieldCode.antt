@@ -16,26 +16,26 @@ use Rattle.lean_words.proofs.StoreLaws.{four}
 use Rattle.lean_code.specs.Fields.{actual_words, field_words, field_word, word_from, lowest, highest, wants_words}
 
 -- ---- fields: a word that a callee gave
-pub actual-as :
+pub actual_as :
     (from u w x : ℕ) (r : List ℕ) → from ≡ u → w ≡ x → r ≡ actual_words from w → r ≡ actual_words u x
-actual-as from u w x r p q e = rw (p, q) at e
+actual_as from u w x r p q e = rw (p, q) at e
 
 -- a reading that an arm has taken out stands there by its bits
-pub reading-field :
+pub reading_field :
     (z : ℤ) (x : Pattern) (w : ℕ) (r : List ℕ) → SFits w32 z → x ≡ Pattern.Reading z → w ≡ reading_word (to_z w32 (of_z w32 z))
     → r ≡ actual_words 9 w → r ≡ field_words x
 unfolding field_words
-reading-field z x w r s e p q = rw e (q ∙ ap (actual_words 9) (p ∙ ap reading_word (to_z-of_z s)))
+reading_field z x w r s e p q = rw e (q ∙ ap (actual_words 9) (p ∙ ap reading_word (to_z-of_z s)))
 
 -- ---- four tests
-pub four-hold :
+pub four_hold :
     (a b c d : Bool) (test : ℕ → Bool) → a ≡ test 0 → b ≡ test 1 → c ≡ test 2 → d ≡ test 3
     → ((a && b) && (c && d)) ≡ all 4 test
 unfolding both
-four-hold a b c d test p q r s = four true a b c d test p q r s
+four_hold a b c d test p q r s = four true a b c d test p q r s
 
 -- ---- what is wanted
-pub wants-parts :
+pub wants_parts :
     (p : List ℕ) (a : ℕ) (f : List (List ℕ)) (count l₀ h₀ l₁ h₁ l₂ h₂ l₃ h₃ : ℕ)
     → l₀ ≡ word_from p a (field_word f 0 0) (field_word f 0 1)
     → h₀ ≡ word_from p a (field_word f 0 0) (field_word f 0 2)
@@ -47,7 +47,7 @@ pub wants-parts :
     → h₃ ≡ word_from p a (field_word f 3 0) (field_word f 3 2)
     → (l₀ ∷ h₀ ∷ l₁ ∷ h₁ ∷ l₂ ∷ h₂ ∷ l₃ ∷ h₃ ∷ count ∷ []) ≡ wants_words p a f count
 unfolding wants_words lowest highest
-wants-parts p a f count l₀ h₀ l₁ h₁ l₂ h₂ l₃ h₃ d₀ e₀ d₁ e₁ d₂ e₂ d₃ e₃ = rw (d₀, e₀, d₁, e₁, d₂, e₂, d₃, e₃)
+wants_parts p a f count l₀ h₀ l₁ h₁ l₂ h₂ l₃ h₃ d₀ e₀ d₁ e₁ d₂ e₂ d₃ e₃ = rw (d₀, e₀, d₁, e₁, d₂, e₂, d₃, e₃)
 
 -- and what is made of it
 pub made_is : (want u r : List ℕ) (a : ℕ) → want ≡ u → r ≡ put_words want a → r ≡ put_words u a

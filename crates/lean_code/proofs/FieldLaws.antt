@@ -127,49 +127,49 @@ module _
     field_fits (Pattern.FormalAddress v) x s h g = any_address x ∙ sym (address_below x)
 
     -- ---- what an out makes of a field: its word, and what that stands for
-    pub field-ranged :
+    pub field_ranged :
         (k : Pattern) → pattern_sound n k ≡ true → is_actual k ≡ true → is_there ws (from_of k) ≡ true
         → ((z : ℤ) → k ≡ Pattern.Reading z → reading_word z < 4294967553) → RangedItem (low_of ws a k)
     unfolding field_words actual_words formal_words word_from choose pattern_sound is_actual
-    field-ranged (Pattern.Reading z) s o h f = record { below = f z refl; there = λ e. omega (arith, e, word_above z) }
-    field-ranged (Pattern.Address l) s o h f =
+    field_ranged (Pattern.Reading z) s o h f = record { below = f z refl; there = λ e. omega (arith, e, word_above z) }
+    field_ranged (Pattern.Address l) s o h f =
         let below : l.0 < n = ltb-true l.0 n s in
         record { below = omega arith; there = λ e. omega (arith, e) }
-    field-ranged Pattern.Own s o h f = record { below = omega arith; there = λ e. omega (arith, e) }
-    field-ranged (Pattern.Held v) s o h f =
+    field_ranged Pattern.Own s o h f = record { below = omega arith; there = λ e. omega (arith, e) }
+    field_ranged (Pattern.Held v) s o h f =
         subst RangedItem (sym (from_variable ws a v 0 (ltb-true v 8 s))) (held_ranged v (ltb-true v 8 s) h)
-    field-ranged (Pattern.FormalReading v) s o h f = never o
-    field-ranged (Pattern.FormalAddress v) s o h f = never o
+    field_ranged (Pattern.FormalReading v) s o h f = never o
+    field_ranged (Pattern.FormalAddress v) s o h f = never o
 
-    pub field-item :
+    pub field_item :
         (k : Pattern) → pattern_sound n k ≡ true → is_actual k ≡ true → is_there ws (from_of k) ≡ true
         → ((z : ℤ) → k ≡ Pattern.Reading z → reading_word z < 4294967553)
         → item_in (low_of ws a k) ≡ item_of (want_of (address_of a) p k)
     unfolding field_words actual_words formal_words word_from choose pattern_sound is_actual want_of item_of
-    field-item (Pattern.Reading z) s o h f =
+    field_item (Pattern.Reading z) s o h f =
         item_reading (reading_word z) (word_above z) ∙ ap Item.Reading (reading_back z (f z refl))
-    field-item (Pattern.Address l) s o h f =
+    field_item (Pattern.Address l) s o h f =
         let below : l.0 < n = ltb-true l.0 n s in item_address l.0 (omega arith)
-    field-item Pattern.Own s o h f = item_address a (omega arith)
-    field-item (Pattern.Held v) s o h f =
+    field_item Pattern.Own s o h f = item_address a (omega arith)
+    field_item (Pattern.Held v) s o h f =
         let l : v < 8 = ltb-true v 8 s in
         ap item_in (from_variable ws a v 0 l) ∙ sym (held_value v l h)
-    field-item (Pattern.FormalReading v) s o h f = never o
-    field-item (Pattern.FormalAddress v) s o h f = never o
+    field_item (Pattern.FormalReading v) s o h f = never o
+    field_item (Pattern.FormalAddress v) s o h f = never o
 
     -- ---- where a target points
     abbrev pub word_of : Target → ℕ
     word_of t = word_from ws a (target_from t) (target_written t)
 
-    pub target-in :
+    pub target_in_law :
         (t : Target) → target_sound n t ≡ true
         → target_of (address_of a) p t ≡ choose (ltb (word_of t) 256) (Aim.At (address_of (word_of t))) Aim.Nowhere
     unfolding target_from target_written target_of target_sound
-    target-in (Target.Written l) s =
+    target_in_law (Target.Written l) s =
         let below : l.0 < n = ltb-true l.0 n s in
         sym (choose_true _ _ _ (lt-ltb (word_from ws a 9 l.0) 256 (omega (arith, from_code ws a l.0))) ∙ ap (λ (w : ℕ). Aim.At (address_of w)) (from_code ws a l.0))
-    target-in Target.Own s =
+    target_in_law Target.Own s =
         sym (choose_true _ _ _ (lt-ltb (word_from ws a 25 0) 256 (omega (arith, from_host ws a 0))) ∙ ap (λ (w : ℕ). Aim.At (address_of w)) (from_host ws a 0))
-    target-in (Target.Held v) s =
+    target_in_law (Target.Held v) s =
         let l : v < 8 = ltb-true v 8 s in
         rw (values v l, from_variable ws a v 0 l) (aim_in (get_or ws v 0))

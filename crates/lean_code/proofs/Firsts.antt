@@ -47,8 +47,8 @@ module _ {A : Type 0} (n : ℕ) (test : ℕ → Bool) (at : ℕ → A) (nothing 
   number_from zero i e = sym (choose_false _ _ _ (le-ltb n n (omega arith)))
   number_from (suc k) i e = turned i (test i) _ _ (omega arith) (number_from k (suc i) (omega arith))
 
-  pub first-number :
+  pub first_number :
       first_below n test at nothing
       ≡ choose (ltb (first_below n test (λ j. j) n) n) (at (first_below n test (λ j. j) n)) nothing
   unfolding first_below
-  first-number = number_from n 0 (omega arith)
+  first_number = number_from n 0 (omega arith)

@@ -10,16 +10,16 @@ module _ (number other count : ℕ) (next : Place) where
   unfolding alone_words
   alone_is q e = rw e
 
-  pub aimed-is :
+  pub aimed_is :
       (t : Target) (w from q : ℕ) → w ≡ target_written t → from ≡ target_from t → q ≡ next.0
       → number ∷ w ∷ from ∷ q ∷ other ∷ count ∷ [] ≡ aimed_words number t next other count
   unfolding aimed_words
-  aimed-is t w from q d e f = rw (d, e, f)
+  aimed_is t w from q d e f = rw (d, e, f)
 
   -- the other word is what a callee gave
   pub alone_other : (x : ℕ) (r : List ℕ) → x ≡ other → r ≡ alone_words number next x count → r ≡ alone_words number next other count
   alone_other x r e p = rw e at p
 
-  pub aimed-other :
+  pub aimed_other :
       (t : Target) (x : ℕ) (r : List ℕ) → x ≡ other → r ≡ aimed_words number t next x count → r ≡ aimed_words number t next other count
-  aimed-other t x r e p = rw e at p
+  aimed_other t x r e p = rw e at p

@@ -24,10 +24,10 @@ use Rattle.plans.specs.Additions.{item_of, tuple_of}
 use Rattle.lean_words.specs.Filled.{filled}
 use Rattle.lean_words.specs.Items.{address_in, item_in, value_in}
 use Rattle.lean_words.specs.Stores.{field_in, tuple_in, put_words}
-use Rattle.lean_words.proofs.FilledLaws.{filled-same}
+use Rattle.lean_words.proofs.FilledLaws.{filled_same}
 use Rattle.lean_code.specs.Fields.{template_words, defined_words, wants_words}
 use Rattle.lean_code.specs.Ranged.{RangedSlot, RangedTuple, RangedTemplate}
-use Rattle.lean_code.proofs.FieldLaws.{low_of, field-ranged, field-item}
+use Rattle.lean_code.proofs.FieldLaws.{low_of, field_ranged, field_item}
 use Rattle.lean_code.proofs.TemplateLaws.{Fielded, want_in, want_past, low_at, there_at, lowest_at}
 
 -- ---- the tuple of an out: each item in its place, and noughts past the count
@@ -82,7 +82,7 @@ module _
       size = refl;
       fields = λ i l.
           rw (put_at_law i l)
-          (field-ranged n a ws p few hosted r values (pattern_at c i) (ok.each i l) (actual_at i l)
+          (field_ranged n a ws p few hosted r values (pattern_at c i) (ok.each i l) (actual_at i l)
           (there_at n a ws p few hosted r values c ok known i l) (λ z. readings.readings i z l));
     }
 
@@ -90,7 +90,7 @@ module _
     unfolding item_of
     item_put i l =
         rw (put_at_law i l)
-        (field-item n a ws p few hosted r values (pattern_at c i) (ok.each i l) (actual_at i l)
+        (field_item n a ws p few hosted r values (pattern_at c i) (ok.each i l) (actual_at i l)
         (there_at n a ws p few hosted r values c ok known i l) (λ z. readings.readings i z l)
         ∙ chosen_lt (λ (y : Item). item_of (want_of (address_of a) p (pattern_at c i)) ≡ y) i c.count _ _
         (λ h. ap item_of (sym (want_in n a p c ok i l))) (λ h. ap item_of (want_past n a p c ok i l h)))
@@ -103,7 +103,7 @@ module _
         λ d. record {
           count = (ap (λ (t : Tuple). t.count) (sym made)) d;
           fields =
-              (filled-same past_field 4 _ (replicate 4 zero_field) refl _ (replicate 4 zero_field) refl
+              (filled_same past_field 4 _ (replicate 4 zero_field) refl _ (replicate 4 zero_field) refl
               (λ i l. ap (λ (y : Item). record { item = y }) (item_put i l))
               ∙ ap (λ (t : Tuple). t.fields) (sym made)) d;
           mark = address_of (low d);

@@ -16,7 +16,7 @@ use Rattle.net.proofs.Laws.{choose_true}
 use Rattle.net.proofs.Past.{past_variable}
 use Rattle.lean_words.specs.Items.{address_in, value_in}
 use Rattle.lean_words.specs.Processes.{variable_in, busy_in, process_in}
-use Rattle.lean_words.proofs.FilledLaws.{filled_at, filled-same, filled-set}
+use Rattle.lean_words.proofs.FilledLaws.{filled_at, filled_same, filled_set}
 
 -- ---- a busy slot
 pub busy_in_law : (ws : List ℕ) → get_or ws 8 0 < 512 → process_in ws ≡ busy_in ws
@@ -30,12 +30,12 @@ variable_in_law ws v h l =
     ∙ ap (λ (x : Variable). x.value) (filled_at _ (replicate 8 unset_variable) past_variable 8 v l l)
 
 -- its variables: the words of the first eight decide
-variables-as :
+variables_as :
     (ws us : List ℕ) → ((v : ℕ) → v < 8 → get_or ws v 0 ≡ get_or us v 0)
     → (busy_in ws).variables ≡ (busy_in us).variables
 unfolding busy_in variable_in
-variables-as ws us same =
-    filled-same past_variable 8 _ (replicate 8 unset_variable) refl _ (replicate 8 unset_variable) refl
+variables_as ws us same =
+    filled_same past_variable 8 _ (replicate 8 unset_variable) refl _ (replicate 8 unset_variable) refl
     (λ v l. ap (λ (w : ℕ). record { value = value_in w }) (same v l))
 
 -- a process with another origin
@@ -53,7 +53,7 @@ module _ (ws : List ℕ) (size : length ws ≡ 16) (busy : get_or ws 8 0 < 512) 
         busy = (busy_in ws).busy;
         at = place_of (other 8 (λ e. omega (arith, e)) d % 512);
         origin = address_in (other 9 (λ e. omega (arith, e)) d);
-        variables = variables-as (set ws 10 x) ws (λ v l. other v (λ e. omega arith)) d;
+        variables = variables_as (set ws 10 x) ws (λ v l. other v (λ e. omega arith)) d;
       })
       ∙ sym (busy_in_law ws busy)
 
@@ -67,7 +67,7 @@ module _ (ws : List ℕ) (size : length ws ≡ 16) (busy : get_or ws 8 0 < 512) 
         at = place_of (other 8 (λ e. omega arith) d % 512);
         origin = address_in (other 9 (λ e. omega arith) d);
         variables =
-            filled-set past_variable 8 _ (replicate 8 unset_variable) refl _ v (record { value = value_in x })
+            filled_set past_variable 8 _ (replicate 8 unset_variable) refl _ v (record { value = value_in x })
             (λ i h n. ap (λ (w : ℕ). record { value = value_in w }) (other i n))
             (λ h. ap (λ (w : ℕ). record { value = value_in w }) (get_or-set_same ws v x 0 (omega arith))) d;
       })
@@ -84,7 +84,7 @@ module _ (ws : List ℕ) (size : length ws ≡ 16) (busy : get_or ws 8 0 < 512) 
         busy = (busy_in ws).busy;
         at = place_of ((ap (λ (n : ℕ). n % 512) here ∙ low) d);
         origin = address_in (other 9 (λ e. omega (arith, e)) d);
-        variables = variables-as (set ws 8 q) ws (λ v l. other v (λ e. omega arith)) d;
+        variables = variables_as (set ws 8 q) ws (λ v l. other v (λ e. omega arith)) d;
       })
       ∙ ap (λ (p : Process). moved_to p (place_of q)) (sym (busy_in_law ws busy))
 
@@ -98,6 +98,6 @@ module _ (ws : List ℕ) (size : length ws ≡ 16) (busy : get_or ws 8 0 < 512) 
         busy = (busy_in ws).busy;
         at = place_of (other 8 (λ e. omega (arith, e)) d % 512);
         origin = address_of ((ap (λ (n : ℕ). n % 256) (get_or-set_same ws 9 o 0 (omega arith)) ∙ low) d);
-        variables = variables-as (set ws 9 o) ws (λ v l. other v (λ e. omega arith)) d;
+        variables = variables_as (set ws 9 o) ws (λ v l. other v (λ e. omega arith)) d;
       })
       ∙ ap (λ (p : Process). of_origin p (address_of o)) (sym (busy_in_law ws busy))

@@ -23,7 +23,7 @@ use Rattle.lean_words.specs.Items.{value_in}
 use Rattle.lean_words.specs.Stores.{tuple_in, fits_words, oldest_in}
 use Rattle.lean_code.specs.Fields.{template_words, defined_words, wants_words}
 use Rattle.lean_code.specs.Ranged.{RangedSlot, RangedTuple}
-use Rattle.lean_code.proofs.Firsts.{both_as, first_same, first-number}
+use Rattle.lean_code.proofs.Firsts.{both_as, first_same, first_number}
 use Rattle.lean_code.proofs.TemplateLaws.{Fielded, fits_in_law}
 
 both_turned : (a b : Bool) → both a b ≡ both b a
@@ -46,10 +46,10 @@ module _
     abbrev pub oldest : ℕ
     oldest = oldest_in ts x.stored (wants_words ws a (template_words c) c.count)
 
-    fits-at :
+    fits_at :
         (j : ℕ) → j < 16 → j < x.stored
         → fits_of (tuple_at x j) e ≡ fits_words (get_or ts j []) (wants_words ws a (template_words c) c.count)
-    fits-at j l h =
+    fits_at j l h =
         ap (λ (t : Tuple). fits_of t e) (each j l)
         ∙ sym (fits_in_law n a ws p few hosted r values c ok known (get_or ts j []) (ranged j l)
         (subst (TupleOk n) (each j l) (tuples_ok j l h)))
@@ -58,8 +58,8 @@ module _
     unfolding oldest_of oldest_in
     oldest_in_law =
         first_same 16 _ _ Found.At Found.Nothing
-        (λ j l. both_as (ltb j x.stored) _ _ (λ h. fits-at j l (ltb-true j x.stored h)) ∙ both_turned _ _)
-        ∙ first-number 16 _ Found.At Found.Nothing
+        (λ j l. both_as (ltb j x.stored) _ _ (λ h. fits_at j l (ltb-true j x.stored h)) ∙ both_turned _ _)
+        ∙ first_number 16 _ Found.At Found.Nothing
 
     -- it is stored
     pub oldest_stored : oldest < 16 → oldest < x.stored

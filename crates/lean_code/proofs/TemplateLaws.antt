@@ -23,9 +23,9 @@ use Rattle.net.specs.declared.instruction.Action.{Action}
 use Rattle.net.specs.declared.instruction.Instruction.{Instruction}
 use Rattle.net.proofs.Laws.{all_e, split}
 use Rattle.net.proofs.AllLaws.{all_same}
-use Rattle.net.proofs.Every.{chosen_lt, Every, every_replicate, every_set, every_weaken, filled-each}
+use Rattle.net.proofs.Every.{chosen_lt, Every, every_replicate, every_set, every_weaken, filled_each}
 use Rattle.net.proofs.Past.{past_field}
-use Rattle.net.proofs.FoldLaws.{fold-keeps}
+use Rattle.net.proofs.FoldLaws.{fold_keeps}
 use Rattle.matching.specs.declared.template.Want.{Want}
 use Rattle.matching.specs.declared.template.Wanted.{Wanted}
 use Rattle.matching.specs.declared.template.Evaluated.{Evaluated}
@@ -63,7 +63,7 @@ module _ (n : ℕ) (c : Instruction) where
   unfolding pattern_at
   template_fielded ok = record {
     most = ok.most;
-    each = filled-each ok.patterns_ok (λ f e. e) zero_sound;
+    each = filled_each ok.patterns_ok (λ f e. e) zero_sound;
     past = λ i l h. pattern_zero _ ((ok.patterns_ok.holds i l).unused h);
   }
 
@@ -117,7 +117,7 @@ module _ (n : ℕ) (a : ℕ) (p : Process) (c : Instruction) (ok : Fielded n c) 
   all_wanted : Every (Wanting 4) past_wanted 4 (wants_of (address_of a) p c)
   unfolding wants_of zero_wanted
   all_wanted =
-      fold-keeps (λ j. Every (Wanting j) past_wanted 4) _ _ 4
+      fold_keeps (λ j. Every (Wanting j) past_wanted 4) _ _ 4
       (every_replicate _ past_wanted 4 past_wanted (λ i l. record { done = λ _ g. absurd (omega arith); left = λ _. refl }))
       (λ j ws l f. chosen_lt (Every (Wanting (suc j)) past_wanted 4) j c.count _ _
       (λ h. every_set j _ f
@@ -201,11 +201,11 @@ module _
             (rw (lowest_at i l, highest_at i l, field_in_law tw i l, want_in n a p c ok i l)
             (field_fits n a ws p few hosted r values (pattern_at c i) (get_or tw i 0) (ok.each i l) (there_at i l) (fields.fields i l)))
 
-        fits-past :
+        fits_past :
             (i : ℕ) → i < 4 → c.count ≤ i → (tuple_in tw).count ≡ c.count
             → fits_field (field_at (tuple_in tw) i) (want_at e i) ≡ true
         unfolding fits_field same_item same_reading zero_field field_at
-        fits-past i l h q =
+        fits_past i l h q =
             let w : want_at e i ≡ Want.Exactly (Item.Reading (ℤ.pos 0)) = want_in n a p c ok i l ∙ want_past n a p c ok i l h in
             let z : field_at (tuple_in tw) i ≡ Item.Reading (ℤ.pos 0) =
             ap (λ (f : Field). f.item) ((tuple_ok.fields_ok.holds i l).unused (omega arith)) in
@@ -216,4 +216,4 @@ module _
         fits_in_law =
             both_as (eqb (get_or tw 4 0) c.count) _ _ (λ same.
             all_same 4 _ _ (λ i l. within_in i l ∙ implied (ltb i c.count) _
-            (λ h. fits-past i l (ltb-false i c.count h) (eqb-true (get_or tw 4 0) c.count same))))
+            (λ h. fits_past i l (ltb-false i c.count h) (eqb-true (get_or tw 4 0) c.count same))))

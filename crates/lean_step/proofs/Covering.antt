@@ -9,7 +9,7 @@ use borrow.Author.Tests.{ltb-true}
 use Rattle.net.specs.Choice.{choose}
 use Rattle.net.specs.Records.{rights_at, row_at, row_for, all_rights, alike, zero_row, with_rights, with_rows}
 use Rattle.net.proofs.Every.{chosen}
-use Rattle.net.proofs.GroupLaws.{members-map}
+use Rattle.net.proofs.GroupLaws.{members_map}
 use Rattle.net.proofs.NodeLaws.{row_in_law}
 use Rattle.net.proofs.Past.{past_rights, past_row}
 use Rattle.keeping.specs.Keeping.{may_take, may_read, may_put, may_put_all, may_send, may_create, at_target, permits}
@@ -41,24 +41,24 @@ itself_covers r = record { take = λ l h. h; read = λ l h. h; put = λ l h. h; 
 
 -- so it permits what r permits
 module _ (r r' : Row) (a : Locality) (c : Covers r r') where
-  target-covers :
+  target_covers :
       (t : Target) (may may' : Locality → Bool) → ((l : Locality) → may l ≡ true → may' l ≡ true)
       → at_target t a may ≡ true → at_target t a may' ≡ true
   unfolding at_target
-  target-covers (Target.Written l) may may' f h = f l h
-  target-covers Target.Own may may' f h = f a h
-  target-covers (Target.Held v) may may' f h = refl
+  target_covers (Target.Written l) may may' f h = f l h
+  target_covers Target.Own may may' f h = f a h
+  target_covers (Target.Held v) may may' f h = refl
 
   pub permits_more : (x : Action) → permits r a x ≡ true → permits r' a x ≡ true
   unfolding permits may_put_all
   permits_more Action.Stop h = refl
-  permits_more (Action.Out t q) h = target-covers t _ _ c.put h
-  permits_more (Action.In t q) h = target-covers t _ _ c.take h
-  permits_more (Action.Read t q) h = target-covers t _ _ c.read h
-  permits_more (Action.Eval t sent q) h = target-covers t _ _ c.send h
+  permits_more (Action.Out t q) h = target_covers t _ _ c.put h
+  permits_more (Action.In t q) h = target_covers t _ _ c.take h
+  permits_more (Action.Read t q) h = target_covers t _ _ c.read h
+  permits_more (Action.Eval t sent q) h = target_covers t _ _ c.send h
   permits_more (Action.New v q) h = c.create h
   permits_more (Action.Fork q q') h = refl
-  permits_more (Action.OutAll g q) h = members-map g _ _ c.put h
+  permits_more (Action.OutAll g q) h = members_map g _ _ c.put h
 
 -- ---- a row with every right on an address besides
 module _ (r : Row) (l : Locality) where
@@ -100,11 +100,11 @@ module _ (f n : ℕ) (x : Node) (ok : RowsOk f n x.rows) (p : Process) (l : Loca
       (itself_covers here))
 
 -- ---- the row by which a process is judged, at a node with other rows
-pub row-covers :
+pub row_covers :
     (x : Node) (rows : List Row) (p : Process) → ((o : ℕ) → o < 16 → Covers (get_or x.rows o past_row) (get_or rows o past_row))
     → Covers (row_for x p) (row_for (with_rows x rows) p)
 unfolding row_for row_at with_rows choose
-row-covers x rows p f =
+row_covers x rows p f =
     go (ltb p.origin.0 16) (λ e. f p.origin.0 (ltb-true p.origin.0 16 e))
   where
     go : (b : Bool) → (b ≡ true → Covers (get_or x.rows p.origin.0 past_row) (get_or rows p.origin.0 past_row))

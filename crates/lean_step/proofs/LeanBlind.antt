@@ -26,18 +26,18 @@ use Rattle.lean_step.specs.LeanBlind.{NoneHeld, LeanBlind}
 
 -- ---- two answers
 module _ (x y x' y' : Picked) where
-  chosen-answer :
+  chosen_answer :
       (b : Bool) → (b ≡ true → x.answer ≡ x'.answer) → (b ≡ false → y.answer ≡ y'.answer)
       → (choose b x y).answer ≡ (choose b x' y').answer
   unfolding choose
-  chosen-answer true f g = f refl
-  chosen-answer false f g = g refl
+  chosen_answer true f g = f refl
+  chosen_answer false f g = g refl
 
   -- by tests that are the same
-  tested-answer :
+  tested_answer :
       (b c : Bool) → b ≡ c → (b ≡ true → x.answer ≡ x'.answer) → (b ≡ false → y.answer ≡ y'.answer)
       → (choose b x y).answer ≡ (choose c x' y').answer
-  tested-answer b c e f g = chosen-answer b f g ∙ ap (λ (d : Bool). (choose d x' y').answer) e
+  tested_answer b c e f g = chosen_answer b f g ∙ ap (λ (d : Bool). (choose d x' y').answer) e
 
 refused_answer : (x : Answer) (s t : Net) → (unchanged x s).answer ≡ (unchanged x t).answer
 unfolding unchanged
@@ -69,9 +69,9 @@ module _ (s t : Net) (alike : NetButRows s t) (a : Locality) (k : ℕ) (p : Proc
   in_same l q (Found.At i) r r' = performed_answer _ _
   in_same l q Found.Nothing r r' = refused_answer _ _ _
 
-  in-answer :
+  in_answer :
       (l : Locality) (q : Place) (f g : Found) (r r' : Process) → f ≡ g → (in_found s a k l q f r).answer ≡ (in_found t a k l q g r').answer
-  in-answer l q f g r r' e = in_same l q f r r' ∙ ap (λ (i : Found). (in_found t a k l q i r').answer) e
+  in_answer l q f g r r' e = in_same l q f r r' ∙ ap (λ (i : Found). (in_found t a k l q i r').answer) e
 
   read_same : (q : Place) (f : Found) (r r' : Process) → (read_found s a k q f r).answer ≡ (read_found t a k q f r').answer
   unfolding read_found
@@ -82,18 +82,18 @@ module _ (s t : Net) (alike : NetButRows s t) (a : Locality) (k : ℕ) (p : Proc
       (q : Place) (f g : Found) (r r' : Process) → f ≡ g → (read_found s a k q f r).answer ≡ (read_found t a k q g r').answer
   read_answer q f g r r' e = read_same q f r r' ∙ ap (λ (i : Found). (read_found t a k q i r').answer) e
 
-  started-answer :
+  started_answer :
       (l : Locality) (copy : Process) (q : Place) (j : Slot) → (started_in s a k l p copy q j).answer ≡ (started_in t a k l p copy q j).answer
   unfolding started_in
-  started-answer l copy q (Slot.Number j) = performed_answer _ _
-  started-answer l copy q Slot.Full = refused_answer _ _ _
+  started_answer l copy q (Slot.Number j) = performed_answer _ _
+  started_answer l copy q Slot.Full = refused_answer _ _ _
 
   -- in the lowest free slot of each
-  start-answer :
+  start_answer :
       (l : Locality) (copy : Process) (q : Place)
       → (started_in s a k l p copy q (free_slot (node_at s l))).answer ≡ (started_in t a k l p copy q (free_slot (node_at t l))).answer
-  start-answer l copy q =
-      started-answer l copy q (free_slot (node_at s l))
+  start_answer l copy q =
+      started_answer l copy q (free_slot (node_at s l))
       ∙ ap (λ (j : Slot). (started_in t a k l p copy q j).answer) (slot_same _ _ (alike.nodes l))
 
   -- at an eval the target's row for the host is the same
@@ -118,48 +118,48 @@ module _ (s t : Net) (alike : NetButRows s t) (a : Locality) (k : ℕ) (p : Proc
   done_answer e Request.Lack h = refused_answer _ _ _
   done_answer e Request.Stop h = refl
   done_answer e (Request.Out l q) h =
-      tested-answer _ _ _ _ _ _ (ap (λ (n : ℕ). ltb n 16) (alike.nodes l).stored) (λ _. performed_answer _ _)
+      tested_answer _ _ _ _ _ _ (ap (λ (n : ℕ). ltb n 16) (alike.nodes l).stored) (λ _. performed_answer _ _)
       (λ _. refused_answer _ _ _)
   done_answer e (Request.In l q) h =
-      in-answer l q _ _ _ _ (found_same _ _ (alike.nodes l) p e)
+      in_answer l q _ _ _ _ (found_same _ _ (alike.nodes l) p e)
   done_answer e (Request.Read l q) h =
       read_answer q _ _ _ _ (found_same _ _ (alike.nodes l) p e)
   done_answer e (Request.Eval l sent q) h =
-      tested-answer _ _ _ _ _ _
+      tested_answer _ _ _ _ _ _
       (ap₂ (λ (code : List Instruction) (row : Row). keeps_of code sent l row) alike.code (sent_row l sent h))
-      (λ _. start-answer l _ q) (λ _. refused_answer _ _ _)
+      (λ _. start_answer l _ q) (λ _. refused_answer _ _ _)
   done_answer e (Request.New v q) h =
-      tested-answer _ _ _ _ _ _ (ap (λ (n : ℕ). ltb n 16) alike.addresses) (λ _. performed_answer _ _) (λ _. refused_answer _ _ _)
-  done_answer e (Request.Fork q r) h = start-answer a _ q
+      tested_answer _ _ _ _ _ _ (ap (λ (n : ℕ). ltb n 16) alike.addresses) (λ _. performed_answer _ _) (λ _. refused_answer _ _ _)
+  done_answer e (Request.Fork q r) h = start_answer a _ q
   done_answer e (Request.OutAll g q) h =
-      tested-answer _ _ _ _ _ _ (room_same g s t (λ l _. (alike.nodes l).stored)) (λ _. performed_answer _ _)
+      tested_answer _ _ _ _ _ _ (room_same g s t (λ l _. (alike.nodes l).stored)) (λ _. performed_answer _ _)
       (λ _. refused_answer _ _ _)
 
   -- what is asked
-  at-admits :
+  at_admits :
       (f : Locality → Request) (aim : Aim) → ((l : Locality) → aim ≡ Aim.At l → AdmitsAlike (f l)) → AdmitsAlike (at aim f)
   unfolding at AdmitsAlike
-  at-admits f (Aim.At l) h = h l refl
-  at-admits f Aim.Nowhere h = tt
+  at_admits f (Aim.At l) h = h l refl
+  at_admits f Aim.Nowhere h = tt
 
   told_admits : (e : Evaluated) (r : Request) → AdmitsAlike r → AdmitsAlike (choose e.defined r Request.Lack)
   unfolding AdmitsAlike
   told_admits e r h = chosen AdmitsAlike e.defined _ _ (λ _. h) (λ _. tt)
 
-  asked-admits :
+  asked_admits :
       (e : Evaluated) (x : Action)
       → ((target : Target) (sent q : Place) (l : Locality) → x ≡ Action.Eval target sent q → target_of a p target ≡ Aim.At l
       → row_at (node_at s l) a ≡ row_at (node_at t l) a)
       → AdmitsAlike (asked a p e x)
   unfolding asked spoken AdmitsAlike
-  asked-admits e Action.Stop h = tt
-  asked-admits e (Action.Out u q) h = told_admits e _ (at-admits _ _ (λ l _. tt))
-  asked-admits e (Action.In u q) h = told_admits e _ (at-admits _ _ (λ l _. tt))
-  asked-admits e (Action.Read u q) h = told_admits e _ (at-admits _ _ (λ l _. tt))
-  asked-admits e (Action.Eval u sent q) h = at-admits _ _ (λ l. h u sent q l refl)
-  asked-admits e (Action.New v q) h = tt
-  asked-admits e (Action.Fork q r) h = tt
-  asked-admits e (Action.OutAll g q) h = told_admits e _ tt
+  asked_admits e Action.Stop h = tt
+  asked_admits e (Action.Out u q) h = told_admits e _ (at_admits _ _ (λ l _. tt))
+  asked_admits e (Action.In u q) h = told_admits e _ (at_admits _ _ (λ l _. tt))
+  asked_admits e (Action.Read u q) h = told_admits e _ (at_admits _ _ (λ l _. tt))
+  asked_admits e (Action.Eval u sent q) h = at_admits _ _ (λ l. h u sent q l refl)
+  asked_admits e (Action.New v q) h = tt
+  asked_admits e (Action.Fork q r) h = tt
+  asked_admits e (Action.OutAll g q) h = told_admits e _ tt
 
 -- ---- an action that has no target in a variable
 action_free : (x : Action) → ((v : ℕ) → Aims (Target.Held v) x → ⊥) → at_variable x ≡ false
@@ -193,32 +193,32 @@ module _ (s t : Net) (b : ℕ) (alike : NetButRows s t) (none : NoneHeld s t b) 
   c = instruction_at s.code (named s b).at
 
   -- the same process at the same instruction
-  met-answer :
+  met_answer :
       Meets s b c.action → (lean_process_step s a k (named s b) c).answer ≡ (lean_process_step t a k (named s b) c).answer
   unfolding a c lean_process_step lean_acting request_of
-  met-answer m =
+  met_answer m =
       let free : at_variable c.action ≡ false = action_free c.action (λ v. none.unheld c.action v m) in
-      let admits = asked-admits s t alike a k (named s b) (evaluated_of a (named s b) c) c.action
+      let admits = asked_admits s t alike a k (named s b) (evaluated_of a (named s b) c) c.action
       (λ target sent q l e. none.admitting target sent q l (subst (Meets s b) e m)) in
       ap (λ (r : Picked). r.answer) (choose_false _ _ _ free)
       ∙ done_answer s t alike a k (named s b) _ _ admits
       ∙ sym (ap (λ (r : Picked). r.answer) (choose_false _ _ _ free))
 
-  slot-answer :
+  slot_answer :
       spare_of b ≡ 0 → (host_of b).0 < s.addresses → (lean_slot_step s (host_of b) (slot_of b)).answer ≡ (lean_slot_step t (host_of b) (slot_of b)).answer
   unfolding a k c lean_slot_step named
-  slot-answer formed used =
+  slot_answer formed used =
       let same : named s b ≡ named t b = process_same _ _ (alike.nodes (host_of b)) (slot_of b) in
-      tested-answer _ _ _ _ _ _ (ap (λ (r : Process). r.busy) same)
+      tested_answer _ _ _ _ _ _ (ap (λ (r : Process). r.busy) same)
       (λ busy.
-      met-answer (record { formed = formed; used = used; busy = busy; acts = refl })
+      met_answer (record { formed = formed; used = used; busy = busy; acts = refl })
       ∙ ap₂ (λ (code : List Instruction) (r : Process). (lean_process_step t a k r (instruction_at code r.at)).answer) alike.code same)
       (λ _. refused_answer _ _ _)
 
 pub lean_blind : LeanBlind
 unfolding LeanBlind lean_step_of
 lean_blind s t b alike none =
-    chosen-answer _ _ _ _ (eqb (spare_of b) 0)
-    (λ formed. tested-answer _ _ _ _ _ _ (ap (λ (n : ℕ). ltb (host_of b).0 n) alike.addresses)
-    (λ used. slot-answer s t b alike none (eqb-true _ _ formed) (ltb-true _ _ used)) (λ _. refused_answer _ _ _))
+    chosen_answer _ _ _ _ (eqb (spare_of b) 0)
+    (λ formed. tested_answer _ _ _ _ _ _ (ap (λ (n : ℕ). ltb (host_of b).0 n) alike.addresses)
+    (λ used. slot_answer s t b alike none (eqb-true _ _ formed) (ltb-true _ _ used)) (λ _. refused_answer _ _ _))
     (λ _. refused_answer _ _ _)

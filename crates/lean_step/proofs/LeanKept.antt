@@ -17,12 +17,12 @@ use Rattle.step.proofs.SoundKept.{Kept, same_kept, done_kept, slot_below}
 use Rattle.lean_step.specs.Types.{Locality, Process, Instruction, Net}
 use Rattle.lean_step.specs.LeanStep.{lean_acting, lean_process_step, lean_slot_step, lean_step_of}
 
-acting-kept :
+acting_kept :
     (s : Net) → NetOk s → (a : Locality) (k : ℕ) (p : Process) (c : Instruction) → a.0 < s.addresses
     → Running s.addresses s.length p → InstructionOk s.format s.addresses s.length c
     → Kept (lean_process_step s a k p c)
 unfolding lean_process_step lean_acting acting
-acting-kept s ok a k p c hosted running h =
+acting_kept s ok a k p c hosted running h =
     let kept = done_kept s ok a k hosted p running _ _ (request_ok s.format s.addresses s.length a p c hosted running h) in
     chosen Kept _ _ _ (λ _. chosen Kept _ _ _ (λ _. kept) (λ _. same_kept s _ ok)) (λ _. kept)
 
@@ -35,12 +35,12 @@ step_kept s b ok =
     (λ busy.
     let Node-Ok = node_at_law s ok (host_of b) hosted in
     let running = (Node-Ok.processes_ok.holds (slot_of b) (slot_below b)).running busy in
-    acting-kept s ok (host_of b) (slot_of b) _ _ hosted running (instruction_at_law s ok _ running.place))
+    acting_kept s ok (host_of b) (slot_of b) _ _ hosted running (instruction_at_law s ok _ running.place))
     (λ _. same_kept s _ ok)) (λ _. same_kept s _ ok)) (λ _. same_kept s _ ok)
 
-pub lean-sound-kept :
+pub lean_sound_kept :
     (s : Net) (b : ℕ) → Shaped s → sound_of s ≡ true
     → (sound_of (lean_step_of s b).net ≡ true) × Shaped (lean_step_of s b).net
-lean-sound-kept s b shaped sound =
+lean_sound_kept s b shaped sound =
     let ok = (step_kept s b (sound_apart s shaped sound)).net_ok in
     (net_sound _ ok, net_shaped _ _ _ _ ok)

@@ -21,29 +21,29 @@ use Rattle.lean_step.proofs.Settled.{settled_within, settled_stays}
 
 -- ---- the right of an action that is permitted, and whose target is in no variable
 module _ (row : Row) (a : Locality) (p : Process) (e : Evaluated) where
-  at-granted :
+  at_granted :
       (t : Target) (may : Locality → Bool) (f : Locality → Request) → ((l : Locality) → granted row (f l) ≡ may l)
       → in_variable t ≡ false → at_target t a may ≡ true → granted row (at (target_of a p t) f) ≡ true
   unfolding in_variable at_target target_of at
-  at-granted (Target.Written l) may f g v h = g l ∙ h
-  at-granted Target.Own may f g v h = g a ∙ h
-  at-granted (Target.Held w) may f g v h = never (sym v)
+  at_granted (Target.Written l) may f g v h = g l ∙ h
+  at_granted Target.Own may f g v h = g a ∙ h
+  at_granted (Target.Held w) may f g v h = never (sym v)
 
-  spoken-granted :
+  spoken_granted :
       (t : Target) (may : Locality → Bool) (f : Locality → Request) → ((l : Locality) → granted row (f l) ≡ may l)
       → in_variable t ≡ false → at_target t a may ≡ true → granted row (spoken e (target_of a p t) f) ≡ true
   unfolding spoken granted
-  spoken-granted t may f g v h =
-      chosen (λ r. granted row r ≡ true) e.defined _ _ (λ _. at-granted t may f g v h) (λ _. refl)
+  spoken_granted t may f g v h =
+      chosen (λ r. granted row r ≡ true) e.defined _ _ (λ _. at_granted t may f g v h) (λ _. refl)
 
   -- the fact by which the lean step is the step
   right_settled : (x : Action) → at_variable x ≡ false → permits row a x ≡ true → granted row (asked a p e x) ≡ true
   unfolding at_variable permits asked granted may_put_all
   right_settled Action.Stop v h = refl
-  right_settled (Action.Out t q) v h = spoken-granted t _ _ (λ l. refl) v h
-  right_settled (Action.In t q) v h = spoken-granted t _ _ (λ l. refl) v h
-  right_settled (Action.Read t q) v h = spoken-granted t _ _ (λ l. refl) v h
-  right_settled (Action.Eval t sent q) v h = at-granted t _ _ (λ l. refl) v h
+  right_settled (Action.Out t q) v h = spoken_granted t _ _ (λ l. refl) v h
+  right_settled (Action.In t q) v h = spoken_granted t _ _ (λ l. refl) v h
+  right_settled (Action.Read t q) v h = spoken_granted t _ _ (λ l. refl) v h
+  right_settled (Action.Eval t sent q) v h = at_granted t _ _ (λ l. refl) v h
   right_settled (Action.New u q) v h = h
   right_settled (Action.Fork q r) v h = refl
   right_settled (Action.OutAll g q) v h = chosen (λ r. granted row r ≡ true) e.defined _ _ (λ _. h) (λ _. refl)

@@ -30,7 +30,7 @@ use Rattle.lean_step.specs.Types.{Answer, Aim, Request, Picked}
 use Rattle.lean_step.specs.Settled.{Settled, SettledStays}
 use Rattle.lean_step.proofs.Covering.{creator_covers}
 use Rattle.lean_step.proofs.Within.{Keeps, Within, free_keeps, keeps_on, process_within, rows_within, new_within}
-use Rattle.lean_step.proofs.Within.{node_within, opened_within, host-within, hosts-within, added_within, added_all_within, taken_within}
+use Rattle.lean_step.proofs.Within.{node_within, opened_within, host_within, hosts_within, added_within, added_all_within, taken_within}
 use Rattle.lean_step.proofs.Within.{admitted_within, within_admitted}
 
 -- ---- each place at which a request goes on follows the action x
@@ -50,18 +50,18 @@ unfolding Onward at
 at_onward x f h (Aim.At l) = h l
 at_onward x f h Aim.Nowhere = tt
 
-spoken-onward :
+spoken_onward :
     (x : Action) (f : Locality → Request) → ((l : Locality) → Onward x (f l)) → (e : Evaluated) (aim : Aim)
     → Onward x (spoken e aim f)
 unfolding Onward spoken
-spoken-onward x f h e aim = chosen (Onward x) e.defined _ _ (λ _. at_onward x f h aim) (λ _. tt)
+spoken_onward x f h e aim = chosen (Onward x) e.defined _ _ (λ _. at_onward x f h aim) (λ _. tt)
 
 asked_onward : (a : Locality) (p : Process) (e : Evaluated) (x : Action) → Onward x (asked a p e x)
 unfolding Onward asked
 asked_onward a p e Action.Stop = tt
-asked_onward a p e (Action.Out t q) = spoken-onward _ _ (λ l. out_next) e _
-asked_onward a p e (Action.In t q) = spoken-onward _ _ (λ l. in_next) e _
-asked_onward a p e (Action.Read t q) = spoken-onward _ _ (λ l. read_next) e _
+asked_onward a p e (Action.Out t q) = spoken_onward _ _ (λ l. out_next) e _
+asked_onward a p e (Action.In t q) = spoken_onward _ _ (λ l. in_next) e _
+asked_onward a p e (Action.Read t q) = spoken_onward _ _ (λ l. read_next) e _
 asked_onward a p e (Action.Eval t sent q) = at_onward _ _ (λ l. eval_next) _
 asked_onward a p e (Action.New v q) = new_next
 asked_onward a p e (Action.Fork q r) = (fork_first, fork_second)
@@ -93,11 +93,11 @@ module _
     moved_keeps r q origin h = keeps_on s.code a (node_at s a) p _ (λ _. running.is_busy) origin h keeps
 
     move_within : (r : Process) (q : Place) → r.origin ≡ p.origin → Follows q here → Within (with_host s a k (moved_to r q))
-    move_within r q origin h = host-within s w a k _ (moved_keeps r q origin h)
+    move_within r q origin h = host_within s w a k _ (moved_keeps r q origin h)
 
     stopped_kept : Kept (stopped s a k)
     unfolding stopped free_process
-    stopped_kept = record { net_within = host-within s w a k free_process (free_keeps s.code a _ _ refl) }
+    stopped_kept = record { net_within = host_within s w a k free_process (free_keeps s.code a _ _ refl) }
 
     out_kept : (l : Locality) (q : Place) (t : Tuple) → Follows q here → Kept (out s a k p l q t)
     unfolding out
@@ -137,14 +137,14 @@ module _
         → Kept (started_in s a k l p copy q j)
     unfolding started_in
     started_kept l q copy next h (Slot.Number j) =
-        performed_kept _ (hosts-within s w a k _ (moved_keeps p q refl next) l j copy h)
+        performed_kept _ (hosts_within s w a k _ (moved_keeps p q refl next) l j copy h)
     started_kept l q copy next h Slot.Full = same_kept s _ w
 
     -- the test on arrival says just that the sent code keeps within its row
-    sent-keeps :
+    sent_keeps :
         (l : Locality) (r : Process) → keeps_of s.code r.at l (row_for (node_at s l) r) ≡ true → Keeps s.code l (node_at s l) r
     unfolding KeepsIsEvery
-    sent-keeps l r h = record {
+    sent_keeps l r h = record {
       permitted = λ b. (keeps_is_every s.code (omega (arith, ok.code_ok.size_is)) r.at l (row_for (node_at s l) r)).0 h;
     }
 
@@ -171,7 +171,7 @@ module _
     done_kept e (Request.In l q) h o = in_kept l q e h.0 o _ refl
     done_kept e (Request.Read l q) h o = read_kept l q e h.0 o _ refl
     done_kept e (Request.Eval l sent q) h o =
-        chosen Kept _ _ _ (λ within. started_kept l q _ o (sent-keeps l _ within) _) (λ _. same_kept s _ w)
+        chosen Kept _ _ _ (λ within. started_kept l q _ o (sent_keeps l _ within) _) (λ _. same_kept s _ w)
     done_kept e (Request.New v q) h o =
         chosen Kept _ _ _ (λ _. performed_kept _ (created_within v q o)) (λ _. same_kept s _ w)
     done_kept e (Request.Fork q r) h o =

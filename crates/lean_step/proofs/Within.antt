@@ -25,7 +25,7 @@ use Rattle.step.specs.Pick.{with_host, added, added_all, taken, opened}
 use Rattle.step.proofs.EachMember.{all_kept}
 use Rattle.step.proofs.Stores.{rows_same}
 use Rattle.lean_step.specs.Types.{Locality, Place, Group, Tuple, Row, Process, Node, Instruction, Net}
-use Rattle.lean_step.proofs.Covering.{at_set, Covers, permits_more, row-covers}
+use Rattle.lean_step.proofs.Covering.{at_set, Covers, permits_more, row_covers}
 
 -- ---- what is kept
 
@@ -99,7 +99,7 @@ module _ (code : List Instruction) (a : Locality) (x : Node) (w : NodeWithin cod
   unfolding with_rows process_at
   rows_within rows f = record {
     each = λ i. record {
-      permitted = λ b q m. permits_more _ _ a (row-covers x rows (process_at x i) f) _ ((w.each i).permitted b q m);
+      permitted = λ b q m. permits_more _ _ a (row_covers x rows (process_at x i) f) _ ((w.each i).permitted b q m);
     };
   }
 
@@ -130,18 +130,18 @@ pub opened_within : (s : Net) → Within s → Within (opened s)
 unfolding opened with_counts node_at
 opened_within s w = record { at_each = w.at_each }
 
-pub host-within :
+pub host_within :
     (s : Net) → Within s → (a : Locality) (k : ℕ) (p : Process) → Keeps s.code a (node_at s a) p → Within (with_host s a k p)
 unfolding with_host
-host-within s w a k p h = node_within s w a _ (process_within s.code a (node_at s a) (w.at_each a) k p h)
+host_within s w a k p h = node_within s w a _ (process_within s.code a (node_at s a) (w.at_each a) k p h)
 
 -- a process at the host, and another elsewhere
-pub hosts-within :
+pub hosts_within :
     (s : Net) → Within s → (a : Locality) (k : ℕ) (p : Process) → Keeps s.code a (node_at s a) p
     → (l : Locality) (j : ℕ) (r : Process) → Keeps s.code l (node_at s l) r → Within (with_host (with_host s a k p) l j r)
 unfolding with_host with_node
-hosts-within s w a k p h l j r g =
-    host-within (with_host s a k p) (host-within s w a k p h) l j r (keeps_at s.code l _ _ r (sym (rows_same s a l k p)) g)
+hosts_within s w a k p h l j r g =
+    host_within (with_host s a k p) (host_within s w a k p h) l j r (keeps_at s.code l _ _ r (sym (rows_same s a l k p)) g)
 
 pub added_within : (s : Net) → Within s → (l : Locality) (t : Tuple) → Within (added s l t)
 unfolding added

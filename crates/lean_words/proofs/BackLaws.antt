@@ -101,10 +101,10 @@ unfolding process_in free_words
 free_back = choose_false _ _ _ (le-ltb 512 512 (omega arith))
 
 module _ (n k : ℕ) (few : n ≤ 256) (short : k ≤ 512) (p : Process) where
-  running-back :
+  running_back :
       Running n k p → ((v : ℕ) → v < 8 → value_word (variable_at p v) < 4294967553) → process_in (busy_words p) ≡ p
   unfolding process_in busy_in variable_at variable_in
-  running-back ok fit =
+  running_back ok fit =
       let here : p.at.0 < 512 = omega (arith, ok.place) in
       let place : p.at.0 % 512 ≡ p.at.0 = omega arith in
       choose_true _ _ _ (lt-ltb (get_or (busy_words p) 8 0) 512 (rw (place_word p) here))
@@ -119,13 +119,13 @@ module _ (n k : ℕ) (few : n ≤ 256) (short : k ≤ 512) (p : Process) where
             (ap value_in (variable_word p v h) ∙ value_back n few (variable_at p v) (ok.values.holds v h) (fit v h))) d;
       })
 
-  pub process-back :
+  pub process_back :
       ProcessOk n k p → ((v : ℕ) → v < 8 → value_word (variable_at p v) < 4294967553) → process_in (process_words p) ≡ p
   unfolding process_words
-  process-back ok fit = go p.busy refl
+  process_back ok fit = go p.busy refl
     where
       go : (b : Bool) → p.busy ≡ b → process_in (process_words p) ≡ p
-      go true e = ap process_in (choose_true _ _ _ e) ∙ running-back (ok.running e) fit
+      go true e = ap process_in (choose_true _ _ _ e) ∙ running_back (ok.running e) fit
       go false e = ap process_in (choose_false _ _ _ e) ∙ free_back ∙ sym (ok.free e)
 
 -- ---- the words of a tuple
@@ -154,13 +154,13 @@ module _ (t : Tuple) where
   unfolding tuple_words
   mark_word = get_or-set_same (set items 4 t.count) 5 _ 0 (omega (arith, length-set items 4 t.count, room))
 
-  pub tuple-back :
+  pub tuple_back :
       (n : ℕ) → n ≤ 256 → length t.fields ≡ 4 → t.mark.0 < 256
       → ((i : ℕ) → i < 4 → item_sound n (field_at t i) ≡ true)
       → ((i : ℕ) → i < 4 → item_word (field_at t i) < 4294967553)
       → tuple_in (tuple_words t) ≡ t
   unfolding tuple_in field_in field_at
-  tuple-back n few size low sound fit = λ d. record {
+  tuple_back n few size low sound fit = λ d. record {
     count = count_word d;
     fields =
         filled_whole past_field 4 (field_in (tuple_words t)) (replicate 4 zero_field) (length-replicate 4 zero_field) t.fields size

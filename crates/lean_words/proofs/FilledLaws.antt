@@ -56,17 +56,17 @@ module _ {A : Type 0} (d : A) (n : ℕ) (f : ℕ → A) (start : List A) (size :
       ext_get_or d _ xs (length_filled f start n ∙ size ∙ sym e)
       (λ i h. let l : i < n = omega (arith, length_filled f start n) in filled_at f start d n i l (omega arith) ∙ same i l)
 
-  pub filled-same :
+  pub filled_same :
       (g : ℕ → A) (other : List A) → length other ≡ n → ((i : ℕ) → i < n → f i ≡ g i) → filled n f start ≡ filled n g other
-  filled-same g other e same =
+  filled_same g other e same =
       filled_whole (filled n g other) (length_filled g other n ∙ e)
       (λ i h. same i h ∙ sym (filled_at g other d n i h (omega arith)))
 
   -- one place anew, and every other as it was
-  pub filled-set :
+  pub filled_set :
       (g : ℕ → A) (k : ℕ) (x : A) → ((i : ℕ) → i < n → i ≢ k → f i ≡ g i) → (k < n → f k ≡ x)
       → filled n f start ≡ set (filled n g start) k x
-  filled-set g k x same here =
+  filled_set g k x same here =
       filled_whole (set (filled n g start) k x) (length-set (filled n g start) k x ∙ length_filled g start n ∙ size)
       (λ i h. go i h (ℕ_discrete i k))
     where

@@ -13,7 +13,7 @@ use mir.Syntax.{w32, w64}
 use mir.Val.{Fits, SFits, to_z, of_z}
 use mir.Facts.{to_z-of_z, Fits-32_64}
 use Rattle.net.proofs.Laws.{if_true, if_false}
-use Rattle.text.proofs.SignedLaws.{cast_up, cast-above, magnitude_below, low_is, high_is, high_fits}
+use Rattle.text.proofs.SignedLaws.{cast_up, cast_above, magnitude_below, low_is, high_is, high_fits}
 use Rattle.lean_words.specs.Items.{reading_word, reading_in, address_in, item_word, item_in, value_word, value_in}
 use Rattle.lean_words.specs.Types.{Locality, Item, Value}
 
@@ -52,13 +52,13 @@ module _ (x : ℤ) (s : SFits w32 x) (h : le_z (pos 0) (to_z w32 (of_z w32 x)) �
   rest = nat_abs (to_z w32 (of_z w32 (negsuc 0 -ℤ to_z w32 (of_z w32 x))))
 
   pub down_cast : T (non_neg (to_z w32 (of_z w32 (negsuc 0 -ℤ to_z w32 (of_z w32 x))))) × Fits w64 rest
-  down_cast = ((cast-above x s h).0, Fits-32_64 (cast-above x s h).1)
+  down_cast = ((cast_above x s h).0, Fits-32_64 (cast_above x s h).1)
 
   pub down_doubled : Fits w64 (2 * rest)
-  down_doubled = doubled_only _ (cast-above x s h).1
+  down_doubled = doubled_only _ (cast_above x s h).1
 
   pub down_fits : Fits w64 (2 * rest + 258)
-  down_fits = doubled _ 258 (cast-above x s h).1 (omega arith)
+  down_fits = doubled _ 258 (cast_above x s h).1 (omega arith)
 
   pub down_is : 2 * rest + 258 ≡ reading_word x
   down_is = below_nought x _ (rw (to_z-of_z s) at h) (magnitude_below x s h)
@@ -78,10 +78,10 @@ module _ (v : ℕ) where
   unfolding reading_in
   even_reading w e h = rw (← e) (if_true _ _ _ _ (eq-eqb _ 0 h) (low_is (v / 2 % 2147483648) (omega arith)))
 
-  pub odd-reading :
+  pub odd_reading :
       (w : ℕ) → v ≡ w - 257 → (v % 2 ≡ 0 → ⊥) → to_z w32 (of_z w32 (negsuc 0 -ℤ to_z w32 (v / 2 % 2147483648))) ≡ reading_in w
   unfolding reading_in
-  odd-reading w e h = rw (← e) (if_false _ _ _ _ (ne_eqb _ 0 h) (to_z-of_z odd_fits ∙ odd_is))
+  odd_reading w e h = rw (← e) (if_false _ _ _ _ (ne_eqb _ 0 h) (to_z-of_z odd_fits ∙ odd_is))
 
 -- ---- items and values: a reading that an arm has taken out
 module _ (z : ℤ) (s : SFits w32 z) (r : ℕ) (q : r ≡ reading_word (to_z w32 (of_z w32 z))) where

@@ -12,11 +12,11 @@ use Rattle.lean_words.specs.Processes.{busy_words, variable_in, busy_in}
 use Rattle.lean_words.specs.Types.{Locality, Value, Process}
 use Rattle.lean_words.proofs.FilledLaws.{filled_none, filled_more, filled_end}
 
-pub words-busy :
+pub words_busy :
     (p : Process) (ws : List ℕ) (v : ℕ) → ws ≡ filled v (λ i. value_word (variable_at p i)) (replicate 16 0) → v ≤ 8 → 8 ≤ v
     → set (set ws 8 p.at.0) 9 p.origin.0 ≡ busy_words p
 unfolding busy_words
-words-busy p ws v e l h = ap (λ (xs : List ℕ). set (set xs 8 p.at.0) 9 p.origin.0) (filled_end _ _ v 8 ws e l h)
+words_busy p ws v e l h = ap (λ (xs : List ℕ). set (set xs 8 p.at.0) 9 p.origin.0) (filled_end _ _ v 8 ws e l h)
 
 -- the process that has these words, while its variables are put in: v of them stand
 pub record Setting (ws : List ℕ) (p : Process) (v : ℕ) : Type 0 where
@@ -27,11 +27,11 @@ pub record Setting (ws : List ℕ) (p : Process) (v : ℕ) : Type 0 where
   pub variables : p.variables ≡ filled v (variable_in ws) (replicate 8 unset_variable)
 
 module _ (ws : List ℕ) where
-  pub setting-none :
+  pub setting_none :
       (p : Process) (l : Locality) (at : ℕ) → l ≡ address_in (get_or ws 9 0) → at ≡ get_or ws 8 0 % 512 → p ≡ starting_at l (place_of at)
       → Setting ws p 0
   unfolding starting_at
-  setting-none p l at h g e = record {
+  setting_none p l at h g e = record {
     low = omega arith;
     busy = ap (λ (q : Process). q.busy) e;
     place = rw (e, g);
@@ -39,11 +39,11 @@ module _ (ws : List ℕ) where
     variables = filled_none _ _ _ (ap (λ (q : Process). q.variables) e);
   }
 
-  pub setting-more :
+  pub setting_more :
       (p : Process) (v : ℕ) (x : Value) → Setting ws p v → v < 8 → x ≡ value_in (get_or ws v 0)
       → Setting ws (record { busy = p.busy; at = p.at; origin = p.origin; variables = set p.variables v (record { value = x }) }) (v + 1)
   unfolding variable_in
-  setting-more p v x h l e = record {
+  setting_more p v x h l e = record {
     low = omega arith;
     busy = h.busy;
     place = h.place;

@@ -16,22 +16,22 @@ use Rattle.lean_words.specs.Types.{Rights, Row}
 use Rattle.lean_words.proofs.FilledLaws.{filled_none, filled_end}
 
 -- ---- rows
-pub flags-row :
+pub flags_row :
     (r : Row) (fs : List Bool) (l : ℕ) → fs ≡ fold l (λ m gs. with_flags gs m (rights_at r (address_of m))) (replicate 65 false)
     → l ≤ 16 → 16 ≤ l → set fs 64 r.create ≡ row_flags r
 unfolding row_flags
-flags-row r fs l e h g = ap (λ (gs : List Bool). set gs 64 r.create) (fold_end _ _ l 16 fs e h g)
+flags_row r fs l e h g = ap (λ (gs : List Bool). set gs 64 r.create) (fold_end _ _ l 16 fs e h g)
 
 module _ (fs : List Bool) where
   pub rights_none : (r : Row) → r ≡ zero_row → r.rights ≡ filled 0 (rights_in fs) (replicate 16 no_rights)
   unfolding zero_row
   rights_none r e = filled_none _ _ _ (ap (λ (q : Row). q.rights) e)
 
-  pub row-parts :
+  pub row_parts :
       (xs : List Rights) (l : ℕ) → xs ≡ filled l (rights_in fs) (replicate 16 no_rights) → l ≤ 16 → 16 ≤ l
       → ◌≡◌ {A = Row} (record { create = get_or fs 64 false; rights = xs }) (row_in fs)
   unfolding row_in
-  row-parts xs l e h g = λ d. record { create = get_or fs 64 false; rights = filled_end _ _ l 16 xs e h g d }
+  row_parts xs l e h g = λ d. record { create = get_or fs 64 false; rights = filled_end _ _ l 16 xs e h g d }
 
 -- ---- tests
 or_choose : (a b : Bool) → (a || b) ≡ choose a true b
@@ -53,21 +53,21 @@ granted false true true = refl
 granted false true false = refl
 granted false false y = refl
 
-pub covered-is :
+pub covered_is :
     (a b c d e f g h : Bool)
     → (((not a || e) && (not b || (e || f))) && ((not c || g) && (not d || h)))
     ≡ covered (record { take = a; read = b; put = c; send = d }) (record { take = e; read = f; put = g; send = h })
 unfolding covered
-covered-is a b c d e f g h =
+covered_is a b c d e f g h =
     and_both _ _ _ _
     (and_both _ _ _ _ (or_implies a e e refl) (or_implies b (e || f) _ (or_choose e f)))
     (and_both _ _ _ _ (or_implies c g g refl) (or_implies d h h refl))
 
 -- an address below 16 stands for itself
-pub covered-at :
+pub covered_at :
     (need fs : List Bool) (m : ℕ) (b : Bool) → m < 16 → b ≡ covered (rights_in need (m % 16)) (rights_in fs (m % 16))
     → b ≡ covered (rights_in need m) (rights_in fs m)
-covered-at need fs m b h e = let p : m % 16 ≡ m = omega arith in rw p at e
+covered_at need fs m b h e = let p : m % 16 ≡ m = omega arith in rw p at e
 
 pub admits_is :
     (need fs : List Bool) (l m : ℕ) (ok own : Bool) → ok ≡ all m (λ j. covered (rights_in need j) (rights_in fs j)) → m ≤ 16 → 16 ≤ m

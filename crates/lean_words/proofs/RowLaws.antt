@@ -11,13 +11,13 @@ use lib.ListN.{length, get_or, set, replicate, length-set, length-replicate}
 use lib.Seq.{get_or-set_same, get_or-set_other}
 use Rattle.net.specs.Choice.{choose, both, fold}
 use Rattle.net.specs.Records.{rights_at, address_of, no_rights, all_rights, with_rights}
-use Rattle.net.proofs.FoldLaws.{fold-keeps}
+use Rattle.net.proofs.FoldLaws.{fold_keeps}
 use Rattle.net.proofs.Laws.{split}
 use Rattle.net.proofs.Past.{past_rights}
 use Rattle.keeping.specs.Keeping.{may_take, may_read, may_put, may_send}
 use Rattle.lean_words.specs.Rights.{with_flags, row_flags, rights_in, row_in, gained_flags, grants_flags}
 use Rattle.lean_words.specs.Types.{Rights, Row}
-use Rattle.lean_words.proofs.FilledLaws.{filled_at, filled_whole, filled-set}
+use Rattle.lean_words.proofs.FilledLaws.{filled_at, filled_whole, filled_set}
 
 -- ---- the flags of one address
 module _ (fs : List Bool) (l : ℕ) (x : Rights) where
@@ -36,25 +36,25 @@ module _ (fs : List Bool) (l : ℕ) (x : Rights) where
       length-set three (l + 48) _ ∙ length-set two (l + 32) _ ∙ length-set one (l + 16) _ ∙ length-set fs l _
 
   -- of every other place
-  flags-other :
+  flags_other :
       (i : ℕ) → i ≢ l → i ≢ l + 16 → i ≢ l + 32 → i ≢ l + 48 → get_or (with_flags fs l x) i false ≡ get_or fs i false
   unfolding with_flags
-  flags-other i a b c d =
+  flags_other i a b c d =
       get_or-set_other three (l + 48) i _ false d ∙ get_or-set_other two (l + 32) i _ false c
       ∙ get_or-set_other one (l + 16) i _ false b
       ∙ get_or-set_other fs l i _ false a
 
   module _ (size : length fs ≡ 65) (h : l < 16) where
     pub create_kept : get_or (with_flags fs l x) 64 false ≡ get_or fs 64 false
-    create_kept = flags-other 64 (λ e. omega arith) (λ e. omega arith) (λ e. omega arith) (λ e. omega arith)
+    create_kept = flags_other 64 (λ e. omega arith) (λ e. omega arith) (λ e. omega arith) (λ e. omega arith)
 
     pub rights_other : (m : ℕ) → m < 16 → m ≢ l → rights_in (with_flags fs l x) m ≡ rights_in fs m
     unfolding rights_in
     rights_other m g n = λ d. record {
-      take = flags-other m n (λ e. omega arith) (λ e. omega arith) (λ e. omega arith) d;
-      read = flags-other (m + 16) (λ e. omega arith) (λ e. n (omega arith)) (λ e. omega arith) (λ e. omega arith) d;
-      put = flags-other (m + 32) (λ e. omega arith) (λ e. omega arith) (λ e. n (omega arith)) (λ e. omega arith) d;
-      send = flags-other (m + 48) (λ e. omega arith) (λ e. omega arith) (λ e. omega arith) (λ e. n (omega arith)) d;
+      take = flags_other m n (λ e. omega arith) (λ e. omega arith) (λ e. omega arith) d;
+      read = flags_other (m + 16) (λ e. omega arith) (λ e. n (omega arith)) (λ e. omega arith) (λ e. omega arith) d;
+      put = flags_other (m + 32) (λ e. omega arith) (λ e. omega arith) (λ e. n (omega arith)) (λ e. omega arith) d;
+      send = flags_other (m + 48) (λ e. omega arith) (λ e. omega arith) (λ e. omega arith) (λ e. n (omega arith)) d;
     }
 
     pub rights_here : rights_in (with_flags fs l x) l ≡ x
@@ -100,7 +100,7 @@ module _ (r : Row) where
 
   all_below : Below 16 turns
   all_below =
-      fold-keeps Below _ (replicate 65 false) 16
+      fold_keeps Below _ (replicate 65 false) 16
       (record { size = length-replicate 65 false; each = λ m h. absurd (omega arith) }) one_more_law
 
   pub length_row : length (row_flags r) ≡ 65
@@ -150,7 +150,7 @@ module _ (fs : List Bool) where
       (λ d. record {
         create = create_kept fs l all_rights size h d;
         rights =
-            filled-set past_rights 16 (rights_in (with_flags fs l all_rights)) (replicate 16 no_rights) (length-replicate 16 no_rights)
+            filled_set past_rights 16 (rights_in (with_flags fs l all_rights)) (replicate 16 no_rights) (length-replicate 16 no_rights)
             (rights_in fs) l all_rights (rights_other fs l all_rights size h) (λ g. rights_here fs l all_rights size h) d;
       })
 

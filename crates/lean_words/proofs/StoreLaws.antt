@@ -20,11 +20,11 @@ use Rattle.lean_words.specs.Stores.{no_tuple, tuple_words, field_in, tuple_in, m
 use Rattle.lean_words.specs.Types.{Locality, Item, Field, Tuple}
 use Rattle.lean_words.proofs.FilledLaws.{filled_none, filled_more, filled_end, length_filled, filled_past, filled_at}
 
-pub words-tuple :
+pub words_tuple :
     (t : Tuple) (ws : List ℕ) (i : ℕ) → ws ≡ filled i (λ j. item_word (field_at t j)) (replicate 6 0) → i ≤ 4 → 4 ≤ i
     → set (set ws 4 t.count) 5 t.mark.0 ≡ tuple_words t
 unfolding tuple_words
-words-tuple t ws i e l h = ap (λ (xs : List ℕ). set (set xs 4 t.count) 5 t.mark.0) (filled_end _ _ i 4 ws e l h)
+words_tuple t ws i e l h = ap (λ (xs : List ℕ). set (set xs 4 t.count) 5 t.mark.0) (filled_end _ _ i 4 ws e l h)
 
 module _ (ws : List ℕ) where
   pub fields_none :

@@ -14,7 +14,7 @@ use Rattle.net.proofs.Past.{past_tuple}
 use Rattle.lean_words.specs.Filled.{filled}
 use Rattle.lean_words.specs.Stores.{tuple_in, moved_up, closed_up}
 use Rattle.lean_words.proofs.BackLaws.{no_tuple_in}
-use Rattle.lean_words.proofs.FilledLaws.{length_filled, filled_at, filled-same}
+use Rattle.lean_words.proofs.FilledLaws.{length_filled, filled_at, filled_same}
 
 pub length_closed : (ts : List (List ℕ)) (i : ℕ) → length (closed_up ts i) ≡ length ts
 unfolding closed_up
@@ -43,10 +43,10 @@ module _ (x : Node) (ts : List (List ℕ)) (each : (j : ℕ) → j < 16 → tupl
           ap tuple_in (choose_true _ _ _ (lt-ltb j 15 l) ∙ choose_true _ _ _ (lt-ltb j i k)) ∙ sym (each j h)
           ∙ sym (choose_true _ _ _ (lt-ltb j i k))
 
-  pub tuples-closed :
+  pub tuples_closed :
       length ts ≡ 16 → length x.tuples ≡ 16
       → filled 16 (λ j. tuple_in (get_or (closed_up ts i) j [])) (replicate 16 zero_tuple) ≡ (without_tuple x i).tuples
   unfolding without_tuple filled
-  tuples-closed size long =
-      filled-same past_tuple 16 _ (replicate 16 zero_tuple) (length-replicate 16 zero_tuple) (after_taking x i) x.tuples long
+  tuples_closed size long =
+      filled_same past_tuple 16 _ (replicate 16 zero_tuple) (length-replicate 16 zero_tuple) (after_taking x i) x.tuples long
       (λ j h. ap tuple_in (closed_at ts i j size h) ∙ moved_in j h)

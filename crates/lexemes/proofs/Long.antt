@@ -10,7 +10,7 @@ use borrow.Author.Tests.{ltb-true}
 use Rattle.net.specs.Choice.{choose}
 use Rattle.net.proofs.Laws.{both_l}
 use Rattle.readers.specs.Reader.{got, fault, Reader, fault_at}
-use Rattle.readers.proofs.Long.{Spans, value, stopped, Long, Any, long_pure, long_weaken, long-then, long-and, long_choice}
+use Rattle.readers.proofs.Long.{Spans, value, stopped, Long, Any, long_pure, long_weaken, long_then, long_and, long_choice}
 use Rattle.readers.proofs.Long.{goes, goes_and, goes_each, goes_require, going}
 use Rattle.lexemes.specs.Lexemes.{byte_at, look, fail, byte, word, present, optional}
 use Rattle.lexemes.specs.Lexemes.{digit_of, digit, longer, another, rest, number}
@@ -30,23 +30,23 @@ pub goes_fail : {A : Type 0} (n : ℕ) → Long {A = A} (fail n) Any
 goes_fail n = long_fail Any n
 
 -- ---- bytes and words
-spans-one :
+spans_one :
     (s : List ℕ) (p : ℕ) (b : Bool) → (b ≡ true → ltb p (length s) ≡ true)
     → Spans {A = Unit {0}} s p (λ _ i. 1 ≤ i) (choose b (got tt (p + 1)) (fault (fault_at 31 p 0)))
 unfolding choose
-spans-one s p true h =
+spans_one s p true h =
     let l = ltb-true p (length s) (h refl) in
     value {q = p + 1} (record { count = 1; end = refl; within = omega arith; holds = omega arith })
-spans-one s p false h = stopped
+spans_one s p false h = stopped
 
 pub long_byte : (c : ℕ) → Long (byte c) (λ _ i. 1 ≤ i)
 unfolding byte
-long_byte c = record { run = λ s p. spans-one s p _ (both_l (ltb p (length s)) (eqb (byte_at s p) c)) }
+long_byte c = record { run = λ s p. spans_one s p _ (both_l (ltb p (length s)) (eqb (byte_at s p) c)) }
 
 pub long_word : (cs : List ℕ) → Long (word cs) (λ _ i. length cs ≤ i)
 unfolding word
 long_word [] = long_pure _ tt (omega arith)
-long_word (c ∷ cs) = long-and (long_byte c) (λ _ i h. long_weaken (long_word cs) (λ _ j g. omega arith))
+long_word (c ∷ cs) = long_and (long_byte c) (λ _ i h. long_weaken (long_word cs) (λ _ j g. omega arith))
 
 pub goes_byte : (c : ℕ) → Long (byte c) Any
 goes_byte c = goes (long_byte c)
@@ -63,7 +63,7 @@ long_digit : Long digit (λ _ i. 1 ≤ i)
 unfolding digit digit_of
 long_digit =
     long_look _ _ (λ b.
-    long_choice _ _ _ _ (long-and (long_byte b) (λ _ i h. long_pure _ _ (omega arith))) (long_fail _ 31))
+    long_choice _ _ _ _ (long_and (long_byte b) (λ _ i h. long_pure _ _ (omega arith))) (long_fail _ 31))
 
 goes_digit : Long digit Any
 goes_digit = goes long_digit
@@ -75,7 +75,7 @@ goes_another limit i v = search (going, goes_look, goes_digit)
 pub long_number : (limit : ℕ) → Long (number limit) (λ _ i. 1 ≤ i)
 unfolding number rest
 long_number limit =
-    long-then long_digit (λ d i h.
+    long_then long_digit (λ d i h.
     long_weaken (goes_and (goes_require _ 31) (goes_each (another limit) (goes_another limit) 10 d)) (λ _ j _. omega arith))
 
 pub goes_number : (limit : ℕ) → Long (number limit) Any

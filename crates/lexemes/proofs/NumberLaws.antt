@@ -95,11 +95,11 @@ module _ (s : List ℕ) (p : Step) (b : ℕ) (digital : Bool) (e : b ≡ byte_he
     small = w.small;
   }
 
-pub another-none :
+pub another_none :
     (s : List ℕ) (p : Step) (b : ℕ) (digital : Bool) (limit i v : ℕ) → b ≡ byte_here s p → digital ≡ is_digit b → digital ≡ false
     → Went s p (another limit i v) p v
 unfolding another
-another-none s p b digital limit i v e d h =
+another_none s p b digital limit i v e d h =
     looked s p p (λ x. choose (is_digit x) (longer limit v) (pure v)) b v e
     (otherwise s p p _ _ _ v (sym d ∙ h) (stop s p v))
 
@@ -107,12 +107,12 @@ another-none s p b digital limit i v e d h =
 within_is : (v x limit : ℕ) → x ≡ choose (leb v limit) v 0 → leb v limit ≡ true → x ≡ v
 within_is v x limit e h = e ∙ choose_true _ _ _ h
 
-pub longer-read :
+pub longer_read :
     (s : List ℕ) (p q : Step) (limit v d x : ℕ) (m : Step) → Went s p digit m d
     → Went s m (require (leb 1 v && leb (v * 10 + d) limit) 31) q tt
     → x ≡ choose (leb (v * 10 + d) limit) (v * 10 + d) 0 → Went s p (longer limit v) q x
 unfolding longer
-longer-read s p q limit v d x m w t c =
+longer_read s p q limit v d x m w t c =
     on s p m q digit _ d x w
     (required s m q q (both (leb 1 v) (leb (v * 10 + d) limit)) 31 pure (v * 10 + d) x x
     (rw (and_both _ _ _ _ refl refl) at t) (λ h. within_is _ _ _ c (both_r (leb 1 v) _ h)) (stop s q x))

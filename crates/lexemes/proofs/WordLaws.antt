@@ -97,9 +97,9 @@ module _ (s : List ℕ) (p₀ : Step) (cs : List ℕ) where
   unfolding word ◌>>◌
   after_byte_law p q c rest w = after s p q (byte c) (λ _. word rest) tt w
 
-  pub spelling-more :
+  pub spelling_more :
       (p q : Step) (i : ℕ) → Spelling s p₀ cs p i → i < length cs → Went s p (byte (get_or cs i 0)) q tt → Spelling s p₀ cs q (i + 1)
-  spelling-more p q i l h w = record {
+  spelling_more p q i l h w = record {
     within = omega arith;
     rest = l.rest ∙ ap (λ (x : List ℕ). run_from s p (word x)) (drop-cons cs i 0 h ∙ ap (λ (j : ℕ). get_or cs i 0 ∷ drop j cs) (sym (add-one i))) ∙ after_byte_law p q (get_or cs i 0) (drop (i + 1) cs) w;
   }

@@ -22,11 +22,11 @@ use Rattle.lines.specs.Lines.{tuples_below, tuple_count, total_line, closing_lin
 use Rattle.lines.proofs.WordLaws.{printed_none, printed_both, parts_then, lines_then}
 
 -- ---- lines whose numbers a callee gave
-pub made-line :
+pub made_line_law :
     (xs : List ℕ) (at i b x : ℕ) (a : Locality) (k : ℕ) (ys : List ℕ) (r : ℕ) → a ≡ host_of b → k ≡ slot_of b
     → Wrote xs at (printed (pick_line i a k x ∷ [])) ys r → Wrote xs at (printed (made_line i b x ∷ [])) ys r
 unfolding made_line
-made-line xs at i b x a k ys r d e h = rw (← d, ← e) h
+made_line_law xs at i b x a k ys r d e h = rw (← d, ← e) h
 
 pub node_lines :
     (parts : Parts) (station xs : List ℕ) (at : ℕ) (a : Locality) (x : Node) (busy : ℕ) (ys zs : List ℕ) (r q : ℕ) → busy ≡ process_count x
@@ -41,19 +41,19 @@ pub past_answers : (answers : List ℕ) (i : ℕ) → length answers ≤ i → 0
 past_answers answers i h = sym (get_or-eq_default answers 0 h)
 
 -- the answer that a callee gave
-pub answered-line :
+pub answered_line :
     (xs : List ℕ) (at k b x : ℕ) (answers : List ℕ) (i : ℕ) (ys : List ℕ) (r : ℕ) → x ≡ get_or answers i 0
     → Wrote xs at (printed (made_line k b x ∷ [])) ys r → Wrote xs at (printed (made_line k b (get_or answers i 0) ∷ [])) ys r
-answered-line xs at k b x answers i ys r e h = subst (λ (y : ℕ). Wrote xs at (printed (made_line k b y ∷ [])) ys r) e h
+answered_line xs at k b x answers i ys r e h = subst (λ (y : ℕ). Wrote xs at (printed (made_line k b y ∷ [])) ys r) e h
 
 -- ---- names
 module _ (xs : List ℕ) (at : ℕ) (station : List ℕ) where
   -- of a name that has a byte
-  pub name-shown :
+  pub name_shown :
       (ys : List ℕ) (r : ℕ) → 0 < length station → Wrote xs at (spaced (name station ∷ [])) ys r
       → Wrote xs at (spaced (name_words station)) ys r
   unfolding name_words
-  name-shown ys r n h = go station refl
+  name_shown ys r n h = go station refl
     where
       go : (t : List ℕ) → t ≡ station → Wrote xs at (spaced (name_words t)) ys r
       go [] e = absurd (omega (arith, ap length e, n))
@@ -73,20 +73,20 @@ unfolding named unnamed name_of name_after names_fault list_fault fault_among pl
 named_none parts = refl
 
 -- the name that a callee gave
-pub station-lines :
+pub station_lines :
     (number : ℕ) (parts : Parts) (site office xs : List ℕ) (at : ℕ) (a : Locality) (x : Node) (station ys : List ℕ) (r : ℕ)
     → station ≡ name_after number site office a → Wrote xs at (printed (node_lines parts station a x)) ys r
     → Wrote xs at (printed (node_lines parts (name_after number site office a) a x)) ys r
-station-lines number parts site office xs at a x station ys r e h =
+station_lines number parts site office xs at a x station ys r e h =
     subst (λ (t : List ℕ). Wrote xs at (printed (node_lines parts t a x)) ys r) e h
 
 -- after the test of the lists
-pub tested-lines :
+pub tested_lines :
     (number : ℕ) (parts : Parts) (site office : List ℕ) (s : Net) (xs : List ℕ) (at : ℕ) (ys : List ℕ) (r : ℕ)
     → number ≡ names_fault site office → Wrote xs at (printed (net_lines (named_after number parts site office) s)) ys r
     → Wrote xs at (printed (net_lines (named parts site office) s)) ys r
 unfolding named named_after name_of
-tested-lines number parts site office s xs at ys r e h =
+tested_lines number parts site office s xs at ys r e h =
     subst (λ (n : ℕ). Wrote xs at (printed (net_lines (named_after n parts site office) s)) ys r) e h
 
 -- ---- the total
@@ -96,20 +96,20 @@ module _ (s : Net) where
   tuples_none = fold_none _ 0 0 refl
 
   -- one address more is counted
-  pub tuples-more :
+  pub tuples_more :
       (i n k : ℕ) → n ≡ tuples_below s i → k ≡ fewer (node_at s (address_of i)).stored 16 → n + k ≡ tuples_below s (i + 1)
   unfolding tuples_below
-  tuples-more i n k e f = fold_more _ 0 i n (n + k) e (ap (λ (m : ℕ). n + m) f)
+  tuples_more i n k e f = fold_more _ 0 i n (n + k) e (ap (λ (m : ℕ). n + m) f)
 
-  pub tuples-all :
+  pub tuples_all :
       (i n k : ℕ) → k ≡ tuples_below s i → i ≤ n → n ≤ i → n ≡ fewer s.addresses 16 → k ≡ tuple_count s
   unfolding tuple_count
-  tuples-all i n k e l m f = let same : i ≡ fewer s.addresses 16 = omega arith in e ∙ ap (tuples_below s) same
+  tuples_all i n k e l m f = let same : i ≡ fewer s.addresses 16 = omega arith in e ∙ ap (tuples_below s) same
 
-pub counted-line :
+pub counted_line :
     (xs : List ℕ) (at n : ℕ) (s : Net) (ys : List ℕ) (r : ℕ) → n ≡ tuple_count s → Wrote xs at (printed (total_line n ∷ [])) ys r
     → Wrote xs at (printed (total_line (tuple_count s) ∷ [])) ys r
-counted-line xs at n s ys r e h = subst (λ (m : ℕ). Wrote xs at (printed (total_line m ∷ [])) ys r) e h
+counted_line xs at n s ys r e h = subst (λ (m : ℕ). Wrote xs at (printed (total_line m ∷ [])) ys r) e h
 
 -- ---- what may be left out
 module _ {A : Type 0} (g : List A → List ℕ) (none : g [] ≡ []) (xs : List ℕ) (at : ℕ) (t : Bool) (part : List A) where
@@ -121,9 +121,9 @@ module _ {A : Type 0} (g : List A → List ℕ) (none : g [] ≡ []) (xs : List 
       subst (λ (u : List A). Wrote xs at (g u) xs at) (sym (choose_false t part [] e))
       (subst (λ (u : List ℕ). Wrote xs at u xs at) (sym none) (wrote_nothing xs at))
 
-pub after-lines :
+pub after_lines_law :
     (parts : Parts) (site office xs : List ℕ) (at : ℕ) (s : Net) (ys zs : List ℕ) (r q : ℕ)
     → Wrote xs at (printed (net_lines (named parts site office) s)) ys r → Wrote ys r (printed (closing_lines parts s)) zs q
     → Wrote xs at (printed (after_lines (named parts site office) s)) zs q
 unfolding after_lines named
-after-lines parts site office xs at s ys zs r q h k = parts_then printed printed_none printed_both _ _ _ _ _ _ _ _ h k
+after_lines_law parts site office xs at s ys zs r q h k = parts_then printed printed_none printed_both _ _ _ _ _ _ _ _ h k

@@ -31,12 +31,12 @@ unfolding put_rows with_node
 put_length s i rs = length-set s.nodes i _
 
 -- ---- those of one node more
-pub ruled-more :
+pub ruled_more :
     (i : ℕ) (rss : List (List Row)) (rs : List Row) (s : Net) → ruled i (rss ++ (rs ∷ [])) s ≡ put_rows (ruled i rss s) (i + length rss) rs
 unfolding ruled put_rows
-ruled-more i [] rs s = ap (λ (j : ℕ). put_rows s j rs) (omega arith)
-ruled-more i (x ∷ rss) rs s =
-    ruled-more (suc i) rss rs (put_rows s i x) ∙ ap (λ (j : ℕ). put_rows (ruled (suc i) rss (put_rows s i x)) j rs) (omega arith)
+ruled_more i [] rs s = ap (λ (j : ℕ). put_rows s j rs) (omega arith)
+ruled_more i (x ∷ rss) rs s =
+    ruled_more (suc i) rss rs (put_rows s i x) ∙ ap (λ (j : ℕ). put_rows (ruled (suc i) rss (put_rows s i x)) j rs) (omega arith)
 
 -- ---- what rows leave as it was
 pub ruled_counts : (i : ℕ) (rss : List (List Row)) (s : Net) (n k : ℕ) → ruled i rss (with_counts s n k) ≡ with_counts (ruled i rss s) n k
@@ -52,25 +52,25 @@ ruled_frame i (rs ∷ rss) s =
     record { format_is = rest.format_is; addresses_are = rest.addresses_are; length_is = rest.length_is; code_is = rest.code_is }
 
 -- ---- the rows of each node
-ruled-below :
+ruled_below :
     (i : ℕ) (rss : List (List Row)) (s : Net) (j : ℕ) → j < i → node_at (ruled i rss s) (address_of j) ≡ node_at s (address_of j)
 unfolding ruled with_node node_at
-ruled-below i [] s j h = refl
-ruled-below i (rs ∷ rss) s j h =
-    ruled-below (suc i) rss (with_node s (address_of i) (with_rows (node_at s (address_of i)) rs)) j (omega arith)
+ruled_below i [] s j h = refl
+ruled_below i (rs ∷ rss) s j h =
+    ruled_below (suc i) rss (with_node s (address_of i) (with_rows (node_at s (address_of i)) rs)) j (omega arith)
     ∙ get_or-set_other s.nodes i j _ _ (λ e. absurd (omega arith))
 
-pub ruled-rows :
+pub ruled_rows :
     (i : ℕ) (rss : List (List Row)) (s : Net) (j : ℕ) → i + length rss ≤ length s.nodes → j < length rss
     → (node_at (ruled i rss s) (address_of (i + j))).rows ≡ get_or rss j []
 unfolding ruled put_rows
-ruled-rows i [] s j h b = absurd (not-suc-le-zero b)
-ruled-rows i (rs ∷ rss) s zero h b =
+ruled_rows i [] s j h b = absurd (not-suc-le-zero b)
+ruled_rows i (rs ∷ rss) s zero h b =
     ap (λ (k : ℕ). (node_at (ruled (suc i) rss (put_rows s i rs)) (address_of k)).rows) (omega arith)
-    ∙ ap (λ (x : Node). x.rows) (ruled-below (suc i) rss (put_rows s i rs) i (omega arith)) ∙ put_there s i rs (omega arith)
-ruled-rows i (rs ∷ rss) s (suc j) h b =
+    ∙ ap (λ (x : Node). x.rows) (ruled_below (suc i) rss (put_rows s i rs) i (omega arith)) ∙ put_there s i rs (omega arith)
+ruled_rows i (rs ∷ rss) s (suc j) h b =
     ap (λ (k : ℕ). (node_at (ruled (suc i) rss (put_rows s i rs)) (address_of k)).rows) (omega arith)
-    ∙ ruled-rows (suc i) rss (put_rows s i rs) j (omega (arith, put_length s i rs)) (omega arith)
+    ∙ ruled_rows (suc i) rss (put_rows s i rs) j (omega (arith, put_length s i rs)) (omega arith)
 
 -- ---- the net of policies
 module _ (x : Policy) (k : ℕ) where
@@ -91,5 +91,5 @@ module _ (x : Policy) (k : ℕ) where
   unfolding governed unruled with_counts with_format empty_net
   governed_rows i h l =
       ap (λ (j : ℕ). (node_at (governed x k) (address_of j)).rows) (omega arith)
-      ∙ ruled-rows 0 (rows_of x) (unruled (format_of x) (addresses_of x) k) i (omega (arith, length_rows x, length-replicate 16 zero_node))
+      ∙ ruled_rows 0 (rows_of x) (unruled (format_of x) (addresses_of x) k) i (omega (arith, length_rows x, length-replicate 16 zero_node))
       (omega (arith, length_rows x))

@@ -13,13 +13,13 @@ use Rattle.net.specs.Records.{place_of}
 use Rattle.net.proofs.Laws.{choose_false, all_i, all_fails}
 use Rattle.net.proofs.AllLaws.{all_same}
 use Rattle.net.proofs.ReadingLaws.{never}
-use Rattle.net.proofs.FoldLaws.{fold-keeps}
+use Rattle.net.proofs.FoldLaws.{fold_keeps}
 use Rattle.net.proofs.Every.{Every, every_set, every_replicate, chosen}
 use Rattle.terms.specs.Terms.{Process, nil, name, fork, act}
 use Rattle.terms.specs.Numbering.{Start, here, called, size, start_of, uses}
 use Rattle.terms.specs.Table.{start_word, marked}
 use Rattle.terms.specs.Loading.{fits, Resolves}
-use Rattle.terms.proofs.Marks.{marked_length, marked-uses, entry_set, two_marks}
+use Rattle.terms.proofs.Marks.{marked_length, marked_uses, entry_set, two_marks}
 use Rattle.linking.specs.Types.{Net}
 use Rattle.linking.specs.Source.{Line, definition, process, tuple}
 use Rattle.linking.specs.Compiled.{total, defined_in, number_of, settle, settled, place_in}
@@ -32,10 +32,10 @@ use Rattle.linking.proofs.Settles.{name_most}
 
 -- ---- which names are used
 module _ (k : ℕ) (b : k < 512) where
-  more-marks :
+  more_marks :
       (x : Process) (marks : List Bool) (rest n : Bool) → length marks ≡ 512 → n ≡ choose rest true (get_or (marked x marks) k false)
       → n ≡ choose (choose (uses k x) true rest) true (get_or marks k false)
-  more-marks x marks rest n l e = two_marks (uses k x) rest _ _ n e (marked-uses x k marks (omega arith))
+  more_marks x marks rest n l e = two_marks (uses k x) rest _ _ n e (marked_uses x k marks (omega arith))
 
   used_all :
       (ls : List Line) (s : State) → length s.uses ≡ 512
@@ -43,9 +43,9 @@ module _ (k : ℕ) (b : k < 512) where
   unfolding after_all after used uses_line choose
   used_all [] s l = refl
   used_all (definition j x ∷ ls) s l =
-      more-marks x s.uses (used k ls) _ l (used_all ls (after (definition j x) s) (marked_length x s.uses ∙ l))
+      more_marks x s.uses (used k ls) _ l (used_all ls (after (definition j x) s) (marked_length x s.uses ∙ l))
   used_all (process a x ∷ ls) s l =
-      more-marks x s.uses (used k ls) _ l (used_all ls (after (process a x) s) (marked_length x s.uses ∙ l))
+      more_marks x s.uses (used k ls) _ l (used_all ls (after (process a x) s) (marked_length x s.uses ∙ l))
   used_all (tuple a t ∷ ls) s l = used_all ls (after (tuple a t) s) l
 
 -- ---- which names are defined
@@ -61,19 +61,19 @@ module _ (k : ℕ) (b : k < 512) where
   define_none true = refl
   define_none false = refl
 
-  defined-all :
+  defined_all :
       (ls : List Line) (s : State) → length s.defs ≡ 512
       → get_or (after_all ls s).defs k false ≡ choose (get_or s.defs k false) true (leb 1 (defined k ls))
   unfolding after_all after defined defines choose
-  defined-all [] s l = define_none (get_or s.defs k false)
-  defined-all (definition j x ∷ ls) s l =
-      defined-all ls (after (definition j x) s) (length-set s.defs j true ∙ l)
+  defined_all [] s l = define_none (get_or s.defs k false)
+  defined_all (definition j x ∷ ls) s l =
+      defined_all ls (after (definition j x) s) (length-set s.defs j true ∙ l)
       ∙ ap (λ (d : Bool). choose d true (leb 1 (defined k ls))) (entry_set s.defs j k true false (omega arith))
       ∙ define_more (eqb k j) (get_or s.defs k false) (defined k ls)
-  defined-all (process a x ∷ ls) s l =
-      defined-all ls (after (process a x) s) l ∙ define_more false (get_or s.defs k false) (defined k ls)
-  defined-all (tuple a t ∷ ls) s l =
-      defined-all ls (after (tuple a t) s) l ∙ define_more false (get_or s.defs k false) (defined k ls)
+  defined_all (process a x ∷ ls) s l =
+      defined_all ls (after (process a x) s) l ∙ define_more false (get_or s.defs k false) (defined k ls)
+  defined_all (tuple a t ∷ ls) s l =
+      defined_all ls (after (tuple a t) s) l ∙ define_more false (get_or s.defs k false) (defined k ls)
 
 -- ---- whether one is defined twice
 
@@ -108,22 +108,22 @@ module _ (j : ℕ) (b : j < 512) (defs : List Bool) (l : length defs ≡ 512) (t
   unfolding once choose
   once_again e = rw (e, eq-eqb j j refl) (lt-leb (1 + (1 + m j)) 1 (omega arith))
 
-  once-first :
+  once_first :
       get_or defs j false ≡ false → (k : ℕ) → k < 512
       → once (set defs j true) m k ≡ once defs (λ i. choose (eqb i j) 1 0 + m i) k
   unfolding once
-  once-first e k h =
+  once_first e k h =
       ap (λ (n : ℕ). leb n 1)
       (ap (λ (d : Bool). choose d 1 0 + m k) (entry_set defs j k true false (omega arith))
       ∙ count_more (eqb k j) (get_or defs k false) (m k) (λ q. ap (λ (i : ℕ). get_or defs i false) (eqb-true k j q) ∙ e))
 
-  twice-more :
+  twice_more :
       (d : Bool) → get_or defs j false ≡ d
       → both (not (choose d true twice)) (all 512 (once (set defs j true) m))
       ≡ both (not twice) (all 512 (once defs (λ k. choose (eqb k j) 1 0 + m k)))
   unfolding choose both
-  twice-more true e = with_false (not twice) _ (all_fails 512 _ j b (once_again e))
-  twice-more false e = ap (both (not twice)) (all_same 512 _ _ (once-first e))
+  twice_more true e = with_false (not twice) _ (all_fails 512 _ j b (once_again e))
+  twice_more false e = ap (both (not twice)) (all_same 512 _ _ (once_first e))
 
 same_more :
     (twice : Bool) (defs : List Bool) (m : ℕ → ℕ)
@@ -132,16 +132,16 @@ unfolding once
 same_more twice defs m =
     ap (both (not twice)) (all_same 512 _ _ (λ k h. let none : 0 + m k ≡ m k = omega arith in rw none refl))
 
-twice-all :
+twice_all :
     (ls : List Line) (s : State) → FitAll ls s → length s.defs ≡ 512
     → not (after_all ls s).twice ≡ both (not s.twice) (all 512 (once s.defs (λ k. defined k ls)))
 unfolding after_all after defined defines FitAll FitsLine once choose
-twice-all [] s f l = with_true (not s.twice) _ (all_i 512 _ (λ k h. once_none (get_or s.defs k false)))
-twice-all (definition j x ∷ ls) s f l =
-    twice-all ls (after (definition j x) s) f.1 (length-set s.defs j true ∙ l)
-    ∙ twice-more j f.0.0 s.defs l s.twice (λ k. defined k ls) (get_or s.defs j false) refl
-twice-all (process a x ∷ ls) s f l = twice-all ls (after (process a x) s) f.1 l ∙ same_more s.twice s.defs (λ k. defined k ls)
-twice-all (tuple a t ∷ ls) s f l = twice-all ls (after (tuple a t) s) f.1 l ∙ same_more s.twice s.defs (λ k. defined k ls)
+twice_all [] s f l = with_true (not s.twice) _ (all_i 512 _ (λ k h. once_none (get_or s.defs k false)))
+twice_all (definition j x ∷ ls) s f l =
+    twice_all ls (after (definition j x) s) f.1 (length-set s.defs j true ∙ l)
+    ∙ twice_more j f.0.0 s.defs l s.twice (λ k. defined k ls) (get_or s.defs j false) refl
+twice_all (process a x ∷ ls) s f l = twice_all ls (after (process a x) s) f.1 l ∙ same_more s.twice s.defs (λ k. defined k ls)
+twice_all (tuple a t ∷ ls) s f l = twice_all ls (after (tuple a t) s) f.1 l ∙ same_more s.twice s.defs (λ k. defined k ls)
 
 -- ---- where the bodies start
 from_name : (k : ℕ) → k < 512 → start_from k ≡ called k
@@ -161,22 +161,22 @@ from_start n (act a p) h = from_number n
 
 module _ (k : ℕ) (b : k < 512) where
   -- at the name that is defined (q), or at another; d says whether it is defined already, and e whether the other is
-  enter-more :
+  enter_more :
       (q d e : Bool) (v w : ℕ) (x rest : Start) → (q ≡ true → e ≡ d) → start_from w ≡ x
       → choose (choose q true d) (start_from (choose e v (choose q w v))) rest ≡ choose d (start_from v) (choose q x rest)
   unfolding choose
-  enter-more true true e v w x rest h g = rw (h refl) refl
-  enter-more true false e v w x rest h g = rw (h refl) g
-  enter-more false d true v w x rest h g = refl
-  enter-more false d false v w x rest h g = refl
+  enter_more true true e v w x rest h g = rw (h refl) refl
+  enter_more true false e v w x rest h g = rw (h refl) g
+  enter_more false d true v w x rest h g = refl
+  enter_more false d false v w x rest h g = refl
 
-  enter-none :
+  enter_none :
       (q d e : Bool) (v w : ℕ) → (d ≡ false → start_from v ≡ called k) → choose q true d ≡ false
       → start_from (choose e v (choose q w v)) ≡ called k
   unfolding choose
-  enter-none true d e v w h g = never (sym g)
-  enter-none false d true v w h g = h g
-  enter-none false d false v w h g = h g
+  enter_none true d e v w h g = never (sym g)
+  enter_none false d true v w h g = h g
+  enter_none false d false v w h g = h g
 
   choose_of : {A B : Type 0} (f : A → B) (c : Bool) (x y : A) → f (choose c x y) ≡ choose c (f x) (f y)
   unfolding choose
@@ -203,42 +203,42 @@ module _ (k : ℕ) (b : k < 512) where
       marked_at : get_or (set defs j true) k false ≡ choose (eqb k j) true (get_or defs k false)
       marked_at = entry_set defs j k true false (omega arith)
 
-      entered-more :
+      entered_more :
           (x rest : Start) → start_from w ≡ x
           → choose (get_or (set defs j true) k false) (start_in (entered j w defs bodies) k) rest
           ≡ choose (get_or defs k false) (start_in bodies k) (choose (eqb k j) x rest)
       unfolding start_in
-      entered-more x rest g =
+      entered_more x rest g =
           rw (entered_at, marked_at)
-          (enter-more (eqb k j) (get_or defs k false) (get_or defs j false) (get_or bodies k 0) w x rest
+          (enter_more (eqb k j) (get_or defs k false) (get_or defs j false) (get_or bodies k 0) w x rest
           (λ e. ap (λ (i : ℕ). get_or defs i false) (sym (eqb-true k j e))) g)
 
-      entered-none :
+      entered_none :
           (get_or defs k false ≡ false → start_in bodies k ≡ called k) → get_or (set defs j true) k false ≡ false
           → start_in (entered j w defs bodies) k ≡ called k
       unfolding start_in
-      entered-none own g =
+      entered_none own g =
           rw entered_at
-          (enter-none (eqb k j) (get_or defs k false) (get_or defs j false) (get_or bodies k 0) w own (sym marked_at ∙ g))
+          (enter_none (eqb k j) (get_or defs k false) (get_or defs j false) (get_or bodies k 0) w own (sym marked_at ∙ g))
 
-  bodies-all :
+  bodies_all :
       (ls : List Line) (s : State) → FitAll ls s → length s.defs ≡ 512 → length s.bodies ≡ 512
       → (get_or s.defs k false ≡ false → start_in s.bodies k ≡ called k)
       → start_in (after_all ls s).bodies k ≡ choose (get_or s.defs k false) (start_in s.bodies k) (defined_in k s.count ls)
   unfolding after_all after defined_in FitAll FitsLine start_in
-  bodies-all [] s f l m own = own_name (get_or s.defs k false) _ own
-  bodies-all (definition j x ∷ ls) s f l m own =
+  bodies_all [] s f l m own = own_name (get_or s.defs k false) _ own
+  bodies_all (definition j x ∷ ls) s f l m own =
       let w = start_word (start_of s.count x) in
-      bodies-all ls (after (definition j x) s) f.1 (length-set s.defs j true ∙ l) (entered_length j w s.defs s.bodies m)
-      (entered-none j w s.defs s.bodies m l own)
-      ∙ entered-more j w s.defs s.bodies m l (start_of s.count x) (defined_in k (s.count + size x) ls) (from_start s.count x f.0.1)
-  bodies-all (process a x ∷ ls) s f l m own = bodies-all ls (after (process a x) s) f.1 l m own
-  bodies-all (tuple a t ∷ ls) s f l m own = bodies-all ls (after (tuple a t) s) f.1 l m own
+      bodies_all ls (after (definition j x) s) f.1 (length-set s.defs j true ∙ l) (entered_length j w s.defs s.bodies m)
+      (entered_none j w s.defs s.bodies m l own)
+      ∙ entered_more j w s.defs s.bodies m l (start_of s.count x) (defined_in k (s.count + size x) ls) (from_start s.count x f.0.1)
+  bodies_all (process a x ∷ ls) s f l m own = bodies_all ls (after (process a x) s) f.1 l m own
+  bodies_all (tuple a t ∷ ls) s f l m own = bodies_all ls (after (tuple a t) s) f.1 l m own
 
 -- ---- before the first line
 names_own : (n : ℕ) → Every (λ (j a : ℕ). j < n → a ≡ j) 0 n (fold n (λ k names. set names k k) (replicate n 0))
 names_own n =
-    fold-keeps (λ (i : ℕ) (names : List ℕ). Every (λ (j a : ℕ). j < i → a ≡ j) 0 n names) (λ k names. set names k k) (replicate n 0) n
+    fold_keeps (λ (i : ℕ) (names : List ℕ). Every (λ (j a : ℕ). j < i → a ≡ j) 0 n names) (λ k names. set names k k) (replicate n 0) n
     (every_replicate _ 0 n 0 (λ j h g. absurd (omega arith)))
     (λ i names h e. every_set i i e (λ j a ne p g. p (omega arith)) (λ _. refl))
 
@@ -285,12 +285,12 @@ held_fresh : (ls : List Line) (s : State) → Fresh s → FitAll ls s → Held l
 unfolding once both
 held_fresh ls s fresh f = record {
   body = λ k h.
-      bodies-all k h ls s f fresh.defs_long fresh.bodies_long (λ _. fresh.own k h)
+      bodies_all k h ls s f fresh.defs_long fresh.bodies_long (λ _. fresh.own k h)
       ∙ choose_false _ _ _ (fresh.undefined k h) ∙ ap (λ (n : ℕ). defined_in k n ls) fresh.none;
-  defined = λ k h. defined-all k h ls s fresh.defs_long ∙ choose_false _ _ _ (fresh.undefined k h);
+  defined = λ k h. defined_all k h ls s fresh.defs_long ∙ choose_false _ _ _ (fresh.undefined k h);
   used = λ k h. used_all k h ls s fresh.uses_long ∙ unused_marks _ _ (fresh.unused k h);
   once =
-      twice-all ls s f fresh.defs_long ∙ ap (λ (b : Bool). both (not b) (all 512 (once s.defs (λ k. defined k ls)))) fresh.single
+      twice_all ls s f fresh.defs_long ∙ ap (λ (b : Bool). both (not b) (all 512 (once s.defs (λ k. defined k ls)))) fresh.single
       ∙ all_same 512 _ _ (λ k h. once_fresh s.defs (defined k ls) k (fresh.undefined k h));
 }
 

@@ -13,8 +13,8 @@ use Rattle.text.specs.Buffer.{over}
 use Rattle.terms.specs.Numbering.{Start}
 use Rattle.terms.specs.Table.{words_of}
 use Rattle.terms.specs.Loading.{loaded, loaded_at, loaded_in, loaded_all, Resolves}
-use Rattle.terms.proofs.CodeLaws.{length_words, stored-after}
-use Rattle.terms.proofs.Loaded.{code-back}
+use Rattle.terms.proofs.CodeLaws.{length_words, stored_after}
+use Rattle.terms.proofs.Loaded.{code_back}
 use Rattle.linking.specs.Types.{Place, Instruction, Net}
 use Rattle.linking.specs.Source.{Line, definition, process, tuple}
 use Rattle.linking.specs.Compiled.{size_of, total, line_code, code_from}
@@ -59,7 +59,7 @@ table_all [] s = refl
 table_all (l ∷ ls) s =
     table_all ls (after l s)
     ∙ rw (table_after l s, after_count_one l s)
-    (stored-after s.table s.count (line_words s.count l) (words_from (s.count + size_of l) ls) (s.count + size_of l) (size_of l) (length_line s.count l) refl)
+    (stored_after s.table s.count (line_words s.count l) (words_from (s.count + size_of l) ls) (s.count + size_of l) (size_of l) (length_line s.count l) refl)
 
 -- a table that they fit in starts with the words
 starts_with : (table ws : List ℕ) → length ws ≤ length table → over table 0 ws ≡ ws ++ drop (0 + length ws) table
@@ -67,70 +67,70 @@ unfolding over
 starts_with table ws h = sets-eq ws table 0 (omega arith)
 
 -- before the first line the table has 4608 words
-table-fresh :
+table_fresh :
     (ls : List Line) (s : State) → s.count ≡ 0 → length s.table ≡ 4608 → total ls ≤ 512
     → (after_all ls s).table ≡ words_from 0 ls ++ drop (0 + length (words_from 0 ls)) s.table
-table-fresh ls s none long whole =
+table_fresh ls s none long whole =
     let words = length_lines 0 ls in
     table_all ls s ∙ ap (λ (n : ℕ). over s.table (9 * n) (words_from n ls)) none
     ∙ starts_with s.table (words_from 0 ls) (omega arith)
 
 module _ (resolve : ℕ → Place) where
   -- ---- instructions read back one after another are those at each number
-  loaded-at :
+  loaded_at_law :
       (table : List ℕ) (i : ℕ) → i < 512
       → linked_at resolve table i ≡ loaded (λ j. get_or (drop (9 * i) table) j 0) (resolve (get_or (drop (9 * i) table) 7 0)) (resolve (get_or (drop (9 * i) table) 8 0))
   unfolding linked_at loaded_in loaded_at loaded
-  loaded-at table i h = choose_true _ _ _ (lt-ltb i 512 h) ∙ simp get_or-drop
+  loaded_at_law table i h = choose_true _ _ _ (lt-ltb i 512 h) ∙ simp get_or-drop
 
-  linked-from :
+  linked_from :
       (table : List ℕ) (code : List Instruction) (n i : ℕ) → i + n ≤ 512
       → linked_code resolve table (i + n) code ≡ over (linked_code resolve table i code) i (loaded_all resolve n (drop (9 * i) table))
   unfolding linked_code fold over loaded_all
-  linked-from table code zero i h = let same : i + 0 ≡ i = omega arith in ap (λ (m : ℕ). linked_code resolve table m code) same
-  linked-from table code (suc n) i h =
+  linked_from table code zero i h = let same : i + 0 ≡ i = omega arith in ap (λ (m : ℕ). linked_code resolve table m code) same
+  linked_from table code (suc n) i h =
       let same : i + suc n ≡ suc i + n = omega arith in
       let nine : 9 * i + 9 ≡ 9 * suc i = omega arith in
-      ap (λ (m : ℕ). linked_code resolve table m code) same ∙ linked-from table code n (suc i) (omega arith)
-      ∙ rw (loaded-at table i (omega arith), drop-drop 9 (9 * i) table, nine) refl
+      ap (λ (m : ℕ). linked_code resolve table m code) same ∙ linked_from table code n (suc i) (omega arith)
+      ∙ rw (loaded_at_law table i (omega arith), drop-drop 9 (9 * i) table, nine) refl
 
-  linked-whole :
+  linked_whole :
       (table : List ℕ) (code : List Instruction) (n : ℕ) → n ≤ 512 → linked_code resolve table n code ≡ over code 0 (loaded_all resolve n table)
   unfolding linked_code fold
-  linked-whole table code n h =
+  linked_whole table code n h =
       let same : n ≡ 0 + n = omega arith in
-      ap (λ (m : ℕ). linked_code resolve table m code) same ∙ linked-from table code n 0 (omega arith)
+      ap (λ (m : ℕ). linked_code resolve table m code) same ∙ linked_from table code n 0 (omega arith)
 
   -- ---- they are those of the lines
   module _ (place : Start → Place) (r : Resolves resolve place) where
-    line-back :
+    line_back :
         (s : Net) (l : Line) (n k : ℕ) (rest : List ℕ) → FitsLine s l → n + size_of l ≤ 512
         → loaded_all resolve (size_of l + k) (line_words n l ++ rest) ≡ line_code place n l ++ loaded_all resolve k rest
     unfolding FitsLine size_of line_words line_code
-    line-back s (definition j x) n k rest f b = code-back resolve place r n k x rest f.1 b
-    line-back s (process a x) n k rest f b = code-back resolve place r n k x rest f.1.0 b
-    line-back s (tuple a t) n k rest f b = ap (λ (m : ℕ). loaded_all resolve m rest) (omega arith)
+    line_back s (definition j x) n k rest f b = code_back resolve place r n k x rest f.1 b
+    line_back s (process a x) n k rest f b = code_back resolve place r n k x rest f.1.0 b
+    line_back s (tuple a t) n k rest f b = ap (λ (m : ℕ). loaded_all resolve m rest) (omega arith)
 
-    lines-back :
+    lines_back :
         (ls : List Line) (s : State) (n : ℕ) (rest : List ℕ) → FitAll ls s → n + total ls ≤ 512
         → loaded_all resolve (total ls) (words_from n ls ++ rest) ≡ code_from place n ls
     unfolding FitAll total words_from code_from loaded_all
-    lines-back [] s n rest f b = refl
-    lines-back (l ∷ ls) s n rest f b =
+    lines_back [] s n rest f b = refl
+    lines_back (l ∷ ls) s n rest f b =
         ap (loaded_all resolve (size_of l + total ls)) (append_assoc (line_words n l) (words_from (n + size_of l) ls) rest)
-        ∙ line-back s.net l n (total ls) (words_from (n + size_of l) ls ++ rest) f.0 (omega arith)
-        ∙ ap (λ (c : List Instruction). line_code place n l ++ c) (lines-back ls (after l s) (n + size_of l) rest f.1 (omega arith))
+        ∙ line_back s.net l n (total ls) (words_from (n + size_of l) ls ++ rest) f.0 (omega arith)
+        ∙ ap (λ (c : List Instruction). line_code place n l ++ c) (lines_back ls (after l s) (n + size_of l) rest f.1 (omega arith))
 
-    code-fresh :
+    code_fresh :
         (ls : List Line) (s : State) → s.count ≡ 0 → length s.table ≡ 4608 → FitAll ls s → total ls ≤ 512 → (code : List Instruction)
         → linked_code resolve (after_all ls s).table (total ls) code ≡ over code 0 (code_from place 0 ls)
-    code-fresh ls s none long f whole code =
-        linked-whole (after_all ls s).table code (total ls) whole
-        ∙ ap (λ (t : List ℕ). over code 0 (loaded_all resolve (total ls) t)) (table-fresh ls s none long whole)
-        ∙ ap (over code 0) (lines-back ls s 0 _ f (omega arith))
+    code_fresh ls s none long f whole code =
+        linked_whole (after_all ls s).table code (total ls) whole
+        ∙ ap (λ (t : List ℕ). over code 0 (loaded_all resolve (total ls) t)) (table_fresh ls s none long whole)
+        ∙ ap (over code 0) (lines_back ls s 0 _ f (omega arith))
 
-    pub code-all :
+    pub code_all :
         (ls : List Line) (base : Net) → FitAll ls (begun base) → total ls ≤ 512 → (code : List Instruction)
         → linked_code resolve (after_all ls (begun base)).table (total ls) code ≡ over code 0 (code_from place 0 ls)
     unfolding begun
-    code-all ls base f whole code = code-fresh ls (begun base) refl (length-replicate {A = ℕ} 4608 0) f whole code
+    code_all ls base f whole code = code_fresh ls (begun base) refl (length-replicate {A = ℕ} 4608 0) f whole code

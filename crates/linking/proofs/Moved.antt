@@ -58,11 +58,11 @@ module _ (resolve : ℕ → Place) where
       node_is starts a x
       ∙ ap (with_slots x) (each_none past_process (moves starts a) 4 x.processes (λ j l. choose_false _ _ _ (free j l)))
 
-  net-none :
+  net_none :
       (starts : List ℕ) (s : Net) → ((a : Locality) (j : ℕ) → a.0 < 16 → j < 4 → (process_at (node_at s a) j).busy ≡ false)
       → moved_net resolve starts s ≡ s
   unfolding node_at
-  net-none starts s free =
+  net_none starts s free =
       net_is starts s
       ∙ ap (with_nodes s)
       (each_none past_node (moved_node resolve starts) 16 s.nodes (λ i l. node_none starts i _ (λ j g. free (address_of i) j l g)))
@@ -75,21 +75,21 @@ module _ (resolve : ℕ → Place) where
   node_at_law starts s a e h =
       ap (λ (t : Net). node_at t a) (net_is starts s) ∙ each_at past_node (moved_node resolve starts) 16 s.nodes (omega arith) a.0 h
 
-  net-set :
+  net_set :
       (starts next : List ℕ) (s : Net) (a : Locality) (x : Node) → length s.nodes ≡ 16 → a.0 < 16
       → ((i : ℕ) (y : Node) → i < 16 → i ≢ a.0 → moved_node resolve next i y ≡ moved_node resolve starts i y)
       → moved_net resolve next (with_node s a x) ≡ with_node (moved_net resolve starts s) a (moved_node resolve next a.0 x)
   unfolding with_node
-  net-set starts next s a x e h same =
+  net_set starts next s a x e h same =
       net_is next (with_node s a x)
       ∙ ap (with_nodes s) (each_set past_node (moved_node resolve starts) (moved_node resolve next) 16 s.nodes a.0 x e h same)
       ∙ ap (λ (t : Net). with_node t a (moved_node resolve next a.0 x)) (sym (net_is starts s))
 
   -- ---- a tuple more
-  node-tuple :
+  node_tuple :
       (starts : List ℕ) (a : ℕ) (x : Node) (t : Tuple) → moved_node resolve starts a (with_tuple x t) ≡ with_tuple (moved_node resolve starts a x) t
   unfolding with_tuple moved_node moved_slot fold with_process process_at choose
-  node-tuple starts a x t = go (ltb x.stored 16)
+  node_tuple starts a x t = go (ltb x.stored 16)
     where
       more : Node → Node
       more y = record { rows = y.rows; processes = y.processes; stored = y.stored + 1; tuples = set y.tuples y.stored t }
@@ -127,23 +127,23 @@ module _ (resolve : ℕ → Place) where
         (λ j p l. ap (λ (v : ℕ). moved_by resolve v p) (get_or-set_other starts (4 * a + k) (4 * i + j) w 0 (λ e. omega (arith, d)))))
         ∙ sym (node_is starts i x)
 
-    moved-start :
+    moved_start :
         (o : Locality) → 4 * a + k < length starts
         → moves (set starts (4 * a + k) w) a k (starting_at o (place_of 0)) ≡ starting_at o (resolve w)
     unfolding moved_by starting_at moved_to choose
-    moved-start o l = ap (λ (v : ℕ). starting_at o (resolve v)) (get_or-set_same starts (4 * a + k) w 0 l)
+    moved_start o l = ap (λ (v : ℕ). starting_at o (resolve v)) (get_or-set_same starts (4 * a + k) w 0 l)
 
-    node-process :
+    node_process :
         (o : Locality) (x : Node) → length x.processes ≡ 4 → 4 * a + k < length starts
         → moved_node resolve (set starts (4 * a + k) w) a (with_process x k (starting_at o (place_of 0)))
         ≡ with_process (moved_node resolve starts a x) k (starting_at o (resolve w))
     unfolding with_process
-    node-process o x e l =
+    node_process o x e l =
         node_is (set starts (4 * a + k) w) a (with_process x k (starting_at o (place_of 0)))
         ∙ ap (with_slots x)
         (each_set past_process (moves starts a) (moves (set starts (4 * a + k) w) a) 4 x.processes k (starting_at o (place_of 0)) e h
         (λ j p g d. ap (λ (v : ℕ). moved_by resolve v p) (get_or-set_other starts (4 * a + k) (4 * a + j) w 0 (λ q. omega (arith, d))))
-        ∙ ap (set (each past_process (moves starts a) 4 x.processes) k) (moved-start o l))
+        ∙ ap (set (each past_process (moves starts a) 4 x.processes) k) (moved_start o l))
         ∙ ap (λ (y : Node). with_process y k (starting_at o (resolve w))) (sym (node_is starts a x))
 
 -- ---- the state while lines are read: four slots at each address, and a word for each slot
@@ -174,47 +174,47 @@ sized_after (tuple a t) s h ok = record {
 
 module _ (resolve : ℕ → Place) (place : Start → Place) (r : Resolves resolve place) where
   -- ---- one line
-  process-placed :
+  process_placed :
       (t : Net) (a : Locality) (x : Node) (k : ℕ) (p q : Place) → node_at t a ≡ x → process_count x ≡ k → p ≡ q
       → with_node t a (with_process x k (starting_at a p)) ≡ with_node t a (with_process (node_at t a) (process_count (node_at t a)) (starting_at a q))
-  process-placed t a x k p q e c h = rw (e, c, h) refl
+  process_placed t a x k p q e c h = rw (e, c, h) refl
 
-  moved-process :
+  moved_process :
       (a : Locality) (x : Terms.Process) (s : State) → Sized s → a.0 < 16 → fits x → process_count (node_at s.net a) < 4 → s.count ≤ 512
       → moved_net resolve (after (process a x) s).starts (after (process a x) s).net
       ≡ placed place s.count (process a x) (moved_net resolve s.starts s.net)
   unfolding after placed unplaced
-  moved-process a x s ok h f room b =
+  moved_process a x s ok h f room b =
       let node = node_at s.net a in
       let k = process_count node in
       let w = start_word (start_of s.count x) in
       let size = ok.nodes_ok.size_is in
       let slots : length node.processes ≡ 4 = slots_at s ok a h in
-      net-set resolve s.starts (set s.starts (4 * a.0 + k) w) s.net a _ size h
+      net_set resolve s.starts (set s.starts (4 * a.0 + k) w) s.net a _ size h
       (λ i y l d. node_other resolve s.starts a.0 k w room i y d)
       ∙ ap (with_node (moved_net resolve s.starts s.net) a)
-      (node-process resolve s.starts a.0 k w room a node slots (omega (arith, ok.starts_are)))
-      ∙ process-placed _ a _ k _ _ (node_at_law resolve s.starts s.net a size h)
+      (node_process resolve s.starts a.0 k w room a node slots (omega (arith, ok.starts_are)))
+      ∙ process_placed _ a _ k _ _ (node_at_law resolve s.starts s.net a size h)
       (count_kept resolve s.starts a.0 node slots) (start_back resolve place r s.count x f b)
 
-  moved-tuple :
+  moved_tuple :
       (a : Locality) (t : Tuple) (s : State) → Sized s → a.0 < 16
       → moved_net resolve s.starts (with_node s.net a (with_tuple (node_at s.net a) t))
       ≡ with_node (moved_net resolve s.starts s.net) a (with_tuple (node_at (moved_net resolve s.starts s.net) a) t)
-  moved-tuple a t s ok h =
+  moved_tuple a t s ok h =
       let size = ok.nodes_ok.size_is in
-      net-set resolve s.starts s.starts s.net a _ size h (λ i y l d. refl)
+      net_set resolve s.starts s.starts s.net a _ size h (λ i y l d. refl)
       ∙ ap (with_node (moved_net resolve s.starts s.net) a)
-      (node-tuple resolve s.starts a.0 (node_at s.net a) t
+      (node_tuple resolve s.starts a.0 (node_at s.net a) t
       ∙ ap (λ (x : Node). with_tuple x t) (sym (node_at_law resolve s.starts s.net a size h)))
 
-  moved-line :
+  moved_line :
       (l : Line) (s : State) → Sized s → FitsLine s.net l → s.count ≤ 512
       → moved_net resolve (after l s).starts (after l s).net ≡ placed place s.count l (moved_net resolve s.starts s.net)
   unfolding after placed FitsLine
-  moved-line (definition k x) s ok h b = refl
-  moved-line (process a x) s ok h b = moved-process a x s ok h.0 h.1.0 h.1.1 b
-  moved-line (tuple a t) s ok h b = moved-tuple a (marked a t) s ok h
+  moved_line (definition k x) s ok h b = refl
+  moved_line (process a x) s ok h b = moved_process a x s ok h.0 h.1.0 h.1.1 b
+  moved_line (tuple a t) s ok h b = moved_tuple a (marked a t) s ok h
 
   -- ---- all lines
   moved_lines :
@@ -224,7 +224,7 @@ module _ (resolve : ℕ → Place) (place : Start → Place) (r : Resolves resol
   moved_lines [] s ok h b = refl
   moved_lines (l ∷ ls) s ok h b =
       moved_lines ls (after l s) (sized_after l s h.0 ok) h.1 (omega (arith, after_count_one l s))
-      ∙ rw (after_count_one l s, moved-line l s ok h.0 (omega arith)) refl
+      ∙ rw (after_count_one l s, moved_line l s ok h.0 (omega arith)) refl
 
   pub moved_all :
       (ls : List Line) (base : Net) → Shaped base
@@ -239,4 +239,4 @@ module _ (resolve : ℕ → Place) (place : Start → Place) (r : Resolves resol
         starts_are = length-replicate {A = ℕ} 64 0;
       })
       h (omega arith)
-      ∙ ap (peopled place 0 ls) (net-none resolve (replicate 64 0) base free)
+      ∙ ap (peopled place 0 ls) (net_none resolve (replicate 64 0) base free)

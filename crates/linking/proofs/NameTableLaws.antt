@@ -41,10 +41,10 @@ module _ (bodies : List ℕ) (x : Start) where
   unfolding start_in settle_in start_for choose
   one_name m j ended after n l w e f g s = rw (e, f, s, g) refl
 
-  pub settling-more :
+  pub settling_more :
       (h : ℕ) (ended after : Bool) (n l w : ℕ) → h < 512 → Settling bodies x h ended n → ended ≡ false → w ≡ get_or bodies n 0
       → start_for after l ≡ start_from w → Settling bodies x (h + 1) after l
-  settling-more h ended after n l w b s f e a =
+  settling_more h ended after n l w b s f e a =
       record { rest = s.rest ∙ one_name (512 - h) (512 - (h + 1)) ended after n l w (omega arith) f e a }
 
   arrived : (m n : ℕ) → settle_in m bodies (here n) ≡ here n
@@ -52,10 +52,10 @@ module _ (bodies : List ℕ) (x : Start) where
   arrived zero n = refl
   arrived (suc m) n = refl
 
-  pub settling-stop :
+  pub settling_stop :
       (h : ℕ) (ended : Bool) (n : ℕ) → Settling bodies x h ended n → ended ≡ true → start_for ended n ≡ settled_in bodies x
   unfolding start_for
-  settling-stop h ended n s t =
+  settling_stop h ended n s t =
       let there : start_for ended n ≡ here n = choose_true _ _ _ t in
       there ∙ sym (arrived (512 - h) n) ∙ ap (settle_in (512 - h) bodies) (sym there) ∙ sym s.rest
 
@@ -63,9 +63,9 @@ module _ (bodies : List ℕ) (x : Start) where
   unfolding settle_in
   no_names m y e = rw e refl
 
-  pub settling-end :
+  pub settling_end :
       (h : ℕ) (ended : Bool) (n : ℕ) → Settling bodies x h ended n → 512 ≤ h → start_for ended n ≡ settled_in bodies x
-  settling-end h ended n s b = sym (s.rest ∙ no_names (512 - h) (start_for ended n) (omega arith))
+  settling_end h ended n s b = sym (s.rest ∙ no_names (512 - h) (start_for ended n) (omega arith))
 
 -- ---- whether a start is an instruction, and which
 ends_here : (ended : Bool) (n : ℕ) (x : Start) → start_for ended n ≡ x → ended ≡ is_here x
@@ -94,11 +94,11 @@ module _ (bodies : List ℕ) (defs uses : List Bool) (k : ℕ) (d : Bool) (e : d
   right_none u z f =
       ap not f ∙ no_body (get_or defs k false) (get_or uses k false) (is_here (settled_in bodies (called k))) (sym e ∙ z)
 
-  pub right-defined :
+  pub right_defined :
       (ended : Bool) (n : ℕ) → d ≡ true → start_for ended n ≡ settled_in bodies (start_for false k)
       → ended ≡ name_right_in bodies defs uses k
   unfolding name_right_in start_for choose
-  right-defined ended n z s =
+  right_defined ended n z s =
       ends_here ended n _ s
       ∙ a_body (get_or defs k false) (get_or uses k false) (is_here (settled_in bodies (called k))) (sym e ∙ z)
 
@@ -131,10 +131,10 @@ module _ (ls : List Line) (bodies : List ℕ) (defs uses : List Bool) (twice : B
   settled_name k b = settle_same 512 (called k) b
 
   -- and has the number that they say, where it comes to an instruction
-  pub name-number :
+  pub name_number :
       (k : ℕ) (ended : Bool) (n : ℕ) → k < 512 → start_for ended n ≡ settled_in bodies (called k)
       → is_here (settled ls (called k)) ≡ true → n ≡ number_of (settled ls (called k))
-  name-number k ended n b e h =
+  name_number k ended n b e h =
       let settles : start_for ended n ≡ settled ls (called k) = e ∙ settled_name k b in
       number_here ended n (settled ls (called k)) settles (ends_here ended n (settled ls (called k)) settles ∙ h)
 

@@ -12,7 +12,7 @@ use Rattle.net.specs.Choice.{choose}
 use Rattle.net.specs.Records.{starting_at, free_process, zero_node, empty_net, process_at, node_at, address_of, process_count}
 use Rattle.net.specs.Records.{marked, with_node, with_rows, with_process, with_tuple, with_counts, with_format}
 use Rattle.net.proofs.Laws.{choose_true, choose_false}
-use Rattle.net.proofs.Every.{Every, chosen_lt, every_replicate, every_set, filled-add}
+use Rattle.net.proofs.Every.{Every, chosen_lt, every_replicate, every_set, filled_add}
 use Rattle.net.proofs.Past.{past_process, past_node}
 use Rattle.net.proofs.SlotLaws.{FirstBusy, slot_busy, slots_counted}
 use Rattle.terms.specs.Terms.{Process}
@@ -22,7 +22,7 @@ use Rattle.linking.specs.Source.{Line, definition, process, tuple, Policy}
 use Rattle.linking.specs.NodeCounts.{Holds, Counts, HasRoom}
 use Rattle.linking.specs.Counts.{processes_in, tuples_in, counted}
 use Rattle.linking.specs.Compiled.{total, addresses_of, rows_of, format_of, ruled, placed, peopled, unruled, governed}
-use Rattle.linking.proofs.Peopled.{peopled-more}
+use Rattle.linking.proofs.Peopled.{peopled_more}
 use Rattle.linking.proofs.Governed.{length_rows}
 
 -- ---- a node
@@ -53,7 +53,7 @@ module _ (c m : ℕ) (x : Node) (ok : Holds c m x) where
   unfolding with_process starting_at
   holds_process a q h =
       subst (λ (i : ℕ). Holds (c + 1) m (with_process x i (starting_at a q))) (sym ok.processes)
-      (holds_first (c + 1) m _ (filled-add _ refl first_busy) (omega arith) ok.stored ok.few_tuples)
+      (holds_first (c + 1) m _ (filled_add _ refl first_busy) (omega arith) ok.stored ok.few_tuples)
 
   holds_tuple : (t : Tuple) → m < 16 → Holds c (m + 1) (with_tuple x t)
   unfolding with_tuple process_count process_at
@@ -105,11 +105,11 @@ module _ (ls : List Line) (s : Net) (ok : Counts ls s) where
         Holds (counted (processes_in (address_of i)) ls + processes_in (address_of i) l)
         (counted (tuples_in (address_of i)) ls + tuples_in (address_of i) l)
 
-    node-set :
+    node_set :
         (x : Node) → ((a : Locality) → a.0 ≢ b.0 → processes_in a l ≡ 0) → ((a : Locality) → a.0 ≢ b.0 → tuples_in a l ≡ 0)
         → Next b.0 x → Counts (ls ++ (l ∷ [])) (with_node s b x)
     unfolding with_node node_at
-    node-set x f g h =
+    node_set x f g h =
         let after : Every Next past_node 16 (set s.nodes b.0 x) =
         every_set b.0 x nodes
         (λ i y d e. holds_as (omega (arith, f (address_of i) d)) (omega (arith, g (address_of i) d)) e) h in
@@ -129,27 +129,27 @@ module _ (ls : List Line) (s : Net) (ok : Counts ls s) where
   }
 
   module _ (place : Start → Place) (n : ℕ) (b : Locality) (h : b.0 < 16) where
-    pub counts-process :
+    pub counts_process :
         (p : Process) → counted (processes_in b) ls < 4 → Counts (ls ++ (process b p ∷ [])) (placed place n (process b p) s)
     unfolding placed processes_in tuples_in
-    counts-process p r =
-        node-set (process b p) b _ (λ a d. none_elsewhere a b d) (λ a d. refl)
+    counts_process p r =
+        node_set (process b p) b _ (λ a d. none_elsewhere a b d) (λ a d. refl)
         (holds_as (omega (arith, one_there b)) (omega arith) (holds_process _ _ _ (ok.at b h) _ _ r))
 
-    pub counts-tuple :
+    pub counts_tuple :
         (t : Tuple) → counted (tuples_in b) ls < 16 → Counts (ls ++ (tuple b t ∷ [])) (placed place n (tuple b t) s)
     unfolding placed processes_in tuples_in
-    counts-tuple t r =
-        node-set (tuple b t) b _ (λ a d. refl) (λ a d. none_elsewhere a b d)
+    counts_tuple t r =
+        node_set (tuple b t) b _ (λ a d. refl) (λ a d. none_elsewhere a b d)
         (holds_as (omega arith) (omega (arith, one_there b)) (holds_tuple _ _ _ (ok.at b h) (marked b t) r))
 
-pub counts-more :
+pub counts_more :
     (ls : List Line) (s : Net) → Counts ls s → (place : Start → Place) (n : ℕ) (l : Line) → HasRoom ls l
     → Counts (ls ++ (l ∷ [])) (placed place n l s)
 unfolding HasRoom placed
-counts-more ls s ok place n (definition k p) h = counts_definition ls s ok k p
-counts-more ls s ok place n (process a p) h = counts-process ls s ok place n a h.0 p h.1
-counts-more ls s ok place n (tuple a t) h = counts-tuple ls s ok place n a h.0 t h.1
+counts_more ls s ok place n (definition k p) h = counts_definition ls s ok k p
+counts_more ls s ok place n (process a p) h = counts_process ls s ok place n a h.0 p h.1
+counts_more ls s ok place n (tuple a t) h = counts_tuple ls s ok place n a h.0 t h.1
 
 -- ---- all lines, each of which finds room after those before it
 pub data AllRoom : List Line → Type 0 where
@@ -161,7 +161,7 @@ pub counts_all :
 unfolding peopled
 counts_all s none place [] no_lines = none
 counts_all s none place _ (more_lines ls l ok h) =
-    rw (peopled-more place 0 ls l s) (counts-more ls _ (counts_all s none place ls ok) place (0 + total ls) l h)
+    rw (peopled_more place 0 ls l s) (counts_more ls _ (counts_all s none place ls ok) place (0 + total ls) l h)
 
 -- ---- a net that has rows alone
 holds_zero : Holds 0 0 zero_node

@@ -35,18 +35,18 @@ module _ (place : Start → Place) where
   placed_frame n (tuple a t) s = record { format_is = refl; addresses_are = refl; length_is = refl; code_is = refl }
 
   -- ---- all lines
-  pub peopled-any-counts :
+  pub peopled_any_counts :
       (n : ℕ) (ls : List Line) (s : Net) (m k : ℕ) → peopled place n ls (with_counts s m k) ≡ with_counts (peopled place n ls s) m k
   unfolding peopled
-  peopled-any-counts n [] s m k = refl
-  peopled-any-counts n (l ∷ ls) s m k =
+  peopled_any_counts n [] s m k = refl
+  peopled_any_counts n (l ∷ ls) s m k =
       ap (peopled place (n + size_of l) ls) (placed_counts n l s m k)
-      ∙ peopled-any-counts (n + size_of l) ls (placed place n l s) m k
+      ∙ peopled_any_counts (n + size_of l) ls (placed place n l s) m k
 
-  pub peopled-counts :
+  pub peopled_counts :
       (n : ℕ) (ls : List Line) (s : Net) (k : ℕ)
       → peopled place n ls (with_counts s s.addresses k) ≡ with_counts (peopled place n ls s) s.addresses k
-  peopled-counts n ls s k = peopled-any-counts n ls s s.addresses k
+  peopled_counts n ls s k = peopled_any_counts n ls s s.addresses k
 
   pub peopled_frame : (n : ℕ) (ls : List Line) (s : Net) → SameFrame s (peopled place n ls s)
   unfolding peopled
@@ -62,13 +62,13 @@ module _ (place : Start → Place) where
       }
 
   -- ---- one line more
-  pub peopled-more :
+  pub peopled_more :
       (n : ℕ) (ls : List Line) (l : Line) (s : Net)
       → peopled place n (ls ++ (l ∷ [])) s ≡ placed place (n + total ls) l (peopled place n ls s)
   unfolding peopled total
-  peopled-more n [] l s = ap (λ (m : ℕ). placed place m l s) (omega arith)
-  peopled-more n (x ∷ ls) l s =
-      peopled-more (n + size_of x) ls l (placed place n x s)
+  peopled_more n [] l s = ap (λ (m : ℕ). placed place m l s) (omega arith)
+  peopled_more n (x ∷ ls) l s =
+      peopled_more (n + size_of x) ls l (placed place n x s)
       ∙ ap (λ (m : ℕ). placed place m l (peopled place (n + size_of x) ls (placed place n x s))) (omega arith)
 
 -- ---- processes moved to their places
@@ -96,11 +96,11 @@ unfolding after_all
 after_more [] l s = refl
 after_more (x ∷ ls) l s = after_more ls l (after x s)
 
-pub fit-more :
+pub fit_more :
     (ls : List Line) (l : Line) (s : State) → FitAll ls s → FitsLine (after_all ls s).net l → FitAll (ls ++ (l ∷ [])) s
 unfolding after_all FitAll
-fit-more [] l s h f = (f, tt)
-fit-more (x ∷ ls) l s h f = (h.0, fit-more ls l (after x s) h.1 f)
+fit_more [] l s h f = (f, tt)
+fit_more (x ∷ ls) l s h f = (h.0, fit_more ls l (after x s) h.1 f)
 
 pub after_count_one : (l : Line) (s : State) → (after l s).count ≡ s.count + size_of l
 unfolding after size_of

@@ -38,11 +38,11 @@ place_found bodies w x y p e f g = rw (g, f, e) refl
 
 module _ (resolve : ℕ → Place) where
   -- ---- instructions
-  pub linked-is :
+  pub linked_is :
       (table : List ℕ) (i v w : ℕ) (p q : Place) (c : Instruction) → v ≡ get_or table (9 * i + 7) 0 → w ≡ get_or table (9 * i + 8) 0
       → p ≡ resolve v → q ≡ resolve w → c ≡ loaded_in table i p q → c ≡ linked_at resolve table i
   unfolding linked_at
-  linked-is table i v w p q c e f g h k = rw (k, g, h, e, f) refl
+  linked_is table i v w p q c e f g h k = rw (k, g, h, e, f) refl
 
   pub linked_none : (table : List ℕ) (s : Net) → s ≡ with_linked resolve table 0 s
   unfolding with_linked linked_code fold
@@ -51,15 +51,15 @@ module _ (resolve : ℕ → Place) where
   plus_one : (i : ℕ) → i + 1 ≡ suc i
   plus_one i = omega arith
 
-  pub linked-more :
+  pub linked_more :
       (table : List ℕ) (i : ℕ) (s t : Net) (c : Instruction) → t ≡ with_linked resolve table i s → c ≡ linked_at resolve table i
       → record { format = t.format; addresses = t.addresses; length = t.length; nodes = t.nodes; code = set t.code i c } ≡ with_linked resolve table (i + 1) s
   unfolding with_linked linked_code fold
-  linked-more table i s t c e f = rw (plus_one i, e, f) refl
+  linked_more table i s t c e f = rw (plus_one i, e, f) refl
 
-  pub linked-end :
+  pub linked_end :
       (table : List ℕ) (i n : ℕ) (s t : Net) → t ≡ with_linked resolve table i s → i ≤ n → n ≤ i → t ≡ with_linked resolve table n s
-  linked-end table i n s t e h g = let same : i ≡ n = omega arith in rw (← same) e
+  linked_end table i n s t e h g = let same : i ≡ n = omega arith in rw (← same) e
 
   -- ---- processes
   pub moved_busy : (w : ℕ) (p q : Process) (at : Place) → p.busy ≡ true → at ≡ resolve w → q ≡ moved_to p at → q ≡ moved_by resolve w p
@@ -70,17 +70,17 @@ module _ (resolve : ℕ → Place) where
   unfolding moved_by
   moved_free w p e = sym (choose_false _ _ _ e)
 
-  pub slot-moved :
+  pub slot_moved :
       (starts : List ℕ) (a j w : ℕ) (x : Node) (p : Process) → w ≡ get_or starts (4 * a + j) 0 → p ≡ moved_by resolve w (process_at x j)
       → with_process x j p ≡ moved_slot resolve starts a j x
   unfolding moved_slot
-  slot-moved starts a j w x p e f = rw (f, e) refl
+  slot_moved starts a j w x p e f = rw (f, e) refl
 
-  pub address-moved :
+  pub address_moved :
       (starts : List ℕ) (a : ℕ) (s : Net) (x : Node) → x ≡ moved_node resolve starts a (node_at s (address_of a))
       → with_node s (address_of a) x ≡ moved_address resolve starts a s
   unfolding moved_address
-  address-moved starts a s x e = ap (with_node s (address_of a)) e
+  address_moved starts a s x e = ap (with_node s (address_of a)) e
 
   -- past the end of the code nothing is stored
   code_long : (table : List ℕ) (n : ℕ) (code : List Instruction) → length (linked_code resolve table n code) ≡ length code
@@ -88,41 +88,41 @@ module _ (resolve : ℕ → Place) where
   code_long table zero code = refl
   code_long table (suc n) code = length-set (linked_code resolve table n code) n (linked_at resolve table n) ∙ code_long table n code
 
-  code-past :
+  code_past :
       (table : List ℕ) (k n : ℕ) (code : List Instruction) → length code ≤ k
       → linked_code resolve table (n + k) code ≡ linked_code resolve table k code
   unfolding linked_code fold
-  code-past table k zero code h = ap (λ (m : ℕ). linked_code resolve table m code) none
+  code_past table k zero code h = ap (λ (m : ℕ). linked_code resolve table m code) none
     where
       none : 0 + k ≡ k
       none = omega arith
-  code-past table k (suc n) code h =
+  code_past table k (suc n) code h =
       ap (λ (m : ℕ). linked_code resolve table m code) one
       ∙ set_out (linked_code resolve table (n + k) code) (n + k) (linked_at resolve table (n + k)) (omega (arith, code_long table (n + k) code))
-      ∙ code-past table k n code h
+      ∙ code_past table k n code h
     where
       one : suc n + k ≡ suc (n + k)
       one = omega arith
 
-  code-capped :
+  code_capped :
       (table : List ℕ) (n : ℕ) (code : List Instruction) → length code ≡ 512
       → linked_code resolve table (choose (leb n 512) n 512) code ≡ linked_code resolve table n code
-  code-capped table n code l = go (dec_le n 512)
+  code_capped table n code l = go (dec_le n 512)
     where
       go : Dec (n ≤ 512) → linked_code resolve table (choose (leb n 512) n 512) code ≡ linked_code resolve table n code
       go (yes y) = ap (λ (m : ℕ). linked_code resolve table m code) (choose_true _ _ _ (le-leb n 512 y))
       go (no y) =
           let rest : n - 512 + 512 ≡ n = omega arith in
           ap (λ (m : ℕ). linked_code resolve table m code) (choose_false _ _ _ (lt-leb n 512 (omega arith)))
-          ∙ sym (code-past table 512 (n - 512) code (omega (arith, l)))
+          ∙ sym (code_past table 512 (n - 512) code (omega (arith, l)))
           ∙ ap (λ (m : ℕ). linked_code resolve table m code) rest
 
-  pub linked-all :
+  pub linked_all :
       (table starts : List ℕ) (k n : ℕ) (s moved t : Net) → moved ≡ moved_net resolve starts s → Shaped moved → k ≡ choose (leb n 512) n 512
       → t ≡ with_linked resolve table k (with_counts moved moved.addresses n) → t ≡ linked_net resolve table starts n s
   unfolding linked_net with_linked with_counts
-  linked-all table starts k n s moved t e shape h f =
+  linked_all table starts k n s moved t e shape h f =
       let coded : linked_code resolve table k moved.code ≡ linked_code resolve table n moved.code =
-      ap (λ (m : ℕ). linked_code resolve table m moved.code) h ∙ code-capped table n moved.code shape.code_is in
+      ap (λ (m : ℕ). linked_code resolve table m moved.code) h ∙ code_capped table n moved.code shape.code_is in
       f ∙ ap (λ (c : List Instruction). record { format = moved.format; addresses = moved.addresses; length = n; nodes = moved.nodes; code = c }) coded
       ∙ ap (λ (m : Net). with_linked resolve table n (with_counts m m.addresses n)) e

@@ -19,8 +19,8 @@ use Rattle.lexemes.specs.Lexemes.{is_digit}
 use Rattle.lines.specs.Words.{Word, name, number, reading, address, word_text, spaced, line_text, printed}
 use Rattle.listing.specs.Listing.{Checked, at_front, listed, carries, checked_from}
 use Rattle.listing.specs.ListingClaims.{PaddedNumber, padded, PaddedWord, as_it_is, a_number, above, below, an_address}
-use Rattle.listing.specs.ListingClaims.{PaddedWords, no_words, word-then, PaddedLine, empty_line, line_of}
-use Rattle.listing.specs.ListingClaims.{Padded, no_lines, line-then}
+use Rattle.listing.specs.ListingClaims.{PaddedWords, no_words, word_then_law, PaddedLine, empty_line, line_of}
+use Rattle.listing.specs.ListingClaims.{Padded, no_lines, line_then}
 use Rattle.listing.proofs.Digits.{AllDigits, none, one, digit_low, padded_digits}
 use Rattle.listing.proofs.Carrying.{line_carried, carried_line}
 
@@ -101,7 +101,7 @@ module _ {Q : ℕ → Type 0} where
   words_clean : {ws : List Word} {t : List ℕ} → Each (Fine Q) ws → PaddedWords ws t → clean t ≡ true
   unfolding clean
   words_clean nil no_words = refl
-  words_clean (cons f fs) (word-then {u = u} {t = t} p r) =
+  words_clean (cons f fs) (word_then_law {u = u} {t = t} p r) =
       clean_byte 32 (u ++ t) (λ e. omega arith) (clean_both u t (word_clean f p) (words_clean fs r))
 
   one_line : {line : List Word} {u : List ℕ} → Each (Fine Q) line → PaddedLine line u → OneLine u
@@ -129,15 +129,15 @@ module _ {Q : ℕ → Type 0} where
       subst (λ (u : List ℕ). listed (u ++ rest) ≡ u ∷ listed rest) x.is (listed_body x.body rest x.is_clean)
 
   -- ---- what is padded agrees
-  pub padded-agrees :
+  pub padded_agrees_law :
       {lines : List (List Word)} {bs : List ℕ} (i : ℕ) → FineLines Q lines → Padded lines bs
       → checked_from i lines (listed bs) ≡ Checked.Agrees
   unfolding checked_from listed
-  padded-agrees i nil no_lines = refl
-  padded-agrees i (cons f fs) (line-then {line} {lines} {u} {t} p r) =
+  padded_agrees_law i nil no_lines = refl
+  padded_agrees_law i (cons f fs) (line_then {line} {lines} {u} {t} p r) =
       ap (checked_from i (line ∷ lines)) (listed_line t f p)
       ∙ choose_true (carries line u) (checked_from (i + 1) lines (listed t)) (Checked.Differs i) (line_carried p)
-      ∙ padded-agrees (i + 1) fs r
+      ∙ padded_agrees_law (i + 1) fs r
 
 -- ---- what agrees is padded
 together : List (List ℕ) → List ℕ
@@ -166,7 +166,7 @@ agrees_only_law i (line ∷ lines) (x ∷ xs) h = go (carries line x) refl h (λ
   where
     go : (b : Bool) → carries line x ≡ b → choose b (checked_from (i + 1) lines xs) (Checked.Differs i) ≡ Checked.Agrees
         → (checked_from (i + 1) lines xs ≡ Checked.Agrees → Padded lines (together xs)) → Padded (line ∷ lines) (x ++ together xs)
-    go true e g r = line-then (carried_line line x e) (r g)
+    go true e g r = line_then (carried_line line x e) (r g)
     go false e g r = let z : ◌≡◌ {A = ℕ} 0 1 = cc in absurd (omega arith)
 
 pub listing_only : (i : ℕ) (lines : List (List Word)) (bs : List ℕ) → checked_from i lines (listed bs) ≡ Checked.Agrees → Padded lines bs
@@ -190,7 +190,7 @@ plain_word (located h) = an_address (plain_number h)
 plain_words : {ws : List Word} → Each (Fine Short) ws → PaddedWords ws (spaced ws)
 unfolding spaced
 plain_words nil = no_words
-plain_words (cons f fs) = word-then (plain_word f) (plain_words fs)
+plain_words (cons f fs) = word_then_law (plain_word f) (plain_words fs)
 
 plain_line : {line : List Word} → Each (Fine Short) line → PaddedLine line (line_text line)
 unfolding line_text
@@ -200,4 +200,4 @@ plain_line (cons f fs) = line_of (plain_word f) (plain_words fs)
 pub plain_lines : {lines : List (List Word)} → FineLines Short lines → Padded lines (printed lines)
 unfolding printed
 plain_lines nil = no_lines
-plain_lines (cons f fs) = line-then (plain_line f) (plain_lines fs)
+plain_lines (cons f fs) = line_then (plain_line f) (plain_lines fs)

@@ -16,7 +16,7 @@ use Rattle.lines.specs.Words.{Word, name, number, reading, address}
 use Rattle.listing.specs.Listing.{byte_then, text_then, digits_of, after_digits, writes, number_then, word_then, words_then}
 use Rattle.listing.specs.Listing.{nothing_left, line_ends, carries}
 use Rattle.listing.specs.ListingClaims.{PaddedNumber, PaddedWord, as_it_is, a_number, above, below, an_address}
-use Rattle.listing.specs.ListingClaims.{PaddedWords, no_words, word-then, PaddedLine, empty_line, line_of}
+use Rattle.listing.specs.ListingClaims.{PaddedWords, no_words, word_then_law, PaddedLine, empty_line, line_of}
 use Rattle.listing.proofs.Digits.{Quiet, quiet_byte, front_digits, front_after, digits_front, digits_after}
 use Rattle.listing.proofs.Digits.{padded_digits, padded_writes, writes_padded}
 
@@ -53,18 +53,18 @@ quiet_low b rest h = quiet_byte b rest (ap (λ (t : Bool). both t (leb b 57)) (l
 
 quiet_words : {ws : List Word} {t : List ℕ} (rest : List ℕ) → PaddedWords ws t → Quiet rest → Quiet (t ++ rest)
 quiet_words rest no_words q = q
-quiet_words rest (word-then {u = u} {t = t} p r) q = quiet_low 32 ((u ++ t) ++ rest) (omega arith)
+quiet_words rest (word_then_law {u = u} {t = t} p r) q = quiet_low 32 ((u ++ t) ++ rest) (omega arith)
 
-words-there :
+words_there :
     (next : List ℕ → Bool) (rest : List ℕ) {ws : List Word} {t : List ℕ} → PaddedWords ws t → Quiet rest
     → words_then ws next (t ++ rest) ≡ next rest
 unfolding words_then
-words-there next rest no_words q = refl
-words-there next rest (word-then {w} {ws} {u} {t} p r) q =
+words_there next rest no_words q = refl
+words_there next rest (word_then_law {w} {ws} {u} {t} p r) q =
     byte_there 32 (word_then w (words_then ws next)) ((u ++ t) ++ rest)
     ∙ ap (word_then w (words_then ws next)) (append_assoc u t rest)
     ∙ word_there (words_then ws next) (t ++ rest) (quiet_words rest r q) p
-    ∙ words-there next rest r q
+    ∙ words_there next rest r q
 
 ends_there : line_ends (10 ∷ []) ≡ true
 unfolding line_ends nothing_left
@@ -76,7 +76,7 @@ line_carried empty_line = ends_there
 line_carried (line_of {w} {ws} {u} {t} p r) =
     let q = quiet_low 10 [] (omega arith) in
     word_there (words_then ws line_ends) (t ++ 10 ∷ []) (quiet_words (10 ∷ []) r q) p
-    ∙ words-there line_ends (10 ∷ []) r q ∙ ends_there
+    ∙ words_there line_ends (10 ∷ []) r q ∙ ends_there
 
 -- ---- what is carried is padded: a part of it stands at the front, and the rest passes the next test
 record Split (P : List ℕ → Type 0) (next : List ℕ → Bool) (bs : List ℕ) : Type 0 where
@@ -86,10 +86,10 @@ record Split (P : List ℕ → Type 0) (next : List ℕ → Bool) (bs : List ℕ
   holds : P front
   passes : next rest ≡ true
 
-split-as :
+split_as :
     {P Q : List ℕ → Type 0} {next : List ℕ → Bool} {bs : List ℕ} → ((u : List ℕ) → P u → Q u) → Split P next bs
     → Split Q next bs
-split-as f s = record { front = s.front; rest = s.rest; is = s.is; holds = f s.front s.holds; passes = s.passes }
+split_as f s = record { front = s.front; rest = s.rest; is = s.is; holds = f s.front s.holds; passes = s.passes }
 
 -- a byte, and a part behind it
 byte_split : (b : ℕ) (next : List ℕ → Bool) (bs : List ℕ) → byte_then b next bs ≡ true → Split (λ u. b ∷ [] ≡ u) next bs
@@ -105,11 +105,11 @@ byte_split b next (c ∷ bs) h =
       passes = both_r (eqb c b) _ h;
     }
 
-two-splits :
+two_splits :
     {P Q R : List ℕ → Type 0} {next : List ℕ → Bool} {bs : List ℕ} (test : (List ℕ → Bool) → List ℕ → Bool)
     → ((u v : List ℕ) → P u → Q v → R (u ++ v)) → ((xs : List ℕ) → test next xs ≡ true → Split Q next xs)
     → Split P (test next) bs → Split R next bs
-two-splits test f g s =
+two_splits test f g s =
     let t = g s.rest s.passes in
     record {
       front = s.front ++ t.front;
@@ -119,18 +119,18 @@ two-splits test f g s =
       passes = t.passes;
     }
 
-behind-byte :
+behind_byte :
     {Q R : List ℕ → Type 0} {next : List ℕ → Bool} {bs : List ℕ} (b : ℕ) (test : (List ℕ → Bool) → List ℕ → Bool)
     → ((v : List ℕ) → Q v → R (b ∷ v)) → ((xs : List ℕ) → test next xs ≡ true → Split Q next xs)
     → byte_then b (test next) bs ≡ true → Split R next bs
-behind-byte {R = R} b test f g h =
-    two-splits test (λ u v e q. subst (λ (w : List ℕ). R (w ++ v)) e (f v q)) g (byte_split b (test _) _ h)
+behind_byte {R = R} b test f g h =
+    two_splits test (λ u v e q. subst (λ (w : List ℕ). R (w ++ v)) e (f v q)) g (byte_split b (test _) _ h)
 
 text_split : (text : List ℕ) (next : List ℕ → Bool) (bs : List ℕ) → text_then text next bs ≡ true → Split (λ u. text ≡ u) next bs
 unfolding text_then
 text_split [] next bs h = record { front = []; rest = bs; is = refl; holds = refl; passes = h }
 text_split (b ∷ text) next bs h =
-    behind-byte b (text_then text) (λ v e. ap (λ (xs : List ℕ). b ∷ xs) e) (λ xs. text_split text next xs) h
+    behind_byte b (text_then text) (λ v e. ap (λ (xs : List ℕ). b ∷ xs) e) (λ xs. text_split text next xs) h
 
 number_split : (n : ℕ) (next : List ℕ → Bool) (bs : List ℕ) → number_then n next bs ≡ true → Split (PaddedNumber n) next bs
 unfolding number_then
@@ -144,27 +144,27 @@ number_split n next bs h = record {
 
 word_split : (w : Word) (next : List ℕ → Bool) (bs : List ℕ) → word_then w next bs ≡ true → Split (PaddedWord w) next bs
 unfolding word_then
-word_split (name text) next bs h = split-as (λ u e. subst (PaddedWord (name text)) e as_it_is) (text_split text next bs h)
-word_split (number n) next bs h = split-as (λ u p. a_number p) (number_split n next bs h)
-word_split (reading (ℤ.pos n)) next bs h = split-as (λ u p. above p) (number_split n next bs h)
+word_split (name text) next bs h = split_as (λ u e. subst (PaddedWord (name text)) e as_it_is) (text_split text next bs h)
+word_split (number n) next bs h = split_as (λ u p. a_number p) (number_split n next bs h)
+word_split (reading (ℤ.pos n)) next bs h = split_as (λ u p. above p) (number_split n next bs h)
 word_split (reading (ℤ.negsuc n)) next bs h =
-    behind-byte 45 (number_then (n + 1)) (λ v p. below p) (λ xs. number_split (n + 1) next xs) h
+    behind_byte 45 (number_then (n + 1)) (λ v p. below p) (λ xs. number_split (n + 1) next xs) h
 word_split (address l) next bs h =
-    behind-byte 64 (number_then l.0) (λ v p. an_address p) (λ xs. number_split l.0 next xs) h
+    behind_byte 64 (number_then l.0) (λ v p. an_address p) (λ xs. number_split l.0 next xs) h
 
 -- a word with its space
 data Spaced (w : Word) : List ℕ → Type 0 where
   after_space : {u : List ℕ} → PaddedWord w u → Spaced w (32 ∷ u)
 
 more_words : {w : Word} {ws : List Word} {u v : List ℕ} → Spaced w u → PaddedWords ws v → PaddedWords (w ∷ ws) (u ++ v)
-more_words (after_space p) r = word-then p r
+more_words (after_space p) r = word_then_law p r
 
 words_split : (ws : List Word) (next : List ℕ → Bool) (bs : List ℕ) → words_then ws next bs ≡ true → Split (PaddedWords ws) next bs
 unfolding words_then
 words_split [] next bs h = record { front = []; rest = bs; is = refl; holds = no_words; passes = h }
 words_split (w ∷ ws) next bs h =
-    two-splits {P = Spaced w} (words_then ws) (λ u v p r. more_words p r) (λ xs. words_split ws next xs)
-    (behind-byte 32 (word_then w) (λ v p. after_space p) (λ xs. word_split w (words_then ws next) xs) h)
+    two_splits {P = Spaced w} (words_then ws) (λ u v p r. more_words p r) (λ xs. words_split ws next xs)
+    (behind_byte 32 (word_then w) (λ v p. after_space p) (λ xs. word_split w (words_then ws next) xs) h)
 
 nothing_is : (bs : List ℕ) → nothing_left bs ≡ true → [] ≡ bs
 unfolding nothing_left

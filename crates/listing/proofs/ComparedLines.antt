@@ -21,7 +21,7 @@ use Rattle.listing.proofs.Digits.{AllDigits, none, one, digit_low, Quiet, quiet_
 use Rattle.listing.proofs.Carrying.{quiet_low}
 use Rattle.listing.proofs.Agreeing.{Each, nil, cons, plain, Fine, label, value, upward, downward, located, FineLines, Short}
 use Rattle.listing.proofs.FirstBytes.{left_over}
-use Rattle.listing.proofs.TurnLaws.{by_test, byte-turn, number-turn}
+use Rattle.listing.proofs.TurnLaws.{by_test, byte_turn, number_turn}
 
 -- ---- the first line of some bytes, and what stands after it
 first_line : List ℕ → List ℕ
@@ -196,13 +196,13 @@ module _ (i : ℕ) where
   parts (c ∷ theirs) = refl
 
   -- a number of ours, and what follows it
-  number-turned :
+  number_turned :
       {ds : List ℕ} (ours theirs : List ℕ) → AllDigits ds → 1 ≤ length ds → Quiet ours
       → comparing false false i (ds ++ ours) theirs
       ≡ choose (writes (value_from 0 ds) (digits_of theirs)) (comparing false false i ours (after_digits theirs)) (Checked.Differs i)
-  number-turned ours theirs none l q = absurd (omega arith)
-  number-turned ours theirs (one {b = b} {ds = ds} h r) l q =
-      number-turn i false b (ds ++ ours) theirs h
+  number_turned ours theirs none l q = absurd (omega arith)
+  number_turned ours theirs (one {b = b} {ds = ds} h r) l q =
+      number_turn i false b (ds ++ ours) theirs h
       ∙ (λ k. choose (writes (value_from 0 (digits_front ours (one h r) q k)) (digits_of theirs))
       (comparing false false i (digits_after ours (one h r) q k) (after_digits theirs))
       (parts theirs k))
@@ -255,7 +255,7 @@ module _ (i : ℕ) (on : List ℕ → Checked) where
 
   byte_follows : {next : List ℕ → Bool} {ours : List ℕ} (b : ℕ) → is_digit b ≡ false → eqb b 10 ≡ false → Follows next ours → Follows (byte_then b next) (b ∷ ours)
   byte_follows {next} {ours} b d n h =
-      record { is = λ theirs. byte-turn i false false b ours theirs d ∙ byte_is next ours h b d n theirs }
+      record { is = λ theirs. byte_turn i false false b ours theirs d ∙ byte_is next ours h b d n theirs }
 
   text_follows : {next : List ℕ → Bool} {ours : List ℕ} (text : List ℕ) → plain text ≡ true → Follows next ours → Follows (text_then text next) (text ++ ours)
   unfolding text_then
@@ -267,7 +267,7 @@ module _ (i : ℕ) (on : List ℕ → Checked) where
   unfolding number_then decimal
   number_follows {next} {ours} n s q h = record {
     is = λ theirs.
-        number-turned i ours theirs (plain_digits 20 n) (plain_some 19 n) q
+        number_turned i ours theirs (plain_digits 20 n) (plain_some 19 n) q
         ∙ ap (λ (v : ℕ). choose (writes v (digits_of theirs)) (comparing false false i ours (after_digits theirs)) (Checked.Differs i))
         (plain_value 20 n (omega (arith, s.few)))
         ∙ both_follow (writes n (digits_of theirs)) next ours (after_digits theirs) theirs h (λ _. after_digits_line theirs);
@@ -311,7 +311,7 @@ module _ (i : ℕ) (ours : List ℕ) where
 
   newline_follows : Follows i on (byte_then 10 anything) (10 ∷ ours)
   newline_follows =
-      record { is = λ theirs. byte-turn i false false 10 ours theirs (low_byte 10 (omega arith)) ∙ newline_is theirs }
+      record { is = λ theirs. byte_turn i false false 10 ours theirs (low_byte 10 (omega arith)) ∙ newline_is theirs }
 
   line_follows : {line : List Word} → Each (Fine Short) line → Follows i on (line_there line) (line_text line ++ ours)
   unfolding line_there line_text

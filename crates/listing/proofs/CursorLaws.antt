@@ -18,8 +18,8 @@ use Rattle.net.proofs.ReadingLaws.{never}
 use Rattle.lexemes.specs.Lexemes.{is_digit}
 use Rattle.listing.specs.Listing.{Checked, digits_of, after_digits, value_from, writes}
 use Rattle.listing.specs.Comparing.{Number, Cursor, Turn, stands_first, parted_at, comparing, compared_of, number_at, alike, compared_from, parted_from, after_number, after_byte, ended_from, Open, Advances, Turned, goes_on, parts, Compared}
-use Rattle.listing.proofs.TurnLaws.{byte-turn, number-turn, digits_one}
-use Rattle.listing.proofs.NumberLaws.{alike-writes, after_number_law}
+use Rattle.listing.proofs.TurnLaws.{byte_turn, number_turn, digits_one}
+use Rattle.listing.proofs.NumberLaws.{alike_writes, after_number_law}
 
 -- the test is what a callee answered
 pub called : (t answer value : Bool) → answer ≡ t → answer ≡ value → t ≡ value
@@ -75,11 +75,11 @@ module _ (theirs : List ℕ) (at : Cursor) where
       ∙ ap (comparing false at.fresh at.line []) (sym (drop-cons theirs at.theirs 0 (omega arith)))
 
 -- ---- after a byte
-pub byte-cursor :
+pub byte_cursor :
     (at : Cursor) (b line : ℕ) → line ≡ choose (eqb b 10) (at.line + 1) at.line
     → record { ours = at.ours + 1; theirs = at.theirs + 1; line = line; fresh = eqb b 10 } ≡ after_byte at b
 unfolding after_byte
-byte-cursor at b line e = λ k. record { ours = at.ours + 1; theirs = at.theirs + 1; line = e k; fresh = eqb b 10 }
+byte_cursor at b line e = λ k. record { ours = at.ours + 1; theirs = at.theirs + 1; line = e k; fresh = eqb b 10 }
 
 module _ (ours theirs : List ℕ) (at : Cursor) (l : Open ours at) where
   opens : drop at.ours ours ≡ get_or ours at.ours 0 ∷ drop (at.ours + 1) ours
@@ -95,51 +95,51 @@ module _ (ours theirs : List ℕ) (at : Cursor) (l : Open ours at) where
         let long = ap length (ap digits_of opens ∙ digits_one (get_or ours at.ours 0) (drop (at.ours + 1) ours) d) in
         omega (arith, long)
 
-    number-turned :
+    number_turned :
         compared_from ours theirs at
         ≡ choose (alike (number_at ours at.ours) (number_at theirs at.theirs) at.theirs)
         (compared_from ours theirs (after_number at (number_at ours at.ours) (number_at theirs at.theirs)))
         (parted_from theirs at)
     unfolding compared_from after_number
-    number-turned =
+    number_turned =
         let rest : List ℕ = drop at.theirs theirs in
         ap (λ (xs : List ℕ). comparing false at.fresh at.line xs rest) opens
-        ∙ number-turn at.line at.fresh (get_or ours at.ours 0) (drop (at.ours + 1) ours) rest d
+        ∙ number_turn at.line at.fresh (get_or ours at.ours 0) (drop (at.ours + 1) ours) rest d
         ∙ ap (λ (xs : List ℕ). choose (writes (value_from 0 (digits_of xs)) (digits_of rest)) (comparing false false at.line (after_digits xs) (after_digits rest)) (parted_at at.fresh at.line rest)) (sym opens)
-        ∙ (λ k. choose (sym (alike-writes ours theirs at.ours at.theirs) k)
+        ∙ (λ k. choose (sym (alike_writes ours theirs at.ours at.theirs) k)
         (comparing false false at.line (sym (after_number_law ours at.ours) k) (sym (after_number_law theirs at.theirs) k))
         (sym (parted_is theirs at) k))
 
     module _ (mine other : Number) (m : mine ≡ number_at ours at.ours) (o : other ≡ number_at theirs at.theirs) where
-      number-comes :
+      number_comes :
           compared_from ours theirs at
           ≡ choose (alike mine other at.theirs) (compared_from ours theirs (after_number at mine other)) (parted_from theirs at)
-      number-comes =
-          number-turned
+      number_comes =
+          number_turned
           ∙ (λ k. choose (alike (sym m k) (sym o k) at.theirs) (compared_from ours theirs (after_number at (sym m k) (sym o k))) (parted_from theirs at))
 
-      pub number-on :
+      pub number_on :
           (next : Cursor) (same : Bool) → next ≡ after_number at mine other → same ≡ alike mine other at.theirs → same ≡ true
           → Turned ours theirs at (Turn.On next)
       unfolding after_number
-      number-on next same n e t =
+      number_on next same n e t =
           let on = ap (λ (x : Number). x.next) m in
           subst (λ (x : Cursor). Turned ours theirs at (Turn.On x)) (sym n)
-          (goes_on (sym (number-comes ∙ choose_true _ _ _ (sym e ∙ t))) (omega (arith, on, further)) (omega (arith, on, further, l.lines)))
+          (goes_on (sym (number_comes ∙ choose_true _ _ _ (sym e ∙ t))) (omega (arith, on, further)) (omega (arith, on, further, l.lines)))
 
       pub number_parts : (same : Bool) → same ≡ alike mine other at.theirs → same ≡ false → Turned ours theirs at Turn.Parted
-      number_parts same e f = parts (sym (number-comes ∙ choose_false _ _ _ (sym e ∙ f)))
+      number_parts same e f = parts (sym (number_comes ∙ choose_false _ _ _ (sym e ∙ f)))
 
   -- ---- any other byte
   module _ (d : is_digit (get_or ours at.ours 0) ≡ false) (b : ℕ) (e : b ≡ get_or ours at.ours 0) where
-    byte-comes :
+    byte_comes :
         compared_from ours theirs at
         ≡ choose (stands_first b (drop at.theirs theirs)) (compared_from ours theirs (after_byte at b)) (parted_from theirs at)
     unfolding compared_from after_byte
-    byte-comes =
+    byte_comes =
         let rest : List ℕ = drop at.theirs theirs in
         ap (λ (xs : List ℕ). comparing false at.fresh at.line xs rest) opens
-        ∙ byte-turn at.line false at.fresh (get_or ours at.ours 0) (drop (at.ours + 1) ours) rest d
+        ∙ byte_turn at.line false at.fresh (get_or ours at.ours 0) (drop (at.ours + 1) ours) rest d
         ∙ (λ k. choose (stands_first (sym e k) rest)
         (comparing false (eqb (sym e k) 10) (choose (eqb (sym e k) 10) (at.line + 1) at.line) (drop (at.ours + 1) ours) (drop-drop 1 at.theirs theirs k))
         (sym (parted_is theirs at) k))
@@ -157,16 +157,16 @@ module _ (ours theirs : List ℕ) (at : Cursor) (l : Open ours at) where
         let inside = stands_inside theirs at.theirs b (dec_le (length theirs) at.theirs) (sym s ∙ e) in
         record { ours = omega (arith, l.left, o); theirs = omega (arith, inside, t); line = omega (arith, l.left, l.lines, o) }
 
-    pub byte-on :
+    pub byte_on :
         (next : Cursor) (same : Bool) → next ≡ after_byte at b → same ≡ stands_first b (drop at.theirs theirs) → same ≡ true
         → Turned ours theirs at (Turn.On next)
     unfolding after_byte
-    byte-on next same n s t =
+    byte_on next same n s t =
         subst (λ (x : Cursor). Turned ours theirs at (Turn.On x)) (sym n)
-        (goes_on (sym (byte-comes ∙ choose_true _ _ _ (sym s ∙ t))) (omega arith) lines_after_law)
+        (goes_on (sym (byte_comes ∙ choose_true _ _ _ (sym s ∙ t))) (omega arith) lines_after_law)
 
     pub byte_parts : (same : Bool) → same ≡ stands_first b (drop at.theirs theirs) → same ≡ false → Turned ours theirs at Turn.Parted
-    byte_parts same s f = parts (sym (byte-comes ∙ choose_false _ _ _ (sym s ∙ f)))
+    byte_parts same s f = parts (sym (byte_comes ∙ choose_false _ _ _ (sym s ∙ f)))
 
 -- ---- from cursor to cursor
 pub compared_begin : (ours theirs : List ℕ) → Compared ours theirs (record { ours = 0; theirs = 0; line = 1; fresh = true })

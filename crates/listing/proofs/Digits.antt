@@ -47,17 +47,17 @@ unfolding digits_of
 front_digits [] = none
 front_digits (b ∷ bs) = chosen AllDigits (is_digit b) _ _ (λ e. one e (front_digits bs)) (λ _. none)
 
-choice-joins :
+choice_joins :
     (t : Bool) (b : ℕ) (bs : List ℕ) → digits_of bs ++ after_digits bs ≡ bs
     → choose t (b ∷ digits_of bs) [] ++ choose t (after_digits bs) (b ∷ bs) ≡ b ∷ bs
 unfolding choose
-choice-joins true b bs e = ap (λ (xs : List ℕ). b ∷ xs) e
-choice-joins false b bs e = refl
+choice_joins true b bs e = ap (λ (xs : List ℕ). b ∷ xs) e
+choice_joins false b bs e = refl
 
 pub front_after : (bs : List ℕ) → digits_of bs ++ after_digits bs ≡ bs
 unfolding digits_of after_digits
 front_after [] = refl
-front_after (b ∷ bs) = choice-joins (is_digit b) b bs (front_after bs)
+front_after (b ∷ bs) = choice_joins (is_digit b) b bs (front_after bs)
 
 -- bytes that do not open with a digit
 pub record Quiet (rest : List ℕ) : Type 0 where
@@ -111,10 +111,10 @@ digit_value : (n : ℕ) → value_from 0 (digit n ∷ []) ≡ n
 unfolding value_from digit
 digit_value n = omega arith
 
-more-value :
+more_value :
     (ds : List ℕ) (n : ℕ) → value_from 0 ds ≡ n / 10 → value_from 0 (ds ++ digit (n % 10) ∷ []) ≡ n
 unfolding digit
-more-value ds n e = let last = value_last 0 ds (48 + n % 10) in omega (arith, last, e)
+more_value ds n e = let last = value_last 0 ds (48 + n % 10) in omega (arith, last, e)
 
 pub plain_value : (k n : ℕ) → length (digits k n) < k → value_from 0 (digits k n) ≡ n
 unfolding digits
@@ -122,7 +122,7 @@ plain_value zero n = λ h. absurd (omega arith)
 plain_value (suc k) n =
     chosen_lt (λ (t : List ℕ). length t < suc k → value_from 0 t ≡ n) n 10 _ _ (λ _ _. digit_value n)
     (λ _ h. let whole = length-append (digits k (n / 10)) (digit (n % 10) ∷ []) in
-    more-value (digits k (n / 10)) n (plain_value k (n / 10) (omega (arith, whole, h))))
+    more_value (digits k (n / 10)) n (plain_value k (n / 10) (omega (arith, whole, h))))
 
 -- ---- behind noughts
 noughts_digits : (k : ℕ) → AllDigits (replicate k 48)

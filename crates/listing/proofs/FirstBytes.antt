@@ -16,8 +16,8 @@ use Rattle.net.proofs.Every.{chosen}
 use Rattle.lines.specs.Words.{Word, name, number, reading, address}
 use Rattle.listing.specs.Listing.{Checked, at_front, listed, carries, checked_from}
 use Rattle.listing.specs.ListingClaims.{PaddedWord, as_it_is, a_number, above, below, an_address}
-use Rattle.listing.specs.ListingClaims.{PaddedWords, no_words, word-then, PaddedLine, empty_line, line_of}
-use Rattle.listing.specs.ListingClaims.{Padded, no_lines, line-then}
+use Rattle.listing.specs.ListingClaims.{PaddedWords, no_words, word_then_law, PaddedLine, empty_line, line_of}
+use Rattle.listing.specs.ListingClaims.{Padded, no_lines, line_then}
 use Rattle.listing.proofs.Digits.{padded_length}
 use Rattle.listing.proofs.Carrying.{carried_line}
 use Rattle.listing.proofs.Agreeing.{clean, listed_body}
@@ -54,7 +54,7 @@ word_room_law (an_address p) = omega (arith, padded_length p)
 words_room_law : {ws : List Word} {t : List ℕ} → PaddedWords ws t → length t ≤ words_room ws
 unfolding words_room
 words_room_law no_words = omega arith
-words_room_law (word-then {u = u} {t = t} p r) = omega (arith, word_room_law p, words_room_law r, length-append u t)
+words_room_law (word_then_law {u = u} {t = t} p r) = omega (arith, word_room_law p, words_room_law r, length-append u t)
 
 line_room_law : {line : List Word} {u : List ℕ} → PaddedLine line u → length u ≤ line_room line
 unfolding line_room words_room
@@ -65,7 +65,7 @@ line_room_law (line_of {u = u} {t = t} p r) =
 pub lines_room_law : {lines : List (List Word)} {bs : List ℕ} → Padded lines bs → length bs ≤ lines_room lines
 unfolding lines_room
 lines_room_law no_lines = omega arith
-lines_room_law (line-then {u = u} {t = t} p r) = omega (arith, line_room_law p, lines_room_law r, length-append u t)
+lines_room_law (line_then {u = u} {t = t} p r) = omega (arith, line_room_law p, lines_room_law r, length-append u t)
 
 -- ---- a line that is too long differs
 too_long : (line : List Word) (xs : List ℕ) → line_room line < length xs → carries line xs ≡ false
@@ -110,18 +110,18 @@ clean_first (suc m) [] h = refl
 clean_first (suc m) (b ∷ bs) h = both_i _ _ (both_l _ _ h) (clean_first m bs (both_r (not (eqb b 10)) _ h))
 
 -- bytes without a newline are one line
-front-open :
+front_open :
     (b : ℕ) (bs : List ℕ) (lines : List (List ℕ)) → clean (b ∷ bs) ≡ true → listed bs ≡ lines
     → listed (b ∷ bs) ≡ at_front b lines
 unfolding listed clean
-front-open b bs lines h e =
+front_open b bs lines h e =
     choose_false (eqb b 10) ((b ∷ []) ∷ listed bs) (at_front b (listed bs)) (not-true (eqb b 10) (both_l _ _ h))
     ∙ ap (at_front b) e
 
 listed_open : (b : ℕ) (bs : List ℕ) → clean (b ∷ bs) ≡ true → listed (b ∷ bs) ≡ (b ∷ bs) ∷ []
 unfolding listed clean at_front
-listed_open b [] h = front-open b [] [] h refl
-listed_open b (c ∷ bs) h = front-open b (c ∷ bs) _ h (listed_open c bs (both_r (not (eqb b 10)) _ h))
+listed_open b [] h = front_open b [] [] h refl
+listed_open b (c ∷ bs) h = front_open b (c ∷ bs) _ h (listed_open c bs (both_r (not (eqb b 10)) _ h))
 
 listed_unended : (bs : List ℕ) → clean bs ≡ true → 1 ≤ length bs → listed bs ≡ bs ∷ []
 listed_unended [] h l = absurd (omega arith)

@@ -14,12 +14,12 @@ use Rattle.listing.specs.Listing.{Age, parts_for, wanted_lines, listed, checked_
 use Rattle.listing.specs.ListingClaims.{PlainAgrees, PaddedAgrees, AgreesOnly, FaultIsFirst, longest_listing, LongestListing, FirstBytesDecide}
 use Rattle.listing.specs.Comparing.{compared_of}
 use Rattle.listing.proofs.ComparedLines.{lines_compared}
-use Rattle.listing.proofs.FirstFault.{fault-first}
-use Rattle.listing.proofs.Agreeing.{FineLines, Short, padded-agrees, listing_only, plain_lines}
-use Rattle.listing.proofs.Wanted.{lines-fine, outcome_always}
+use Rattle.listing.proofs.FirstFault.{fault_first}
+use Rattle.listing.proofs.Agreeing.{FineLines, Short, padded_agrees_law, listing_only, plain_lines}
+use Rattle.listing.proofs.Wanted.{lines_fine, outcome_always}
 use Rattle.listing.proofs.Small.{outcome_short}
 use Rattle.listing.proofs.FirstBytes.{lines_room, lines_room_law, decided}
-use Rattle.listing.proofs.Longest.{register-room}
+use Rattle.listing.proofs.Longest.{register_room}
 
 -- a fact that every number has
 data Any (n : ℕ) : Type 0 where
@@ -28,18 +28,18 @@ data Any (n : ℕ) : Type 0 where
 wanted_fine : (image picks : List ℕ) (age : Age) → FineLines Any (wanted_lines image picks age)
 unfolding wanted_lines
 wanted_fine image picks age =
-    lines-fine (parts_for age) (opened_of image).net (take 65536 picks)
+    lines_fine (parts_for age) (opened_of image).net (take 65536 picks)
     (outcome_always Any (λ n. any) (opened_of image).net (take 65536 picks) (run_of image (take 65536 picks)))
 
-wanted-short :
+wanted_short :
     (image picks : List ℕ) (age : Age) → ((i : ℕ) → get_or picks i 0 < 256) → FineLines Short (wanted_lines image picks age)
 unfolding wanted_lines
-wanted-short image picks age bytes =
-    lines-fine (parts_for age) (opened_of image).net (take 65536 picks) (outcome_short image picks bytes)
+wanted_short image picks age bytes =
+    lines_fine (parts_for age) (opened_of image).net (take 65536 picks) (outcome_short image picks bytes)
 
 pub padded_agrees : PaddedAgrees
 unfolding PaddedAgrees listing_of checked_of
-padded_agrees image picks listing age p = padded-agrees 1 (wanted_fine image picks age) p
+padded_agrees image picks listing age p = padded_agrees_law 1 (wanted_fine image picks age) p
 
 pub agrees_only : AgreesOnly
 unfolding AgreesOnly listing_of checked_of
@@ -48,26 +48,26 @@ agrees_only image picks listing age h = listing_only 1 (wanted_lines image picks
 pub plain_agrees : PlainAgrees
 unfolding PaddedAgrees register_of register_as register_in wanted_lines parts_for current
 plain_agrees = record {
-  today = λ image picks bytes. padded_agrees image picks _ Age.New (plain_lines (wanted-short image picks Age.New bytes));
-  either = λ image picks age bytes. padded_agrees image picks _ age (plain_lines (wanted-short image picks age bytes));
+  today = λ image picks bytes. padded_agrees image picks _ Age.New (plain_lines (wanted_short image picks Age.New bytes));
+  either = λ image picks age bytes. padded_agrees image picks _ age (plain_lines (wanted_short image picks age bytes));
 }
 
 pub fault_is_first : FaultIsFirst
 unfolding FaultIsFirst listing_of checked_of
-fault_is_first image picks listing age = fault-first 1 (wanted_lines image picks age) (listed listing)
+fault_is_first image picks listing age = fault_first 1 (wanted_lines image picks age) (listed listing)
 
 -- ---- the bytes, compared as the code does
-pub comparedIs :
+pub compared_is :
     (image picks listing : List ℕ) (age : Age) → ((i : ℕ) → get_or picks i 0 < 256)
     → compared_of (printed (wanted_lines image picks age)) listing ≡ listing_of image picks listing age
 unfolding compared_of listing_of checked_of
-comparedIs image picks listing age bytes = lines_compared (wanted-short image picks age bytes) 1 listing
+compared_is image picks listing age bytes = lines_compared (wanted_short image picks age bytes) 1 listing
 
 -- ---- how long
 wanted_room : (image picks : List ℕ) (age : Age) → lines_room (wanted_lines image picks age) ≤ longest_listing
 unfolding wanted_lines
 wanted_room image picks age =
-    register-room (parts_for age) _ (take 65536 picks) _ (omega (arith, length-take 65536 picks))
+    register_room (parts_for age) _ (take 65536 picks) _ (omega (arith, length-take 65536 picks))
 
 pub longest_agrees : LongestListing
 unfolding LongestListing AgreesOnly

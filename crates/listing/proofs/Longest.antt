@@ -109,10 +109,10 @@ module _ (parts : Parts) where
   unfolding after_lines unnamed
   after_room s = omega (arith, lines_both (net_lines (unnamed parts) s) (closing_lines parts s), nodes_room s, closing_room s)
 
-  pub register-room :
+  pub register_room :
       (s : Net) (picks : List ℕ) (o : Outcome) → length picks ≤ 65536 → lines_room (register_lines (unnamed parts) s picks o) ≤ longest_listing
   unfolding register_lines unnamed refusal_line net_line lines_room line_room words_room word_room bytes
-  register-room s picks (refused f) l = omega (arith, refused_room f)
-  register-room s picks (refused_text n) l = omega arith
-  register-room s picks (ran r) l =
+  register_room s picks (refused f) l = omega (arith, refused_room f)
+  register_room s picks (refused_text n) l = omega arith
+  register_room s picks (ran r) l =
       omega (arith, lines_both (pick_lines picks (numbers r)) (after_lines (unnamed parts) r.net), picks_room picks (numbers r) l, after_room r.net)

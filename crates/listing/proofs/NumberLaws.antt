@@ -63,34 +63,34 @@ module _ (ours theirs : List ℕ) (a : AllDigits ours) (b : AllDigits theirs) (f
       ap (λ (x : ℕ). eqb x (cut_from 0 ours)) same ∙ ap (eqb (value_from 0 theirs)) mine
 
 module _ (ours theirs : List ℕ) (i j : ℕ) where
-  few-alike :
+  few_alike :
       (t : Bool) → in_range 1 (length (digits_of (drop j theirs))) 10 ≡ t
       → both t (eqb (cut_from 0 (digits_of (drop j theirs))) (cut_from 0 (digits_of (drop i ours))))
       ≡ both t (eqb (value_from 0 (digits_of (drop j theirs))) (value_from 0 (digits_of (drop i ours))))
   unfolding both
-  few-alike true e =
+  few_alike true e =
       cut_same (digits_of (drop i ours)) (digits_of (drop j theirs)) (front_digits (drop i ours)) (front_digits (drop j theirs))
       (in_range_high 1 _ 10 e) (dec_le 10000000000 (value_from 0 (digits_of (drop i ours))))
-  few-alike false e = refl
+  few_alike false e = refl
 
-  pub alike-writes :
+  pub alike_writes :
       alike (number_at ours i) (number_at theirs j) j ≡ writes (value_from 0 (digits_of (drop i ours))) (digits_of (drop j theirs))
   unfolding alike writes number_at
-  alike-writes =
+  alike_writes =
       let count : (j + length (digits_of (drop j theirs))) - j ≡ length (digits_of (drop j theirs)) = omega arith in
       ap (λ (n : ℕ). both (in_range 1 n 10) (eqb (cut_from 0 (digits_of (drop j theirs))) (cut_from 0 (digits_of (drop i ours))))) count
-      ∙ few-alike (in_range 1 (length (digits_of (drop j theirs))) 10) refl
+      ∙ few_alike (in_range 1 (length (digits_of (drop j theirs))) 10) refl
 
 -- ---- digits being read
 module _ (s : List ℕ) (from : ℕ) where
   pub reading_begin : Reading s from 0 from
   reading_begin = record { value_is = refl; next_is = refl }
 
-  pub reading-more :
+  pub reading_more :
       (value next b w : ℕ) (digital : Bool) → Reading s from value next → next < length s → b ≡ get_or s next 0 → digital ≡ is_digit b
       → digital ≡ true → w ≡ longer value b → Reading s from w (next + 1)
   unfolding cut_from
-  reading-more value next b w digital l h e d t f =
+  reading_more value next b w digital l h e d t f =
       let more : digits_of (drop next s) ≡ b ∷ digits_of (drop (next + 1) s) =
       ap digits_of (drop-cons s next 0 h ∙ (λ k. sym e k ∷ drop (sym (add-one next) k) s))
       ∙ digits_one b (drop (next + 1) s) (sym d ∙ t) in
@@ -108,10 +108,10 @@ module _ (s : List ℕ) (from : ℕ) where
       let n : next ≡ from + length (digits_of (drop from s)) = omega (arith, long, l.next_is) in
       λ k. record { value = v k; next = n k }
 
-  pub reading-stop :
+  pub reading_stop :
       (value next b : ℕ) (digital : Bool) → Reading s from value next → next < length s → b ≡ get_or s next 0 → digital ≡ is_digit b
       → digital ≡ false → record { value = value; next = next } ≡ number_at s from
-  reading-stop value next b digital l h e d f =
+  reading_stop value next b digital l h e d f =
       read_whole value next l
       (ap digits_of (drop-cons s next 0 h) ∙ digits_none (get_or s next 0) _ (ap is_digit (sym e) ∙ sym d ∙ f))
 

@@ -19,7 +19,7 @@ use Rattle.net.specs.Records.{zero_template_field, zero_instruction, empty_net, 
 use Rattle.net.specs.declared.instruction.TemplateField.{TemplateField}
 use Rattle.net.proofs.Laws.{both_l, both_r, all_e}
 use Rattle.net.proofs.Every.{chosen}
-use Rattle.net.proofs.FoldLaws.{fold-keeps}
+use Rattle.net.proofs.FoldLaws.{fold_keeps}
 use Rattle.net.proofs.Past.{past_field, past_variable, past_process, past_tuple, past_node, past_template, past_instruction}
 use Rattle.sound.specs.Soundness.{is_unset, all_unset}
 use Rattle.fresh.specs.Fresh.{reading_fits, item_fits, pattern_fits, slot_starts, node_starts, starts_at}
@@ -135,7 +135,7 @@ bound_field_law p x (Want.AnyAddress v) ok h = with_variable_law p ok v _ (held_
 bound : (p : Process) (t : Tuple) (e : Evaluated) → ProcessOk p → TupleOk t → ProcessOk (bound_of p t e)
 unfolding bound_of
 bound p t e ok h =
-    fold-keeps (λ _. ProcessOk) _ p 4 ok
+    fold_keeps (λ _. ProcessOk) _ p 4 ok
     (λ i q _ g. chosen ProcessOk _ _ _ (λ _. bound_field_law q (field_at t i) _ g (h.each i)) (λ _. g))
 
 bound_at_law : (f : Found) (p : Process) (x : Node) (e : Evaluated) → ProcessOk p → NodeOk x → ProcessOk (bound_at f p x e)
@@ -174,7 +174,7 @@ WantsOk ws = (i : ℕ) → ItemOk (item_of (get_or ws i (record { want = Want.Ex
 wants_ok : (a : Locality) (p : Process) (c : Instruction) → ProcessOk p → ((i : ℕ) → pattern_fits (pattern_at c i) ≡ true) → WantsOk (wants_of a p c)
 unfolding wants_of WantsOk zero_wanted item_of
 wants_ok a p c ok h =
-    fold-keeps (λ _. WantsOk) _ _ 4
+    fold_keeps (λ _. WantsOk) _ _ 4
     (λ i. same_at (λ (w : Wanted). ItemOk (item_of w.want)) _ 4 _ i nought_ok nought_ok)
     (λ i ws _ g. chosen WantsOk _ _ _
     (λ _ j. set_at (λ (w : Wanted). ItemOk (item_of w.want)) _ ws i j _ (want_ok a p (pattern_at c i) ok (h i)) (g j)) (λ _. g))
@@ -182,7 +182,7 @@ wants_ok a p c ok h =
 tuple_ok : (e : Evaluated) → WantsOk e.wants → TupleOk (tuple_of e)
 unfolding tuple_of WantsOk want_at
 tuple_ok e h =
-    fold-keeps (λ _. TupleOk) _ zero_tuple 4 zero_tuple_law
+    fold_keeps (λ _. TupleOk) _ zero_tuple 4 zero_tuple_law
     (λ i t _ g. chosen TupleOk _ _ _ (λ _. with_field_law t _ g (h i)) (λ _. g))
 
 -- ---- changes of a node
@@ -219,7 +219,7 @@ module _ (x : Node) (ok : NodeOk x) where
   without_tuple_law i = record {
     processes = ok.processes;
     tuples =
-        fold-keeps (λ _ (ts : List Tuple). (j : ℕ) → TupleOk (get_or ts j past_tuple)) _ x.tuples 16 ok.tuples
+        fold_keeps (λ _ (ts : List Tuple). (j : ℕ) → TupleOk (get_or ts j past_tuple)) _ x.tuples 16 ok.tuples
         (λ j ts _ g k. set_at TupleOk past_tuple ts j k _ (after_taking_law i j) (g k));
   }
 
@@ -320,10 +320,10 @@ ran_after s [] ok = ok
 ran_after s (b ∷ bs) ok = ran_after (pick_of s b).net bs (picked_after s ok b).net_ok
 
 -- ---- the net of an image
-at-any :
+at_any :
     {A : Type 0} (P : A → Type 0) (d : A) (xs : List A) (n : ℕ) → length xs ≡ n → ((i : ℕ) → i < n → P (get_or xs i d)) → P d
     → (i : ℕ) → P (get_or xs i d)
-at-any P d xs n e f p i = go (dec_le n i)
+at_any P d xs n e f p i = go (dec_le n i)
   where
     go : Dec (n ≤ i) → P (get_or xs i d)
     go (yes h) = subst P (sym (get_or-eq_default xs d {n = i} (omega arith))) p
@@ -339,7 +339,7 @@ starting_process : (p : Process) → length p.variables ≡ 8 → all_unset p �
 unfolding all_unset variable_at held_item
 starting_process p long h = record {
   each =
-      at-any (λ (x : Variable). ItemOk (held_item x.value)) past_variable p.variables 8 long
+      at_any (λ (x : Variable). ItemOk (held_item x.value)) past_variable p.variables 8 long
       (λ v l. unset_ok _ (all_e 8 _ h v l)) nought_ok;
 }
 
@@ -347,19 +347,19 @@ fitting_tuple : (t : Tuple) → TupleFit t → TupleOk t
 unfolding field_at
 fitting_tuple t fit = record {
   each =
-      at-any (λ (f : Field). ItemOk f.item) past_field t.fields 4 fit.shaped.fields_are fit.each_item nought_ok;
+      at_any (λ (f : Field). ItemOk f.item) past_field t.fields 4 fit.shaped.fields_are fit.each_item nought_ok;
 }
 
 starting_node : (x : Node) → NodeFit x → node_starts x ≡ true → NodeOk x
 unfolding node_starts slot_starts process_at tuple_at
 starting_node x fit h = record {
   processes =
-      at-any ProcessOk past_process x.processes 4 fit.shaped.processes_are
+      at_any ProcessOk past_process x.processes 4 fit.shaped.processes_are
       (λ k l. starting_process _ (fit.shaped.each_process k l).variables_are
       (both_r (choose (ltb k (process_count x)) (process_at x k).busy (not (process_at x k).busy)) _ (all_e 4 _ h k l)))
       past_process_law;
   tuples =
-      at-any TupleOk past_tuple x.tuples 16 fit.shaped.tuples_are
+      at_any TupleOk past_tuple x.tuples 16 fit.shaped.tuples_are
       (λ i l. fitting_tuple _ (tuple_fit _ (fit.each_tuple i l))) past_tuple_law;
 }
 
@@ -377,17 +377,17 @@ past_code i = refl
 fitting_code : (c : Instruction) → InstructionFit c → CodeOk c
 unfolding pattern_at pattern_fits reading_fits
 fitting_code c fit =
-    at-any (λ (f : TemplateField). pattern_fits f.pattern ≡ true) past_template c.template 4 fit.shaped.template_is
+    at_any (λ (f : TemplateField). pattern_fits f.pattern ≡ true) past_template c.template 4 fit.shaped.template_is
     fit.each_pattern refl
 
 starting_net : (s : Net) → NetFit s → all 16 (λ a. starts_at s (address_of a)) ≡ true → NetOk s
 unfolding starts_at node_at instruction_at
 starting_net s fit h = record {
   nodes = λ a.
-      at-any NodeOk past_node s.nodes 16 fit.shaped.nodes_are
+      at_any NodeOk past_node s.nodes 16 fit.shaped.nodes_are
       (λ i l. starting_node _ (node_fit _ (fit.each_node i l)) (both_l _ _ (all_e 16 _ h i l))) past_node_law a.0;
   code = λ p.
-      at-any CodeOk past_instruction s.code 512 fit.shaped.code_is
+      at_any CodeOk past_instruction s.code 512 fit.shaped.code_is
       (λ i l. fitting_code _ (instruction_fit _ (fit.each_instruction i l))) past_code p.0;
 }
 

@@ -10,7 +10,7 @@ use lib.IntN.{ℤ}
 use borrow.Author.Tests.{ltb-true}
 use Rattle.net.specs.Records.{field_at, tuple_at, node_at, address_of, process_count}
 use Rattle.net.proofs.Every.{chosen, chosen_lt}
-use Rattle.net.proofs.FoldLaws.{fold-keeps}
+use Rattle.net.proofs.FoldLaws.{fold_keeps}
 use Rattle.sound.specs.Soundness.{item_sound}
 use Rattle.sound.proofs.NodeFacts.{TupleOk as TupleSound, NodeOk as NodeSound}
 use Rattle.sound.proofs.NetFacts.{NetOk as NetSound, sound_apart}
@@ -32,7 +32,7 @@ use Rattle.registers.proofs.Longest.{fewer_below, answers_small, take_small}
 use Rattle.lines.specs.Lines.{fewer, item_word, tuples_below, tuple_count}
 use Rattle.written.proofs.OpenedShaped.{opened_shaped}
 use Rattle.listing.proofs.Agreeing.{Fine, upward, downward, located, Short}
-use Rattle.listing.proofs.Wanted.{TupleHas, NodeHas, NetHas, PickHas, OutcomeHas, of_refused, of-run}
+use Rattle.listing.proofs.Wanted.{TupleHas, NodeHas, NetHas, PickHas, OutcomeHas, of_refused, of_run}
 use Rattle.listing.proofs.Readings.{TupleOk, NodeOk, NetOk, ran_after, opened_readings}
 
 -- ---- a number below a power of ten
@@ -63,14 +63,14 @@ fewer_count count size = chosen_lt (λ (n : ℕ). n ≤ count) count size _ _ (�
 busy_few : (x : Node) → process_count x ≤ 4
 unfolding process_count
 busy_few x =
-    fold-keeps (λ i (n : ℕ). n ≤ i) _ 0 4 (omega arith)
+    fold_keeps (λ i (n : ℕ). n ≤ i) _ 0 4 (omega arith)
     (λ i n _ h. chosen (λ (m : ℕ). m ≤ suc i) _ _ _ (λ _. omega arith) (λ _. omega arith))
 
 total_few : (s : Net) → tuple_count s ≤ 256
 unfolding tuple_count tuples_below
 total_few s =
     let some = fewer_below s.addresses 16 in
-    let each = fold-keeps (λ i (n : ℕ). n ≤ i * 16) (λ a count. count + fewer (node_at s (address_of a)).stored 16) 0
+    let each = fold_keeps (λ i (n : ℕ). n ≤ i * 16) (λ a count. count + fewer (node_at s (address_of a)).stored 16) 0
     (fewer s.addresses 16) (omega arith) (λ i n _ h. let more = fewer_below (node_at s (address_of i)).stored 16 in omega (arith, more, h)) in
     omega (arith, some, each)
 
@@ -136,7 +136,7 @@ module _ (image picks : List ℕ) (bytes : (i : ℕ) → get_or picks i 0 < 256)
       let begins = sound_apart s shaped sound in
       let few = length-take 65536 picks in
       let r : Ran = ran_from s (take 65536 picks) in
-      of-run (short _ (omega (arith, begins.addresses_most))) (short _ (omega (arith, begins.length_most)))
+      of_run (short _ (omega (arith, begins.addresses_most))) (short _ (omega (arith, begins.length_most)))
       (λ i l. pick_short (i + 1) _ _ (omega (arith, few)) (take_small picks 65536 bytes i) (answers_small r.answers i))
       (net_short r.net (ran_sound s (take 65536 picks) shaped sound) (ran_after s (take 65536 picks) (opened_readings image)))
 

@@ -36,12 +36,12 @@ module _ (b : ℕ) (rest : List ℕ) where
 
 -- ---- turns, in line i
 module _ (i : ℕ) where
-  pub byte-turn :
+  pub byte_turn :
       (passing fresh : Bool) (b : ℕ) (ours theirs : List ℕ) → is_digit b ≡ false
       → comparing passing fresh i (b ∷ ours) theirs
       ≡ choose (stands_first b theirs) (comparing false (eqb b 10) (choose (eqb b 10) (i + 1) i) ours (drop 1 theirs)) (parted_at fresh i theirs)
   unfolding comparing
-  byte-turn passing fresh b ours theirs e = choose_false (is_digit b) _ _ e
+  byte_turn passing fresh b ours theirs e = choose_false (is_digit b) _ _ e
 
   -- the digits of a number that was compared are passed over
   passed : (ours theirs : List ℕ) → comparing true false i ours theirs ≡ comparing false false i (after_digits ours) theirs
@@ -52,17 +52,17 @@ module _ (i : ℕ) where
       by_test (is_digit b)
       (λ e. choose_true (is_digit b) _ _ e ∙ passed ours theirs
       ∙ ap (λ (xs : List ℕ). comparing false false i xs theirs) (sym (after_one b ours e)))
-      (λ e. byte-turn true false b ours theirs e ∙ sym (byte-turn false false b ours theirs e)
+      (λ e. byte_turn true false b ours theirs e ∙ sym (byte_turn false false b ours theirs e)
       ∙ ap (λ (xs : List ℕ). comparing false false i xs theirs) (sym (after_none b ours e)))
 
-  pub number-turn :
+  pub number_turn :
       (fresh : Bool) (b : ℕ) (ours theirs : List ℕ) → is_digit b ≡ true
       → comparing false fresh i (b ∷ ours) theirs
       ≡ choose (writes (value_from 0 (digits_of (b ∷ ours))) (digits_of theirs))
       (comparing false false i (after_digits (b ∷ ours)) (after_digits theirs))
       (parted_at fresh i theirs)
   unfolding comparing choose
-  number-turn fresh b ours theirs e =
+  number_turn fresh b ours theirs e =
       choose_true (is_digit b) _ _ e
       ∙ ap (λ (x : Checked). choose (writes (value_from 0 (digits_of (b ∷ ours))) (digits_of theirs)) x (parted_at fresh i theirs))
       (passed ours (after_digits theirs) ∙ ap (λ (xs : List ℕ). comparing false false i xs (after_digits theirs)) (sym (after_one b ours e)))

@@ -47,7 +47,7 @@ pub record PickHas (Q : ℕ → Type 0) (i b x : ℕ) : Type 0 where
 pub data OutcomeHas (Q : ℕ → Type 0) (s : Net) (picks : List ℕ) : Outcome → Type 0 where
   of_refused : {f : Fault} → Q f.number → Q f.place → OutcomeHas Q s picks (refused f)
   of_text : {n : ℕ} → Q n → OutcomeHas Q s picks (refused_text n)
-  of-run :
+  of_run :
       {r : Ran} → Q s.addresses → Q s.length
       → ((i : ℕ) → i < length picks → PickHas Q (i + 1) (get_or picks i 0) (get_or (numbers r) i 0))
       → NetHas Q r.net
@@ -89,12 +89,12 @@ module _ {Q : ℕ → Type 0} (parts : Parts) where
       cons (label refl)
       (cons (value h.at) (cons (value h.host) (cons (value h.slot) (cons (value h.answer) nil))))
 
-  pub lines-fine :
+  pub lines_fine :
       (s : Net) (picks : List ℕ) {o : Outcome} → OutcomeHas Q s picks o → FineLines Q (register_lines (unnamed parts) s picks o)
   unfolding register_lines unnamed refusal_line net_line pick_lines bytes plain both is_digit
-  lines-fine s picks (of_refused {f} h g) = cons (refused_fine f h g) nil
-  lines-fine s picks (of_text h) = cons (cons (label refl) (cons (value h) nil)) nil
-  lines-fine s picks (of-run {r} h g each net) =
+  lines_fine s picks (of_refused {f} h g) = cons (refused_fine f h g) nil
+  lines_fine s picks (of_text h) = cons (cons (label refl) (cons (value h) nil)) nil
+  lines_fine s picks (of_run {r} h g each net) =
       cons (cons (label refl) (cons (value h) (cons (value g) nil)))
       (each_both (each_joined (length picks) _ (λ i l. cons (made_fine (i + 1) _ _ (each i l)) nil)) (after_fine r.net net))
 
@@ -121,5 +121,5 @@ module _ (Q : ℕ → Type 0) (always : (n : ℕ) → Q n) where
   outcome_always s picks (refused f) = of_refused (always _) (always _)
   outcome_always s picks (refused_text n) = of_text (always _)
   outcome_always s picks (ran r) =
-      of-run (always _) (always _)
+      of_run (always _) (always _)
       (λ i l. record { at = always _; host = always _; slot = always _; answer = always _ }) (net_always r.net)

@@ -24,7 +24,7 @@ use Rattle.registers.proofs.Longest.{longest_showing}
 use Rattle.listing.specs.Listing.{Age, Checked, parts_for, wanted_lines, listing_of}
 use Rattle.listing.specs.Comparing.{compared_of}
 use Rattle.listing.specs.Written.{Holds, ComparedIn}
-use Rattle.listing.proofs.ListingClaims.{comparedIs}
+use Rattle.listing.proofs.ListingClaims.{compared_is}
 
 module _ (out : List ℕ) (written : Registered) where
   -- as much as was written
@@ -70,16 +70,16 @@ module _
     unfolding register_as register_in wanted_lines
     wanted_is p = ap (λ (q : Parts). register_as (unnamed q) image picks) p
 
-    pub age-checked :
+    pub age_checked :
         ((i : ℕ) → Fits w8 (get_or picks i 0)) → longest ≡ length before → parts ≡ parts_for age
         → written ≡ registered_of (register_as (unnamed parts) image picks) (length before)
         → out ≡ over before 0 (register_as (unnamed parts) image picks)
         → ComparedIn out written listing r
         → r ≡ listing_of image picks listing age
     unfolding LongestShowing
-    age-checked known room p e o c =
+    age_checked known room p e o c =
         let bytes : (i : ℕ) → get_or picks i 0 < 256 = λ i. omega (arith, known i) in
         let fits = longest_showing parts image picks bytes in
         c.is _ (written_holds before out (register_as (unnamed parts) image picks) written e (omega (arith, fits, room)) o)
         ∙ ap (λ (xs : List ℕ). compared_of xs listing) (wanted_is p)
-        ∙ comparedIs image picks listing age bytes
+        ∙ compared_is image picks listing age bytes

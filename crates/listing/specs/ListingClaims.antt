@@ -24,7 +24,7 @@ pub data PaddedWord : Word → List ℕ → Type 0 where
 -- words with a space (32) before each
 pub data PaddedWords : List Word → List ℕ → Type 0 where
   no_words : PaddedWords [] []
-  word-then :
+  word_then_law :
       {w : Word} {ws : List Word} {u t : List ℕ}
       → PaddedWord w u
       → PaddedWords ws t
@@ -42,7 +42,7 @@ pub data PaddedLine : List Word → List ℕ → Type 0 where
 -- lines, one after another
 pub data Padded : List (List Word) → List ℕ → Type 0 where
   no_lines : Padded [] []
-  line-then :
+  line_then :
       {line : List Word} {lines : List (List Word)} {u t : List ℕ}
       → PaddedLine line u
       → Padded lines t
@@ -84,14 +84,14 @@ PaddedBelow n wanted lines = (j : ℕ) → j < n → PaddedLine (get_or wanted j
 -- what is answered where the lines are numbered from i on
 pub data FirstFault (i : ℕ) (wanted : List (List Word)) (lines : List (List ℕ)) : Checked → Type 0 where
   no_fault : length lines ≡ length wanted → PaddedBelow (length wanted) wanted lines → FirstFault i wanted lines Checked.Agrees
-  line-differs :
+  line_differs :
       (n : ℕ)
       → n < length wanted
       → n < length lines
       → PaddedBelow n wanted lines
       → (PaddedLine (get_or wanted n []) (get_or lines n []) → ⊥)
       → FirstFault i wanted lines (Checked.Differs (i + n))
-  lines-wanting :
+  lines_wanting :
       length lines < length wanted
       → PaddedBelow (length lines) wanted lines
       → FirstFault i wanted lines (Checked.Wanting (i + length lines))

@@ -18,14 +18,14 @@ use Rattle.plans.specs.Additions.{tuple_of}
 use Rattle.step.specs.Pick.{host_of, slot_of, pick_of}
 use Rattle.rules.specs.Types.{Answer, Row}
 use Rattle.rules.specs.Rules.{process_in, instruction_in, template_in, Stands}
-use Rattle.rules.specs.Rules.{Reduces, OUT, IN, READ, EVAL, NEW, FORK, OUT-ALL, Ends, NIL, StepIsPick, StopIsPick}
-use Rattle.rules.specs.DemandOne.{Held, out-held, picked_process, picked_action, OnlyWithRight}
+use Rattle.rules.specs.Rules.{Reduces, OUT, IN, READ, EVAL, NEW, FORK, OUT_ALL, Ends, NIL, StepIsPick, StopIsPick}
+use Rattle.rules.specs.DemandOne.{Held, out_held, picked_process, picked_action, OnlyWithRight}
 use Rattle.rules.proofs.DemandOne.{Left, was_performed, was_ended, as_it_was, is_performed, picked_left, only_with_right}
 use Rattle.rules.proofs.Rules.{step_is_pick, stop_is_pick}
 use Rattle.marks.specs.Types.{Locality, Place, Process, Node, Target, Action, Net, Aim}
-use Rattle.marks.specs.MarkClaims.{values_of, PutsAt, by_out, by-out-all, Added, StandsAt, MarkIsTrue}
-use Rattle.marks.proofs.Nodes.{Stood, PutOr, stays, host-stood, hosts-stood, in-stood, created-stood}
-use Rattle.marks.proofs.Nodes.{out_added, out_or, all_added, all_or, passed-stood}
+use Rattle.marks.specs.MarkClaims.{values_of, PutsAt, by_out, by_out_all, Added, StandsAt, MarkIsTrue}
+use Rattle.marks.proofs.Nodes.{Stood, PutOr, stays, host_stood, hosts_stood, in_stood, created_stood}
+use Rattle.marks.proofs.Nodes.{out_added, out_or, all_added, all_or, passed_stood}
 use Rattle.marks.proofs.Starts.{own_marks_law, comes_ok}
 
 -- ---- a net's arrays
@@ -72,34 +72,34 @@ module _ (s : Net) (a : Locality) (k : ℕ) where
     out_step ok _ (EVAL h p g within f) = no_other _ e _ h (λ w. cc w)
     out_step ok _ (NEW h g room) = no_other _ e _ h (λ w. cc w)
     out_step ok _ (FORK h f) = no_other _ e _ h (λ w. cc w)
-    out_step ok _ (OUT-ALL h d used r room) = no_other _ e _ h (λ w. cc w)
+    out_step ok _ (OUT_ALL h d used r room) = no_other _ e _ h (λ w. cc w)
 
   -- the step of an out to a set, at a member
   module _ (g : Group) (q : Place) (e : (instruction_in s a k).action ≡ Action.OutAll g q) (l : Locality) (m : member g l ≡ true) where
-    all-step :
+    all_step :
         NetOk s → (after : Net) → Reduces s a k after
         → Added (tuple_of (template_in s a k)) a (node_at s l) (node_at after l)
-    all-step ok _ (OUT h p d r room) = no_other _ e _ h (λ w. cc w)
-    all-step ok _ (IN h p d r o) = no_other _ e _ h (λ w. cc w)
-    all-step ok _ (READ h p d r o) = no_other _ e _ h (λ w. cc w)
-    all-step ok _ (EVAL h p r within f) = no_other _ e _ h (λ w. cc w)
-    all-step ok _ (NEW h r room) = no_other _ e _ h (λ w. cc w)
-    all-step ok _ (FORK h f) = no_other _ e _ h (λ w. cc w)
-    all-step ok _ (OUT-ALL {g = f} {q = r} h d used held room) =
+    all_step ok _ (OUT h p d r room) = no_other _ e _ h (λ w. cc w)
+    all_step ok _ (IN h p d r o) = no_other _ e _ h (λ w. cc w)
+    all_step ok _ (READ h p d r o) = no_other _ e _ h (λ w. cc w)
+    all_step ok _ (EVAL h p r within f) = no_other _ e _ h (λ w. cc w)
+    all_step ok _ (NEW h r room) = no_other _ e _ h (λ w. cc w)
+    all_step ok _ (FORK h f) = no_other _ e _ h (λ w. cc w)
+    all_step ok _ (OUT_ALL {g = f} {q = r} h d used held room) =
         let in_it : member f l ≡ true = ap (λ (x : Group). member x l) (same_group g f q r (sym h.acts ∙ e)) ∙ m in
         all_added s a k _ l _ (size s ok l (used l in_it)) (room l in_it) f in_it ok.nodes_ok.size_is
 
 -- the right that it has is one at its target
-held-points :
+held_points :
     (row : Row) (a : Locality) (p : Process) (t : Target) (q : Place) → Held row a p (Action.Out t q)
     → (l : Locality) × (target_of a p t ≡ Aim.At l)
-held-points row a p t q (out-held {l = l} points g) = (l, points)
+held_points row a p t q (out_held {l = l} points g) = (l, points)
 
-out-points :
+out_points :
     (s : Net) (b : ℕ) (t : Target) (q : Place) → number_of (pick_of s b).answer ≡ 0 → picked_action s b ≡ Action.Out t q
     → (l : Locality) × (target_of (host_of b) (picked_process s b) t ≡ Aim.At l)
 unfolding OnlyWithRight
-out-points s b t q h e = held-points _ _ _ t q (subst (Held _ _ _) e (only_with_right s b h))
+out_points s b t q h e = held_points _ _ _ t q (subst (Held _ _ _) e (only_with_right s b h))
 
 by_member : {C : Type 0} (x : Bool) → (x ≡ true → C) → (x ≡ false → C) → C
 by_member true f g = f refl
@@ -140,11 +140,11 @@ module _ (s : Net) (ok : NetOk s) (b : ℕ) where
   unfolding picked_action picked_process instruction_in process_in
   out_at t q h e = out_step s (host_of b) (slot_of b) t q e ok (pick_of s b).net (step h)
 
-  all-at :
+  all_at :
       (g : Group) (q : Place) → number_of (pick_of s b).answer ≡ 0 → picked_action s b ≡ Action.OutAll g q → (l : Locality)
       → member g l ≡ true → Added (tuple_of (template_in s (host_of b) (slot_of b))) (host_of b) (node_at s l) (node_at (pick_of s b).net l)
   unfolding picked_action picked_process instruction_in process_in
-  all-at g q h e l m = all-step s (host_of b) (slot_of b) g q e l m ok (pick_of s b).net (step h)
+  all_at g q h e l m = all_step s (host_of b) (slot_of b) g q e l m ok (pick_of s b).net (step h)
 
   added_at : (l : Locality) → PutsAt s b l → Added (values_of s b) (host_of b) (node_at s l) (node_at (pick_of s b).net l)
   unfolding values_of picked_process process_in instruction_in template_in
@@ -152,35 +152,35 @@ module _ (s : Net) (ok : NetOk s) (b : ℕ) where
       let z = out_at t q h e in
       subst (λ (m : Locality). Added (values_of s b) (host_of b) (node_at s m) (node_at (pick_of s b).net m))
       (same_address l z.l (sym z.points ∙ g)) z.adds
-  added_at l (by-out-all {g} {q} h e m) = all-at g q h e l m
+  added_at l (by_out_all {g} {q} h e m) = all_at g q h e l m
 
-  performed-or :
+  performed_or :
       number_of (pick_of s b).answer ≡ 0 → (after : Net) → Reduces s (host_of b) (slot_of b) after → (c : Locality)
       → PutOrStood s b c (node_at after c)
   unfolding picked_action picked_process instruction_in process_in
-  performed-or z _ (OUT {l = l} h p d g room) c =
+  performed_or z _ (OUT {l = l} h p d g room) c =
       put s b c _ l (by_out z h.acts p.points) (out_or s _ _ _ l _ (size s ok l p.exists) room c)
-  performed-or z _ (IN {l = l} {i = i} h p d g o) c =
-      stood s b c _ (in-stood s _ _ _ l i (node_at_law s ok l p.exists).room (size s ok l p.exists) c)
-  performed-or z _ (READ h p d g o) c = stood s b c _ (host-stood s _ _ _ c)
-  performed-or z _ (EVAL h p g within f) c = stood s b c _ (hosts-stood s _ _ _ _ _ _ c)
-  performed-or z _ (NEW h g room) c = stood s b c _ (created-stood s _ _ _ _ _ c)
-  performed-or z _ (FORK h f) c = stood s b c _ (hosts-stood s _ _ _ _ _ _ c)
-  performed-or z _ (OUT-ALL {g = g} h d used r room) c =
+  performed_or z _ (IN {l = l} {i = i} h p d g o) c =
+      stood s b c _ (in_stood s _ _ _ l i (node_at_law s ok l p.exists).room (size s ok l p.exists) c)
+  performed_or z _ (READ h p d g o) c = stood s b c _ (host_stood s _ _ _ c)
+  performed_or z _ (EVAL h p g within f) c = stood s b c _ (hosts_stood s _ _ _ _ _ _ c)
+  performed_or z _ (NEW h g room) c = stood s b c _ (created_stood s _ _ _ _ _ c)
+  performed_or z _ (FORK h f) c = stood s b c _ (hosts_stood s _ _ _ _ _ _ c)
+  performed_or z _ (OUT_ALL {g = g} h d used r room) c =
       by_member (member g c)
-      (λ m. put s b c _ c (by-out-all z h.acts m)
+      (λ m. put s b c _ c (by_out_all z h.acts m)
       (all_or s _ _ _ c _ (size s ok c (used c m)) (room c m) g m ok.nodes_ok.size_is))
-      (λ m. stood s b c _ (passed-stood s _ _ _ g _ c ok.nodes_ok.size_is m))
+      (λ m. stood s b c _ (passed_stood s _ _ _ g _ c ok.nodes_ok.size_is m))
 
   ended_or : (after : Net) → Ends s (host_of b) (slot_of b) after → (c : Locality) → PutOrStood s b c (node_at after c)
-  ended_or _ (NIL h) c = stood s b c _ (host-stood s _ _ _ c)
+  ended_or _ (NIL h) c = stood s b c _ (host_stood s _ _ _ c)
 
   picked_or : (c : Locality) → PutOrStood s b c (node_at (pick_of s b).net c)
   unfolding number_of
   picked_or c = go (picked_left s b)
     where
       go : Left s (pick_of s b) → PutOrStood s b c (node_at (pick_of s b).net c)
-      go (was_performed e) = let z = ap number_of e in performed-or z _ (step z) c
+      go (was_performed e) = let z = ap number_of e in performed_or z _ (step z) c
       go (was_ended e) = ended_or _ (end e) c
       go (as_it_was e) =
           subst (λ (u : Net). PutOrStood s b c (node_at u c)) (sym e) (stood s b c _ (stays (node_at s c)))
@@ -188,7 +188,7 @@ module _ (s : Net) (ok : NetOk s) (b : ℕ) where
 pub mark_is_true : MarkIsTrue
 mark_is_true = record {
   own = own_marks_law;
-  aimed = out-points;
+  aimed = out_points;
   added = λ s b l n p. added_at s (comes_ok s n) b l p;
   others = λ s b a i n h. (picked_or s (comes_ok s n) b a).each i h;
 }

@@ -19,7 +19,7 @@ use Rattle.net.proofs.Every.{chosen_lt}
 use Rattle.net.proofs.Past.{past_tuple}
 use Rattle.step.specs.Pick.{with_host, added, added_all, taken, opened, unused, created_at, created}
 use Rattle.step.proofs.Stores.{added_all_at}
-use Rattle.step.proofs.SoundChanges.{set-each}
+use Rattle.step.proofs.SoundChanges.{set_each}
 use Rattle.marks.specs.Types.{Locality, Place, Tuple, Process, Node, Net}
 use Rattle.marks.specs.MarkClaims.{Added, StandsAt}
 
@@ -81,16 +81,16 @@ host_same s a k p c =
     node_at_law (λ m. Same (node_at s m)) s a _ (record { stored_is = refl; tuples_are = refl }) c
     (record { stored_is = refl; tuples_are = refl })
 
-pub host-stood :
+pub host_stood :
     (s : Net) (a : Locality) (k : ℕ) (p : Process) (c : Locality)
     → Stood (node_at s c) (node_at (with_host s a k p) c)
-host-stood s a k p c = same_stood (host_same s a k p c)
+host_stood s a k p c = same_stood (host_same s a k p c)
 
 -- and another one
-pub hosts-stood :
+pub hosts_stood :
     (s : Net) (a l : Locality) (k j : ℕ) (p q : Process) (c : Locality)
     → Stood (node_at s c) (node_at (with_host (with_host s a k p) l j q) c)
-hosts-stood s a l k j p q c = stood_same (host_same s a k p c) _ (host-stood _ l j q c)
+hosts_stood s a l k j p q c = stood_same (host_same s a k p c) _ (host_stood _ l j q c)
 
 -- ---- a tuple put
 module _ (t : Tuple) (a : Locality) (x y : Node) (h : Same x y) where
@@ -116,10 +116,10 @@ module _ (t : Tuple) (a : Locality) (x y : Node) (h : Same x y) where
       (λ full. absurd (omega (arith, h.stored_is)))
 
 -- what stands at y is the newest, or stood at x
-added-or :
+added_or :
     (t : Tuple) (a : Locality) (x y : Node) → Added t a x y → (i : ℕ) → i < y.stored
     → (i ≡ x.stored) ⊎ StandsAt x (tuple_at y i)
-added-or t a x y h i l =
+added_or t a x y h i l =
     elim (split i x.stored (omega (arith, h.one_more_law))) [
       | inl below ↦ inr (record { place = i; present = below; is = sym (h.older i below) })
       | inr e ↦ inl e
@@ -133,12 +133,12 @@ stood_or : (s : Net) (l c : Locality) (y : Node) → Stood (node_at s c) y → P
 stood_or s l c y h = record { each = λ i g. inr (h.each i g) }
 
 -- a process replaced, and then a tuple put at each member of a set
-all-at :
+all_at :
     (s : Net) (a : Locality) (k : ℕ) (p : Process) (g : Group) (t : Tuple) (c : Locality) → length s.nodes ≡ 16
     → node_at (added_all (with_host s a k p) g t) c
     ≡ choose (member g c) (with_tuple (node_at (with_host s a k p) c) t) (node_at (with_host s a k p) c)
 unfolding with_host with_node
-all-at s a k p g t c nodes =
+all_at s a k p g t c nodes =
     added_all_at (with_host s a k p) g t (length-set s.nodes a.0 (with_process (node_at s a) k p) ∙ nodes) c
 
 -- where the process p of a is replaced, and then the tuple put at l
@@ -158,7 +158,7 @@ module _
     there_or : PutOr s l l (with_tuple (node_at (with_host s a k p) l) (marked a t))
     there_or = record {
       each = λ i g.
-          elim (added-or t a _ _ there i g) [
+          elim (added_or t a _ _ there i g) [
             | inl e ↦ inl (refl, e)
             | inr h ↦ inr h
           ];
@@ -168,7 +168,7 @@ module _
     module _ (g : Group) (m : member g l ≡ true) (nodes : length s.nodes ≡ 16) where
       receives :
           node_at (added_all (with_host s a k p) g (marked a t)) l ≡ with_tuple (node_at (with_host s a k p) l) (marked a t)
-      receives = all-at s a k p g (marked a t) l nodes ∙ choose_true _ _ _ m
+      receives = all_at s a k p g (marked a t) l nodes ∙ choose_true _ _ _ m
 
       pub all_added : Added t a (node_at s l) (node_at (added_all (with_host s a k p) g (marked a t)) l)
       all_added = subst (Added t a (node_at s l)) (sym receives) there
@@ -179,14 +179,14 @@ module _
     pub out_or : (c : Locality) → PutOr s l c (node_at (added (with_host s a k p) l (marked a t)) c)
     unfolding added
     out_or c =
-        node_at_law (PutOr s l) (with_host s a k p) l _ there_or c (stood_or s l c _ (host-stood s a k p c))
+        node_at_law (PutOr s l) (with_host s a k p) l _ there_or c (stood_or s l c _ (host_stood s a k p c))
 
 -- at an address that is no member nothing is put
-pub passed-stood :
+pub passed_stood :
     (s : Net) (a : Locality) (k : ℕ) (p : Process) (g : Group) (t : Tuple) (c : Locality) → length s.nodes ≡ 16
     → member g c ≡ false → Stood (node_at s c) (node_at (added_all (with_host s a k p) g t) c)
-passed-stood s a k p g t c nodes m =
-    subst (Stood (node_at s c)) (sym (all-at s a k p g t c nodes ∙ choose_false _ _ _ m)) (host-stood s a k p c)
+passed_stood s a k p g t c nodes m =
+    subst (Stood (node_at s c)) (sym (all_at s a k p g t c nodes ∙ choose_false _ _ _ m)) (host_stood s a k p c)
 
 -- ---- a tuple taken
 after_taking_law : (x : Node) (i j : ℕ) → x.stored ≤ 16 → j < x.stored - 1 → StandsAt x (after_taking x i j)
@@ -200,19 +200,19 @@ taken_stood : (x : Node) (i : ℕ) → x.stored ≤ 16 → length x.tuples ≡ 1
 unfolding without_tuple tuple_at
 taken_stood x i few size = record {
   each = λ j l.
-      subst (StandsAt x) (sym ((set-each past_tuple 16 (after_taking x i) x.tuples size).holds j (omega arith)))
+      subst (StandsAt x) (sym ((set_each past_tuple 16 (after_taking x i) x.tuples size).holds j (omega arith)))
       (after_taking_law x i j few l);
 }
 
-pub in-stood :
+pub in_stood :
     (s : Net) (a : Locality) (k : ℕ) (p : Process) (l : Locality) (i : ℕ) → (node_at s l).stored ≤ 16
     → length (node_at s l).tuples ≡ 16 → (c : Locality) → Stood (node_at s c) (node_at (taken (with_host s a k p) l i) c)
 unfolding taken
-in-stood s a k p l i few size c =
+in_stood s a k p l i few size c =
     let h = host_same s a k p l in
     node_at_law (λ m. Stood (node_at s m)) (with_host s a k p) l _
     (stood_same h _ (taken_stood _ i (omega (arith, h.stored_is)) (ap length h.tuples_are ∙ size))) c
-    (host-stood s a k p c)
+    (host_stood s a k p c)
 
 -- ---- an address opened: it has no tuples
 none_stood : (x y : Node) → y.stored ≡ 0 → Stood x y
@@ -222,11 +222,11 @@ opened_stood : (s : Net) (c : Locality) → Stood (node_at s c) (node_at (opened
 unfolding node_at opened with_counts
 opened_stood s c = stays (node_at s c)
 
-pub created-stood :
+pub created_stood :
     (s : Net) (a : Locality) (k : ℕ) (p : Process) (v : ℕ) (q : Place) (c : Locality)
     → Stood (node_at s c) (node_at (created s a k p v q) c)
 unfolding created created_at opened with_counts with_rows with_process zero_node
-created-stood s a k p v q c =
+created_stood s a k p v q c =
     node_at_law (λ m. Stood (node_at s m)) _ (unused s) _ (none_stood _ _ refl) c
     (node_at_law (λ m. Stood (node_at s m)) (opened s) a _ (same_stood (record { stored_is = refl; tuples_are = refl })) c
     (opened_stood s c))

@@ -42,7 +42,7 @@ pub data PutsAt (s : Net) (b : ℕ) (l : Locality) : Type 0 where
       → picked_action s b ≡ Action.Out t q
       → target_of (host_of b) (picked_process s b) t ≡ Aim.At l
       → PutsAt s b l
-  by-out-all :
+  by_out_all :
       {g : Group} {q : Place}
       → number_of (pick_of s b).answer ≡ 0
       → picked_action s b ≡ Action.OutAll g q

@@ -14,12 +14,12 @@ use Rattle.net.specs.Records.{variable_at, pattern_at}
 use Rattle.matching.specs.Matching.{Want, Wanted, Evaluated, is_set, held_item, defined_field, want_of, zero_wanted}
 use Rattle.matching.specs.Matching.{wants_of, evaluated_of, want_at, same_item, is_reading, is_address}
 use Rattle.matching.specs.Matching.{fits_field, fits_of}
-use Rattle.matching.specs.Fitting.{Wants, written_reading, written_address, self_address, held-reading, held-address}
+use Rattle.matching.specs.Fitting.{Wants, written_reading, written_address, self_address, held_reading, held_address}
 use Rattle.matching.specs.Fitting.{formal_reading_law, formal_address_law, AllSet, FieldFits, equal, any_reading, any_address, Fits}
 use Rattle.net.proofs.Laws.{both_i, both_l, both_r, implies_i, implies_e, all_i, all_e}
 use Rattle.net.proofs.Every.{chosen_lt, Every, every_replicate, every_set, every_weaken}
 use Rattle.net.proofs.ReadingLaws.{never, same_reading_law, reading_equal}
-use Rattle.net.proofs.FoldLaws.{fold-keeps}
+use Rattle.net.proofs.FoldLaws.{fold_keeps}
 
 -- ---- items: the tests are equality
 same_item_law : (x : Item) → same_item x x ≡ true
@@ -79,28 +79,28 @@ module _ (a : Locality) (p : Process) where
   unfolding defined_field
   defined_set k v h e = set_value (variable_at p v) (rw e at h)
 
-  set-defined :
+  set_defined :
       (k : Pattern) → ((v : ℕ) → k ≡ Pattern.Held v → variable_at p v ≡ Value.Unset → ⊥) → defined_field p k ≡ true
   unfolding defined_field
-  set-defined (Pattern.Reading x) f = refl
-  set-defined (Pattern.Address l) f = refl
-  set-defined Pattern.Own f = refl
-  set-defined (Pattern.Held v) f = value_set _ (f v refl)
-  set-defined (Pattern.FormalReading v) f = refl
-  set-defined (Pattern.FormalAddress v) f = refl
+  set_defined (Pattern.Reading x) f = refl
+  set_defined (Pattern.Address l) f = refl
+  set_defined Pattern.Own f = refl
+  set_defined (Pattern.Held v) f = value_set _ (f v refl)
+  set_defined (Pattern.FormalReading v) f = refl
+  set_defined (Pattern.FormalAddress v) f = refl
 
   -- each field of a defined template is defined
-  field-defined :
+  field_defined :
       (c : Instruction) → c.count ≤ 4 → (evaluated_of a p c).defined ≡ true → (i : ℕ) → i < c.count
       → defined_field p (pattern_at c i) ≡ true
   unfolding evaluated_of
-  field-defined c few h i l = implies_e _ _ (all_e 4 _ h i (omega arith)) (lt-ltb i c.count l)
+  field_defined c few h i l = implies_e _ _ (all_e 4 _ h i (omega arith)) (lt-ltb i c.count l)
 
   pub defined_is : (c : Instruction) → c.count ≤ 4 → ((evaluated_of a p c).defined ≡ true) ↔ AllSet p c
   unfolding evaluated_of
   defined_is c few = (
-    λ h. record { each_set = λ i v l. defined_set (pattern_at c i) v (field-defined c few h i l) },
-    λ f. all_i 4 _ (λ i l. implies_i _ _ (λ u. set-defined _ (λ v. f.each_set i v (ltb-true i c.count u)))),
+    λ h. record { each_set = λ i v l. defined_set (pattern_at c i) v (field_defined c few h i l) },
+    λ f. all_i 4 _ (λ i l. implies_i _ _ (λ u. set_defined _ (λ v. f.each_set i v (ltb-true i c.count u)))),
   )
 
 -- ---- what a template wants
@@ -111,8 +111,8 @@ module _ (a : Locality) (p : Process) where
   held_wants : (v : ℕ) (x : Value) → variable_at p v ≡ x → is_set x ≡ true → Wants a p (Pattern.Held v) (Want.Exactly (held_item x))
   unfolding is_set held_item
   held_wants v Value.Unset e h = never h
-  held_wants v (Value.Reading x) e h = held-reading e
-  held_wants v (Value.Address l) e h = held-address e
+  held_wants v (Value.Reading x) e h = held_reading e
+  held_wants v (Value.Address l) e h = held_address e
 
   wants_of_law : (k : Pattern) → defined_field p k ≡ true → Wants a p k (want_of a p k)
   unfolding defined_field want_of
@@ -128,8 +128,8 @@ module _ (a : Locality) (p : Process) where
   of_wants _ _ written_reading = refl
   of_wants _ _ written_address = refl
   of_wants _ _ self_address = refl
-  of_wants _ _ (held-reading e) = rw e
-  of_wants _ _ (held-address e) = rw e
+  of_wants _ _ (held_reading e) = rw e
+  of_wants _ _ (held_address e) = rw e
   of_wants _ _ formal_reading_law = refl
   of_wants _ _ formal_address_law = refl
 
@@ -140,7 +140,7 @@ module _ (a : Locality) (p : Process) where
   placed : (c : Instruction) → Placed c 4 (wants_of a p c)
   unfolding wants_of Placed
   placed c =
-      fold-keeps (Placed c) _ _ 4 (every_replicate _ past_wanted 4 zero_wanted (λ i l m. absurd (omega arith)))
+      fold_keeps (Placed c) _ _ 4 (every_replicate _ past_wanted 4 zero_wanted (λ i l m. absurd (omega arith)))
       (λ j ws l g. chosen_lt (Placed c (suc j)) j c.count _ _
       (λ u. every_set j _ g (λ i w n f m. f (omega arith)) (λ m n. refl))
       (λ u. every_weaken g (λ i w f m n. f (omega arith) n)))
@@ -153,6 +153,6 @@ module _ (a : Locality) (p : Process) where
       (c : Instruction) → c.count ≤ 4 → (evaluated_of a p c).defined ≡ true → (i : ℕ) (w : Want) → i < c.count
       → (want_at (evaluated_of a p c) i ≡ w) ↔ Wants a p (pattern_at c i) w
   wants_is c few h i w l = (
-    λ e. subst (Wants a p (pattern_at c i)) (sym (want_is c i few l) ∙ e) (wants_of_law _ (field-defined a p c few h i l)),
+    λ e. subst (Wants a p (pattern_at c i)) (sym (want_is c i few l) ∙ e) (wants_of_law _ (field_defined a p c few h i l)),
     λ k. want_is c i few l ∙ of_wants _ w k,
   )

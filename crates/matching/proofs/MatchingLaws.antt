@@ -33,13 +33,13 @@ module _ (z : ℤ) (fits : SFits w32 z) where
   unfolding value_of
   value_reading x e = rw (e, back)
 
-  pub want-reading :
+  pub want_reading :
       (host : Locality) (p : Process) (k : Pattern) (r : Want)
       → k ≡ Pattern.Reading z
       → r ≡ Want.Exactly (Item.Reading (to_z w32 (of_z w32 z)))
       → r ≡ want_of host p k
   unfolding want_of
-  want-reading host p k r e q = rw (e, ← back) q
+  want_reading host p k r e q = rw (e, ← back) q
 
   pub same_reading_law :
       (y : Item) (x : ℤ) (r : Bool)
@@ -50,12 +50,12 @@ module _ (z : ℤ) (fits : SFits w32 z) where
   unfolding same_item
   same_reading_law y x r f e q = rw (e, ← back, ← (to_z-of_z w32 x f)) q
 
-  pub same-as-reading :
+  pub same_as_reading :
       (x y : Item) (r : Bool)
       → x ≡ Item.Reading z
       → r ≡ same_item (Item.Reading (to_z w32 (of_z w32 z))) y
       → r ≡ same_item x y
-  same-as-reading x y r e q = rw (e, ← back) q
+  same_as_reading x y r e q = rw (e, ← back) q
 
 -- ---- past the last variable. What is known of an array says its length under a map of its elements.
 module _
@@ -73,19 +73,19 @@ module _
 pub wants_none : (w : Wanted) → w ≡ zero_wanted → (w ∷ w ∷ w ∷ w ∷ []) ≡ replicate 4 zero_wanted
 wants_none w e = rw e
 
-pub set-want :
+pub set_want :
     (ws : List Wanted) (i : ℕ) (x y : Want)
     → x ≡ y
     → set ws i (record { want = x }) ≡ set ws i (record { want = y })
-set-want ws i x y e = rw e
+set_want ws i x y e = rw e
 
-pub evaluated-parts :
+pub evaluated_parts :
     (host : Locality) (p : Process) (c : Instruction) (d : Bool) (ws : List Wanted)
     → d ≡ all 4 (λ i. implies (ltb i c.count) (defined_field p (pattern_at c i)))
     → ws ≡ wants_of host p c
     → record { defined = d; count = c.count; wants = ws } ≡ evaluated_of host p c
 unfolding evaluated_of
-evaluated-parts host p c d ws e q = rw (e, q)
+evaluated_parts host p c d ws e q = rw (e, q)
 
 -- ---- a test of which the first half has been made
 pub both_when : (x y a : Bool) → a ≡ true → x ≡ y → x ≡ both a y
@@ -103,12 +103,12 @@ module _ {B : Type 0} (n : Node) (i : ℕ) (to : Tuple → B) (e : length (map t
   unfolding tuple_at
   none = get_or-eq_default n.tuples _ {n = i} (omega (arith, length-map n.tuples to))
 
-  pub bound-past :
+  pub bound_past :
       (p r : Process) (t : Tuple) (x : Evaluated)
       → t ≡ zero_tuple
       → r ≡ bound_of p t x
       → r ≡ bound_of p (tuple_at n i) x
-  bound-past p r t x d q = rw (none, ← (zero_fields p x), ← d) q
+  bound_past p r t x d q = rw (none, ← (zero_fields p x), ← d) q
 
 -- ---- what a template meets
 module _ (p r : Process) (n : Node) (e : Evaluated) (f : Found) where

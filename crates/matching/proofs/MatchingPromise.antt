@@ -17,14 +17,14 @@ use Rattle.net.specs.Records.{marked, field_at, variable_at, tuple_at, pattern_a
 use Rattle.matching.specs.Matching.{Want, Wanted, Evaluated, Found, held_item, want_of, zero_wanted, wants_of, evaluated_of}
 use Rattle.matching.specs.Matching.{want_at, fits_field, fits_of}
 use Rattle.matching.specs.Matching.{is_reading, is_address, oldest_of, value_of, bound_field, bound_of, bound_at, matched_of}
-use Rattle.matching.specs.MatchingPromise.{OldestThatFits, Holds, reading-met, address-met, as_before}
+use Rattle.matching.specs.MatchingPromise.{OldestThatFits, Holds, reading_met, address_met, as_before}
 use Rattle.matching.specs.MatchingPromise.{Binding, MatchingPromise}
 use Rattle.net.specs.Choice.{in_range}
 use Rattle.sound.specs.Soundness.{item_sound, value_sound, pattern_sound, template_sound}
 use Rattle.net.proofs.Laws.{both_i, both_l, both_r, both_false_r, implies_e, all_e, choose_true, split}
 use Rattle.net.proofs.Every.{chosen_lt, Every, every_replicate, every_set}
 use Rattle.net.proofs.Lowest.{Lowest, first_is, first_cases}
-use Rattle.net.proofs.FoldLaws.{fold-keeps}
+use Rattle.net.proofs.FoldLaws.{fold_keeps}
 use Rattle.net.proofs.ReadingLaws.{same_reading_law}
 use Rattle.matching.proofs.Fitting.{fits_is, defined_is, wants_is}
 
@@ -108,8 +108,8 @@ module _ (p : Process) (t : Tuple) (e : Evaluated) where
   -- field i does not name v
   holds_more : (i v : ℕ) (x : Value) → (Named e i v → ⊥) → Holds p t e i v x → Holds p t e (suc i) v x
   unfolding Named
-  holds_more i v _ f (reading-met {i = j} l w g) = reading-met {i = j} (omega arith) w g
-  holds_more i v _ f (address-met {i = j} l w g) = address-met {i = j} (omega arith) w g
+  holds_more i v _ f (reading_met {i = j} l w g) = reading_met {i = j} (omega arith) w g
+  holds_more i v _ f (address_met {i = j} l w g) = address_met {i = j} (omega arith) w g
   holds_more i v _ f (as_before h) = as_before (λ j l. named_more i v h f j (split j i l))
 
   -- field i names the variable u, and no other, and sets it to x
@@ -153,11 +153,11 @@ module _ (p : Process) (t : Tuple) (e : Evaluated) where
   unfolding bound_field fits_field value_of is_reading is_address
   turn i q x (Want.Exactly y) b f h g = kept_binding i q b (λ v. not_actual e i v 0 y h)
   turn i q (Item.Reading z) (Want.AnyReading u) b f h g =
-      set_binding i u q _ b (λ v. only_reading e i v u h) (reading-met {i = i} (omega arith) h f)
+      set_binding i u q _ b (λ v. only_reading e i v u h) (reading_met {i = i} (omega arith) h f)
   turn i q (Item.Address l) (Want.AnyReading u) b f h g = let z : ◌≡◌ {A = ℕ} 0 1 = cc in absurd (omega arith)
   turn i q (Item.Reading z) (Want.AnyAddress u) b f h g = let z : ◌≡◌ {A = ℕ} 0 1 = cc in absurd (omega arith)
   turn i q (Item.Address l) (Want.AnyAddress u) b f h g =
-      set_binding i u q _ b (λ v. only_address e i v u h) (address-met {i = i} (omega arith) h f)
+      set_binding i u q _ b (λ v. only_address e i v u h) (address_met {i = i} (omega arith) h f)
 
   start : Binding p t e 0 p
   start = record {
@@ -176,7 +176,7 @@ module _ (p : Process) (t : Tuple) (e : Evaluated) where
   bound_sets few h =
       let same : t.count ≡ e.count = eqb-true _ _ (both_l _ _ h) in
       as_many (min 4 e.count) t.count _ (omega arith)
-      (fold-keeps (λ i. Binding p t e (min i e.count)) _ p 4 (as_many 0 _ p (omega arith) start)
+      (fold_keeps (λ i. Binding p t e (min i e.count)) _ p 4 (as_many 0 _ p (omega arith) start)
       (λ i q l b. chosen_lt (Binding p t e (min (suc i) e.count)) i e.count _ _
       (λ u. as_many (suc i) _ _ (omega arith)
       (turn i q _ _ (as_many _ i q (omega arith) b) refl refl
@@ -221,11 +221,11 @@ module _
     want_sound (Pattern.FormalReading v) h = reading_sound n v
     want_sound (Pattern.FormalAddress v) h = address_sound n v
 
-    wants-sound :
+    wants_sound :
         (c : Instruction) → template_sound n c ≡ true → Every (λ i w. WantSound n w.want) past_wanted 4 (wants_of a p c)
     unfolding wants_of template_sound zero_wanted item_sound
-    wants-sound c h =
-        fold-keeps (λ i. Every (λ j w. WantSound n w.want) past_wanted 4) _ _ 4
+    wants_sound c h =
+        fold_keeps (λ i. Every (λ j w. WantSound n w.want) past_wanted 4) _ _ 4
         (every_replicate _ past_wanted 4 zero_wanted (λ j l. exactly_sound n _ refl))
         (λ i ws l g. chosen_lt (Every (λ j w. WantSound n w.want) past_wanted 4) i c.count _ _
         (λ u. every_set i _ g (λ j w d f. f)
@@ -233,11 +233,11 @@ module _
         (sym (choose_true _ _ _ (lt-ltb i c.count u)) ∙ all_e 4 _ (both_r (in_range 1 c.count 4) _ h) i l)))
         (λ u. g))
 
-    wants-in-range :
+    wants_in_range :
         (c : Instruction) → template_sound n c ≡ true → (i : ℕ) (x : Item) → i < 4
         → want_at (evaluated_of a p c) i ≡ Want.Exactly x → item_sound n x ≡ true
     unfolding want_at evaluated_of WantSound
-    wants-in-range c h i x l = (wants-sound c h).holds i l x
+    wants_in_range c h i x l = (wants_sound c h).holds i l x
 
 -- ---- what is found is stored
 found_is_stored : (x : Node) (e : Evaluated) (i : ℕ) → oldest_of x e ≡ Found.At i → i < x.stored
@@ -247,11 +247,11 @@ found_is_stored x e i =
     (λ j h d. let same : j ≡ i = cc in rw (← same) (ltb-true _ _ (both_l _ _ h.holds)))
     (λ d. let z : ◌≡◌ {A = ℕ} 0 1 = cc in absurd (omega arith))
 
-mark-aside :
+mark_aside :
     (t : Tuple) (a : Locality) (p : Process) (e : Evaluated)
     → (fits_of (marked a t) e ≡ fits_of t e) × (bound_of p (marked a t) e ≡ bound_of p t e)
 unfolding fits_of bound_of field_at marked
-mark-aside t a p e = (refl, refl)
+mark_aside t a p e = (refl, refl)
 
 pub matching_promise : MatchingPromise
 unfolding matched_of bound_at evaluated_of want_at
@@ -264,9 +264,9 @@ matching_promise = record {
   binds = λ p x e i d. ap (λ (f : Found). bound_at f p x e) d;
   leaves = λ p x e d. ap (λ (f : Found). bound_at f p x e) d;
   sets = bound_sets;
-  marks = mark-aside;
+  marks = mark_aside;
   counts = λ a p c. refl;
-  ranges = λ n a p c hosted values. wants-in-range n a p hosted values c;
+  ranges = λ n a p c hosted values. wants_in_range n a p hosted values c;
   reads = λ e i. refl;
   same = same_reading_law;
 }

@@ -11,9 +11,9 @@ pub data Wants (a : Locality) (p : Process) : Pattern → Want → Type 0 where
   written_reading : {x : ℤ} → Wants a p (Pattern.Reading x) (Want.Exactly (Item.Reading x))
   written_address : {l : Locality} → Wants a p (Pattern.Address l) (Want.Exactly (Item.Address l))
   self_address : Wants a p Pattern.Own (Want.Exactly (Item.Address a))
-  held-reading :
+  held_reading :
       {v : ℕ} {x : ℤ} → variable_at p v ≡ Value.Reading x → Wants a p (Pattern.Held v) (Want.Exactly (Item.Reading x))
-  held-address :
+  held_address :
       {v : ℕ} {l : Locality}
       → variable_at p v ≡ Value.Address l
       → Wants a p (Pattern.Held v) (Want.Exactly (Item.Address l))

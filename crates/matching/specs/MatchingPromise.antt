@@ -19,13 +19,13 @@ pub record OldestThatFits (x : Node) (e : Evaluated) (i : ℕ) : Type 0 where
 -- what variable v of the process p holds once the first n fields of the template e have met those of the tuple t: the
 -- field that a formal of v met, which has the formal's sort, or, where none of them is a formal of v, what it held before
 pub data Holds (p : Process) (t : Tuple) (e : Evaluated) (n v : ℕ) : Value → Type 0 where
-  reading-met :
+  reading_met :
       {i : ℕ} {x : ℤ}
       → i < n
       → want_at e i ≡ Want.AnyReading v
       → field_at t i ≡ Item.Reading x
       → Holds p t e n v (Value.Reading x)
-  address-met :
+  address_met :
       {i : ℕ} {l : Locality}
       → i < n
       → want_at e i ≡ Want.AnyAddress v

@@ -64,43 +64,43 @@ module _ (list : List ℕ) (at : ℕ) (h : at < length list) where
   unfolding fault_among
   fault_next = ap (fault_among list) (places_next list at h)
 
-  pub found-next :
+  pub found_next :
       (a : Locality)
       → found_among list a (places_after list at)
       ≡ choose (eqb (address_at list at) a.0) (Found.At at) (found_among list a (places_after list (entry_end list at)))
   unfolding found_among
-  found-next a = ap (found_among list a) (places_next list at h)
+  found_next a = ap (found_among list a) (places_next list at h)
 
   -- the first fault
-  pub fault-again :
+  pub fault_again :
       (n next : ℕ) → Left list (fault_among list) at → n ≡ entry_fault list at → n ≡ 0 → next ≡ entry_end list at
       → Left list (fault_among list) next
   unfolding first_of
-  fault-again n next l e z p = record {
+  fault_again n next l e z p = record {
     same = ap (λ (q : ℕ). fault_among list (places_after list q)) p
         ∙ sym (fault_next ∙ choose_true _ _ _ (eq-eqb _ 0 (sym e ∙ z))) ∙ l.same;
   }
 
-  pub fault-here :
+  pub fault_here :
       (n : ℕ) → Left list (fault_among list) at → n ≡ entry_fault list at → (n ≡ 0 → ⊥) → n ≡ list_fault list
   unfolding first_of list_fault
-  fault-here n l e z = e ∙ sym (fault_next ∙ choose_false _ _ _ (ne_eqb _ 0 (λ q. z (e ∙ q)))) ∙ l.same
+  fault_here n l e z = e ∙ sym (fault_next ∙ choose_false _ _ _ (ne_eqb _ 0 (λ q. z (e ∙ q)))) ∙ l.same
 
   -- the first entry for an address
   module _ (a : Locality) where
-    pub found-again :
+    pub found_again :
         (next : ℕ) → Left list (found_among list a) at → (get_or list at 0 / 16 ≡ a.0 → ⊥) → next ≡ entry_end list at
         → Left list (found_among list a) next
     unfolding address_at
-    found-again next l z p = record {
+    found_again next l z p = record {
       same = ap (λ (q : ℕ). found_among list a (places_after list q)) p
-          ∙ sym (found-next a ∙ choose_false _ _ _ (ne_eqb _ _ z)) ∙ l.same;
+          ∙ sym (found_next a ∙ choose_false _ _ _ (ne_eqb _ _ z)) ∙ l.same;
     }
 
     pub found_here : Left list (found_among list a) at → get_or list at 0 / 16 ≡ a.0 → Sought list a (Found.At at)
     unfolding address_at found_in
     found_here l e = record {
-      first = sym (found-next a ∙ choose_true _ _ _ (eq-eqb _ _ e)) ∙ l.same;
+      first = sym (found_next a ∙ choose_true _ _ _ (eq-eqb _ _ e)) ∙ l.same;
       inside = λ p q. let same : at ≡ p = cc in omega arith;
     }
 
@@ -162,8 +162,8 @@ module _ (list text : List ℕ) (at : ℕ) (ok : Bool) (t : text ≡ take (size_
   not_letters h = if_false _ _ _ _ (ap all_letters (sym t) ∙ sym e ∙ h) refl
 
 -- ---- the faults of an entry, in their order
-pub entry-tested :
+pub entry_tested :
     (list : List ℕ) (at size cut letter later n : ℕ) → size ≡ length_fault list at → cut ≡ cut_fault list at
     → letter ≡ letter_fault list at → later ≡ first_of cut letter → n ≡ first_of size later → n ≡ entry_fault list at
 unfolding entry_fault
-entry-tested list at size cut letter later n s c l m e = cc
+entry_tested list at size cut letter later n s c l m e = cc

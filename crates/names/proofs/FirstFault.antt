@@ -12,12 +12,12 @@ use Rattle.net.proofs.Laws.{choose_true, choose_false, all_i, all_e, in_range_la
 use Rattle.net.proofs.Every.{chosen}
 use Rattle.net.proofs.ReadingLaws.{never}
 use Rattle.names.specs.Names.{letter_at, all_letters, first_of, places_of, fault_among, list_fault, names_fault}
-use Rattle.names.specs.NameClaims.{Letter, Letters, first_byte, FirstFault, no_fault, past-entry, length_of_nought, cut_short}
+use Rattle.names.specs.NameClaims.{Letter, Letters, first_byte, FirstFault, no_fault, past_entry, length_of_nought, cut_short}
 use Rattle.names.specs.NameClaims.{out_of_range}
 use Rattle.names.specs.NameClaims.{FirstOfTwo, in_site, past_site, FirstFaultOfNames}
 use Rattle.names.proofs.EntryLaws.{entry_end, places_after, fault_past}
-use Rattle.names.proofs.Standing.{stands, ended, by_tests, head_fault, faults-there, after_there, byte_apart, text_long}
-use Rattle.names.proofs.Standing.{entry-apart, text_is, rest_is}
+use Rattle.names.proofs.Standing.{stands, ended, by_tests, head_fault, faults_there, after_there, byte_apart, text_long}
+use Rattle.names.proofs.Standing.{entry_apart, text_is, rest_is}
 
 -- ---- letters
 letter_known : (text : List ℕ) (i : ℕ) → letter_at text i ≡ true → Letter (get_or text i 0)
@@ -68,13 +68,13 @@ module _ (b : ℕ) (rest : List ℕ) (m : ℕ) where
     passed : all_letters (take (b % 16) rest) ≡ true → FirstFault (drop (b % 16) rest) m → FirstFault (b ∷ rest) m
     passed e f =
         let long = text_long b rest h in
-        subst (λ (l : List ℕ). FirstFault l m) (entry-apart b rest h)
-        (past-entry (b / 16) (record { some = omega arith; few = omega arith; letters = letters_known _ e }) f)
+        subst (λ (l : List ℕ). FirstFault l m) (entry_apart b rest h)
+        (past_entry (b / 16) (record { some = omega arith; few = omega arith; letters = letters_known _ e }) f)
 
     ranged : Fails (length (take (b % 16) rest)) (letter_at (take (b % 16) rest)) → FirstFault (b ∷ rest) 53
     ranged (fails_at i l p) =
         let long = text_long b rest h in
-        subst (λ (l : List ℕ). FirstFault l 53) (entry-apart b rest h)
+        subst (λ (l : List ℕ). FirstFault l 53) (entry_apart b rest h)
         (out_of_range (b / 16) (take (b % 16) rest) (drop (b % 16) rest) i (omega arith) (omega arith) l (no_letter _ i p))
 
   head_is : FirstFault (drop (b % 16) rest) m → FirstFault (b ∷ rest) (first_of (head_fault b rest) m)
@@ -98,7 +98,7 @@ module _ (list : List ℕ) where
       let there = after_there list at b rest s in
       let less : length (drop (entry_end list at) list) < suc (length rest) = rw there (omega arith) in
       let m = fault_among list (places_after list (entry_end list at)) in
-      subst (FirstFault (b ∷ rest)) (sym (faults-there list at b rest s))
+      subst (FirstFault (b ∷ rest)) (sym (faults_there list at b rest s))
       (head_is b rest m (subst (λ (l : List ℕ). FirstFault l m) there (f (entry_end list at) less)))
 
   -- at most k bytes stand there
@@ -161,23 +161,23 @@ module _ (list : List ℕ) where
       (at b : ℕ) (rest : List ℕ) (n : ℕ) → drop at list ≡ b ∷ rest → head_fault b rest ≡ n
       → fault_among list (places_after list at) ≡ first_of n (fault_among list (places_after list (entry_end list at)))
   head_first at b rest n e h =
-      faults-there list at b rest (stands list at b rest e)
+      faults_there list at b rest (stands list at b rest e)
       ∙ ap (λ (x : ℕ). first_of x (fault_among list (places_after list (entry_end list at)))) h
 
-  only-from :
+  only_from :
       (at : ℕ) (tail : List ℕ) (n : ℕ) → drop at list ≡ tail → FirstFault tail n → fault_among list (places_after list at) ≡ n
   unfolding first_of choose
-  only-from at _ n e no_fault = fault_past list at (ended list at e)
-  only-from at _ n e (past-entry a {text} {rest} t f) =
+  only_from at _ n e no_fault = fault_past list at (ended list at e)
+  only_from at _ n e (past_entry a {text} {rest} t f) =
       head_first at _ _ 0 e (good_head a text rest t.some t.few t.letters)
-      ∙ only-from (entry_end list at) rest n (after_there list at _ _ (stands list at _ _ e) ∙ rest_is a text rest t.few) f
-  only-from at _ n e (length_of_nought a {rest}) = head_first at _ _ 51 e (nought_head a rest)
-  only-from at _ n e (cut_short a size {rest} l u c) = head_first at _ _ 52 e (cut_head a size rest l u c)
-  only-from at _ n e (out_of_range a text rest i l u h w) = head_first at _ _ 53 e (bad_head a text rest l u i h w)
+      ∙ only_from (entry_end list at) rest n (after_there list at _ _ (stands list at _ _ e) ∙ rest_is a text rest t.few) f
+  only_from at _ n e (length_of_nought a {rest}) = head_first at _ _ 51 e (nought_head a rest)
+  only_from at _ n e (cut_short a size {rest} l u c) = head_first at _ _ 52 e (cut_head a size rest l u c)
+  only_from at _ n e (out_of_range a text rest i l u h w) = head_first at _ _ 53 e (bad_head a text rest l u i h w)
 
   list_fault_only : (n : ℕ) → FirstFault list n → list_fault list ≡ n
   unfolding list_fault places_of
-  list_fault_only n f = only-from 0 list n refl f
+  list_fault_only n f = only_from 0 list n refl f
 
 -- ---- of two lists
 of_two : (site office : List ℕ) (n : ℕ) → FirstOfTwo site office n → names_fault site office ≡ n

@@ -12,12 +12,12 @@ use Rattle.net.proofs.Every.{chosen}
 use Rattle.net.specs.declared.locality.Locality.{Locality}
 use Rattle.names.specs.Names.{Found, of_office, address_at, text_at, places_of, names_fault, found_among, found_in, no_name}
 use Rattle.names.specs.Names.{stretch_for, stretch_after, bytes_of, name_after, stretch_of, name_of}
-use Rattle.names.specs.NameClaims.{Letters, Text, Entry, first_byte, Entries, no_entries, entry-then, FirstFault, no_fault}
-use Rattle.names.specs.NameClaims.{past-entry, length_of_nought, cut_short, out_of_range}
+use Rattle.names.specs.NameClaims.{Letters, Text, Entry, first_byte, Entries, no_entries, entry_then, FirstFault, no_fault}
+use Rattle.names.specs.NameClaims.{past_entry, length_of_nought, cut_short, out_of_range}
 use Rattle.names.specs.NameClaims.{FirstOfTwo, in_site, past_site, FaultNamesNone, FirstFor, here, later, NoneFor}
 use Rattle.names.specs.NameClaims.{nothing_left_law, other}
-use Rattle.names.specs.NameClaims.{EntryFor, of_site_law, of-office, InNeither, in-neither, NameIsEntry, NoneAboveFifteen, NameIsShort}
-use Rattle.names.proofs.EntryLaws.{places_after, entry_end, found-next, found_past}
+use Rattle.names.specs.NameClaims.{EntryFor, of_site_law, of_office_law, InNeither, in_neither, NameIsEntry, NoneAboveFifteen, NameIsShort}
+use Rattle.names.proofs.EntryLaws.{places_after, entry_end, found_next, found_past}
 use Rattle.names.proofs.Standing.{stands, ended, address_there, text_there, after_there, address_is, text_is, rest_is}
 use Rattle.names.proofs.FirstFault.{first_fault_of_names}
 
@@ -38,11 +38,11 @@ data Whole (list : List ℕ) : Type 0 where
   whole : {entries : List Entry} → Entries list entries → Whole list
 
 more_whole : (a : ℕ) {text rest : List ℕ} → Text text → Whole rest → Whole (first_byte a (length text) ∷ (text ++ rest))
-more_whole a t (whole e) = whole (entry-then {a = a} t e)
+more_whole a t (whole e) = whole (entry_then {a = a} t e)
 
 is_whole : (list : List ℕ) (n : ℕ) → n ≡ 0 → FirstFault list n → Whole list
 is_whole list n z no_fault = whole no_entries
-is_whole list n z (past-entry a t f) = more_whole a t (is_whole _ n z f)
+is_whole list n z (past_entry a t f) = more_whole a t (is_whole _ n z f)
 is_whole list n z (length_of_nought a) = absurd (omega arith)
 is_whole list n z (cut_short a size l u c) = absurd (omega arith)
 is_whole list n z (out_of_range a text rest i l u h w) = absurd (omega arith)
@@ -53,11 +53,11 @@ data FoundFor (list : List ℕ) (a : Locality) (entries : List Entry) : Found �
   not_found : NoneFor a.0 entries → FoundFor list a entries Found.Nothing
 
 module _ (list : List ℕ) (a : Locality) where
-  found-later :
+  found_later :
       (e : Entry) (entries : List Entry) (f : Found) → (e.address ≡ a.0 → ⊥) → FoundFor list a entries f
       → FoundFor list a (e ∷ entries) f
-  found-later e entries _ n (found_at h) = found_at (later n h)
-  found-later e entries _ n (not_found h) = not_found (other n h)
+  found_later e entries _ n (found_at h) = found_at (later n h)
+  found_later e entries _ n (not_found h) = not_found (other n h)
 
   first_here : (b : ℕ) (text : List ℕ) (entries : List Entry) (at : ℕ) → b ≡ a.0 → text_at list at ≡ text
       → FoundFor list a (record { address = b; text = text } ∷ entries) (Found.At at)
@@ -66,23 +66,23 @@ module _ (list : List ℕ) (a : Locality) where
       (subst (λ (x : ℕ). FirstFor a.0 (record { address = x; text = text } ∷ entries) (text_at list at)) (sym e)
       (subst (λ (x : List ℕ). FirstFor a.0 (record { address = a.0; text = text } ∷ entries) x) (sym t) here))
 
-  found-for :
+  found_for :
       (at : ℕ) (tail : List ℕ) (entries : List Entry) → drop at list ≡ tail → Entries tail entries
       → FoundFor list a entries (found_among list a (places_after list at))
-  found-for at _ _ e no_entries = subst (FoundFor list a []) (sym (found_past list at (ended list at e) a)) (not_found nothing_left_law)
-  found-for at _ _ e (entry-then {a = b} {text = text} {rest = rest} {entries = entries} t es) =
+  found_for at _ _ e no_entries = subst (FoundFor list a []) (sym (found_past list at (ended list at e) a)) (not_found nothing_left_law)
+  found_for at _ _ e (entry_then {a = b} {text = text} {rest = rest} {entries = entries} t es) =
       let s = stands list at _ _ e in
       let entry : Entry = record { address = b; text = text } in
       let named : address_at list at ≡ b = address_there list at _ _ s ∙ address_is b text rest t.few in
-      subst (FoundFor list a (entry ∷ entries)) (sym (found-next list at s.inside a))
+      subst (FoundFor list a (entry ∷ entries)) (sym (found_next list at s.inside a))
       (chosen (FoundFor list a (entry ∷ entries)) (eqb (address_at list at) a.0) _ _
       (λ h. first_here b text entries at (sym named ∙ eqb-true _ _ h) (text_there list at _ _ s ∙ text_is b text rest t.few))
-      (λ h. found-later entry entries _ (λ q. eqb-false _ _ h (named ∙ q))
-      (found-for (entry_end list at) rest entries (after_there list at _ _ s ∙ rest_is b text rest t.few) es)))
+      (λ h. found_later entry entries _ (λ q. eqb-false _ _ h (named ∙ q))
+      (found_for (entry_end list at) rest entries (after_there list at _ _ s ∙ rest_is b text rest t.few) es)))
 
   found_in_law : (entries : List Entry) → Entries list entries → FoundFor list a entries (found_in list a)
   unfolding found_in places_of
-  found_in_law entries e = found-for 0 list entries refl e
+  found_in_law entries e = found_for 0 list entries refl e
 
 -- ---- the name of an address in two lists that are entries
 data Outcome (a : Locality) (sites offices : List Entry) : List ℕ → Type 0 where
@@ -98,23 +98,23 @@ outcome site office a sites offices _ g (found_at h) w = from_site h
 outcome site office a sites offices _ _ (not_found h) (found_at w) = from_office h w
 outcome site office a sites offices _ _ (not_found h) (not_found w) = from_neither h w
 
-name-found :
+name_found :
     (site office : List ℕ) (a : Locality) → names_fault site office ≡ 0
     → bytes_of site office (stretch_for site office (found_in site a) (found_in office a)) ≡ name_of site office a
 unfolding name_of name_after stretch_after
-name-found site office a z = ap (bytes_of site office) (sym (choose_true _ _ _ (eq-eqb _ 0 z)))
+name_found site office a z = ap (bytes_of site office) (sym (choose_true _ _ _ (eq-eqb _ 0 z)))
 
-name-outcome :
+name_outcome :
     (site office : List ℕ) (a : Locality) {sites offices : List Entry} → names_fault site office ≡ 0 → Entries site sites
     → Entries office offices → Outcome a sites offices (name_of site office a)
-name-outcome site office a {sites} {offices} z e w =
-    subst (Outcome a sites offices) (name-found site office a z)
+name_outcome site office a {sites} {offices} z e w =
+    subst (Outcome a sites offices) (name_found site office a z)
     (outcome site office a sites offices _ _ (found_in_law site a sites e) (found_in_law office a offices w))
 
 -- the text of a first entry is one of an entry
 first_text : {list : List ℕ} {entries : List Entry} {text : List ℕ} (a : ℕ) → Entries list entries → FirstFor a entries text → Text text
-first_text a (entry-then t e) here = t
-first_text a (entry-then t e) (later n f) = first_text a e f
+first_text a (entry_then t e) here = t
+first_text a (entry_then t e) (later n f) = first_text a e f
 
 never_empty : {list : List ℕ} {entries : List Entry} (a : ℕ) → Entries list entries → FirstFor a entries [] → ⊥
 never_empty a e f = let t = (first_text a e f).some in omega arith
@@ -125,15 +125,15 @@ module _ (site office : List ℕ) (a : Locality) where
       {sites offices : List Entry} (name : List ℕ) → Entries site sites → Entries office offices
       → Outcome a sites offices name → (name ≡ [] → ⊥) → EntryFor site office a name
   entry_of name e w (from_site f) n = of_site_law e f
-  entry_of name e w (from_office h f) n = of-office e h w f
+  entry_of name e w (from_office h f) n = of_office_law e h w f
   entry_of name e w (from_neither h g) n = absurd (n refl)
 
-  neither-of :
+  neither_of :
       {sites offices : List Entry} (name : List ℕ) → Entries site sites → Entries office offices
       → Outcome a sites offices name → name ≡ [] → InNeither site office a
-  neither-of name e w (from_site f) z = absurd (never_empty a.0 e (subst (FirstFor a.0 _) z f))
-  neither-of name e w (from_office h f) z = absurd (never_empty a.0 w (subst (FirstFor a.0 _) z f))
-  neither-of name e w (from_neither h g) z = in-neither e h w g
+  neither_of name e w (from_site f) z = absurd (never_empty a.0 e (subst (FirstFor a.0 _) z f))
+  neither_of name e w (from_office h f) z = absurd (never_empty a.0 w (subst (FirstFor a.0 _) z f))
+  neither_of name e w (from_neither h g) z = in_neither e h w g
 
   -- both lists are entries, and the name is what they give
   data Read : Type 0 where
@@ -143,7 +143,7 @@ module _ (site office : List ℕ) (a : Locality) where
   is_read z = go (names_fault site office) z (first_fault_of_names.is site office)
     where
       both : Whole site → Whole office → Read
-      both (whole e) (whole w) = read e w (name-outcome site office a z e w)
+      both (whole e) (whole w) = read e w (name_outcome site office a z e w)
 
       go : (n : ℕ) → n ≡ 0 → FirstOfTwo site office n → Read
       go n e (in_site f w) = absurd (w e)
@@ -163,7 +163,7 @@ module _ (site office : List ℕ) (a : Locality) where
   is_neither z n = go (is_read z)
     where
       go : Read → InNeither site office a
-      go (read e w o) = neither-of _ e w o n
+      go (read e w o) = neither_of _ e w o n
 
   -- a name of at least one byte has what the text of an entry has
   name_text : (name_of site office a ≡ [] → ⊥) → Text (name_of site office a)
@@ -171,7 +171,7 @@ module _ (site office : List ℕ) (a : Locality) where
     where
       go : EntryFor site office a (name_of site office a) → Text (name_of site office a)
       go (of_site_law e f) = first_text a.0 e f
-      go (of-office e h w f) = first_text a.0 w f
+      go (of_office_law e h w f) = first_text a.0 w f
 
 pub name_is_entry : NameIsEntry
 name_is_entry = record { entry = is_entry; empty = is_neither }
@@ -190,14 +190,14 @@ name_is_short = record {
 }
 
 -- ---- an address above 15
-found-above :
+found_above :
     (list : List ℕ) (a : Locality) (places : List ℕ) → ((i : ℕ) → get_or list i 0 < 256) → 15 < a.0
     → found_among list a places ≡ Found.Nothing
 unfolding found_among address_at
-found-above list a [] small h = refl
-found-above list a (p ∷ places) small h =
+found_above list a [] small h = refl
+found_above list a (p ∷ places) small h =
     let byte = small p in
-    choose_false _ _ _ (ne_eqb (get_or list p 0 / 16) a.0 (λ e. omega arith)) ∙ found-above list a places small h
+    choose_false _ _ _ (ne_eqb (get_or list p 0 / 16) a.0 (λ e. omega arith)) ∙ found_above list a places small h
 
 none_found :
     (site office : List ℕ) (f g : Found) → f ≡ Found.Nothing → g ≡ Found.Nothing
@@ -211,6 +211,6 @@ none_above_fifteen site office a small few h = go (ℕ_discrete (names_fault sit
   where
     go : Dec (names_fault site office ≡ 0) → name_of site office a ≡ []
     go (yes z) =
-        sym (name-found site office a z)
-        ∙ none_found site office _ _ (found-above site a _ small h) (found-above office a _ few h)
+        sym (name_found site office a z)
+        ∙ none_found site office _ _ (found_above site a _ small h) (found_above office a _ few h)
     go (no z) = no_name_law site office a z

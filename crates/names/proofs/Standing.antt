@@ -65,9 +65,9 @@ module _ (list : List ℕ) (at b : ℕ) (rest : List ℕ) (s : Stands list at b 
   unfolding entry_fault length_fault cut_fault letter_fault tested_fault head_fault text_at size_at
   fault_there = ap (λ (x : ℕ). head_fault x (drop (at + 1) list)) s.first ∙ ap (head_fault b) s.after
 
-  pub faults-there :
+  pub faults_there :
       fault_among list (places_after list at) ≡ first_of (head_fault b rest) (fault_among list (places_after list (entry_end list at)))
-  faults-there =
+  faults_there =
       fault_next list at s.inside ∙ ap (λ (n : ℕ). first_of n (fault_among list (places_after list (entry_end list at)))) fault_there
 
   pub after_there : drop (entry_end list at) list ≡ drop (b % 16) rest
@@ -82,9 +82,9 @@ module _ (b : ℕ) (rest : List ℕ) (h : b % 16 ≤ length rest) where
   pub text_long : length (take (b % 16) rest) ≡ b % 16
   text_long = length-take-le (b % 16) rest h
 
-  pub entry-apart :
+  pub entry_apart :
       first_byte (b / 16) (length (take (b % 16) rest)) ∷ (take (b % 16) rest ++ drop (b % 16) rest) ≡ b ∷ rest
-  entry-apart =
+  entry_apart =
       ap (λ (n : ℕ). first_byte (b / 16) n ∷ (take (b % 16) rest ++ drop (b % 16) rest)) text_long
       ∙ ap (λ (n : ℕ). n ∷ (take (b % 16) rest ++ drop (b % 16) rest)) (byte_apart b)
       ∙ ap (λ (l : List ℕ). b ∷ l) (take-append-drop (b % 16) rest)

@@ -32,7 +32,7 @@ pub record Entry : Type 0 where
 -- bytes that are entries, one after another
 pub data Entries : List ℕ → List Entry → Type 0 where
   no_entries : Entries [] []
-  entry-then :
+  entry_then :
       {a : ℕ} {text rest : List ℕ} {entries : List Entry}
       → Text text
       → Entries rest entries
@@ -43,7 +43,7 @@ pub data Entries : List ℕ → List Entry → Type 0 where
 -- of a list: entries without a fault are passed, and in the entry that has one no earlier number of the order is met
 pub data FirstFault : List ℕ → ℕ → Type 0 where
   no_fault : FirstFault [] 0
-  past-entry :
+  past_entry :
       (a : ℕ) {text rest : List ℕ} {n : ℕ}
       → Text text
       → FirstFault rest n
@@ -91,7 +91,7 @@ pub data NoneFor (a : ℕ) : List Entry → Type 0 where
 
 pub data EntryFor (site office : List ℕ) (a : Locality) (name : List ℕ) : Type 0 where
   of_site_law : {entries : List Entry} → Entries site entries → FirstFor a.0 entries name → EntryFor site office a name
-  of-office :
+  of_office_law :
       {entries more : List Entry}
       → Entries site entries
       → NoneFor a.0 entries
@@ -100,7 +100,7 @@ pub data EntryFor (site office : List ℕ) (a : Locality) (name : List ℕ) : Ty
       → EntryFor site office a name
 
 pub data InNeither (site office : List ℕ) (a : Locality) : Type 0 where
-  in-neither :
+  in_neither :
       {entries more : List Entry}
       → Entries site entries
       → NoneFor a.0 entries

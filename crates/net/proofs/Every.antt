@@ -65,24 +65,24 @@ pub record Filled {A : Type 0} (U Z : A → Type 0) (count j : ℕ) (a : A) : Ty
 
 module _ {A : Type 0} {U Z : A → Type 0} {d : A} {size count : ℕ} {xs : List A} where
   -- a place below the count is set anew
-  pub filled-set :
+  pub filled_set :
       (i : ℕ) (a : A) → i < count → U a → Every (Filled U Z count) d size xs
       → Every (Filled U Z count) d size (set xs i a)
-  filled-set i a h u e = every_set i a e (λ j b n f. f) (record { used = λ _. u; unused = λ l. absurd (omega arith) })
+  filled_set i a h u e = every_set i a e (λ j b n f. f) (record { used = λ _. u; unused = λ l. absurd (omega arith) })
 
   -- the place at the count is set, and the count goes up
-  pub filled-add :
+  pub filled_add :
       (a : A) → U a → Every (Filled U Z count) d size xs → Every (Filled U Z (count + 1)) d size (set xs count a)
-  filled-add a u e =
+  filled_add a u e =
       every_set count a e
       (λ j b n f. record { used = λ l. f.used (omega arith); unused = λ l. f.unused (omega arith) })
       (record { used = λ _. u; unused = λ l. absurd (omega arith) })
 
   -- what every record of both kinds has, the array has at each place
-  pub filled-each :
+  pub filled_each :
       {Q : A → Type 0} → Every (Filled U Z count) d size xs → ((x : A) → U x → Q x) → ((x : A) → Z x → Q x)
       → (j : ℕ) → j < size → Q (get_or xs j d)
-  filled-each {Q} e f g j h = go (dec_le count j)
+  filled_each {Q} e f g j h = go (dec_le count j)
     where
       go : Dec (count ≤ j) → Q (get_or xs j d)
       go (yes l) = g _ ((e.holds j h).unused l)
@@ -97,10 +97,10 @@ module _ {A : Type 0} {U Z : A → Type 0} {d : A} {size count : ℕ} {xs : List
     holds = λ j h. record { used = λ l. f j h ((e.holds j h).used l); unused = λ l. g _ ((e.holds j h).unused l) };
   }
 
-  pub filled-map :
+  pub filled_map :
       {U₂ Z₂ : A → Type 0} → ((x : A) → U x → U₂ x) → ((x : A) → Z x → Z₂ x) → Every (Filled U Z count) d size xs
       → Every (Filled U₂ Z₂ count) d size xs
-  filled-map f g e = filled_at e (λ j h. f _) g
+  filled_map f g e = filled_at e (λ j h. f _) g
 
   -- the computed test, and back
   pub filled_all :
@@ -110,12 +110,12 @@ module _ {A : Type 0} {U Z : A → Type 0} {d : A} {size count : ℕ} {xs : List
       all_i size _ (λ j h. chosen_lt (λ b. b ≡ true) j count _ _
       (λ l. f _ ((e.holds j h).used l)) (λ l. g _ ((e.holds j h).unused l)))
 
-  pub all-filled :
+  pub all_filled :
       (p z : A → Bool) → length xs ≡ size
       → all size (λ j. choose (ltb j count) (p (get_or xs j d)) (z (get_or xs j d))) ≡ true
       → ((j : ℕ) → j < size → p (get_or xs j d) ≡ true → U (get_or xs j d))
       → ((j : ℕ) → j < size → z (get_or xs j d) ≡ true → Z (get_or xs j d)) → Every (Filled U Z count) d size xs
-  all-filled p z e h f g = record {
+  all_filled p z e h f g = record {
     size_is = e;
     holds = λ j l. record {
       used = λ u. f j l (choose_e _ _ _ (all_e size _ h j l) (lt-ltb j count u));

@@ -31,14 +31,14 @@ module _ {A : Type 0} (n : ℕ) (test : ℕ → Bool) (at : ℕ → A) (nothing 
   turn i l = let e : n - i ≡ suc (n - suc i) = omega arith in rw e
 
   -- the test fails at i
-  pub first-again :
+  pub first_again :
       (i : ℕ) (b : Bool)
       → Left n test at nothing i
       → i < n
       → b ≡ test i
       → b ≡ false
       → Left n test at nothing (i + 1)
-  first-again i b h l p q = rw add-one (record {
+  first_again i b h l p q = rw add-one (record {
     low = omega arith;
     same = sym (turn i l ∙ choose_false (test i) _ _ (sym p ∙ q)) ∙ h.same;
   })
@@ -55,11 +55,11 @@ module _ {A : Type 0} (n : ℕ) (test : ℕ → Bool) (at : ℕ → A) (nothing 
   first_here i b x h l p q e = e ∙ sym (turn i l ∙ choose_true (test i) _ _ (sym p ∙ q)) ∙ h.same
 
   -- nothing is left to look at
-  pub first-none :
+  pub first_none :
       (i : ℕ) (x : A)
       → Left n test at nothing i
       → n ≤ i
       → x ≡ nothing
       → x ≡ first_below n test at nothing
   unfolding first_from
-  first-none i x h l e = let z : n - i ≡ 0 = omega arith in e ∙ (rw z at h.same)
+  first_none i x h l e = let z : n - i ≡ 0 = omega arith in e ∙ (rw z at h.same)

@@ -26,9 +26,9 @@ module _ {A : Type 0} (f : ℕ → A → A) (a : A) where
 
 -- turns, each of which keeps a fact
 module _ {A : Type 0} (P : ℕ → A → Type 0) (f : ℕ → A → A) (a : A) where
-  pub fold-keeps :
+  pub fold_keeps :
       (size : ℕ) → P 0 a → ((i : ℕ) (x : A) → i < size → P i x → P (suc i) (f i x)) → P size (fold size f a)
   unfolding fold
-  fold-keeps zero p turn = p
-  fold-keeps (suc size) p turn =
-      turn size _ (omega arith) (fold-keeps size p (λ i x h q. turn i x (omega arith) q))
+  fold_keeps zero p turn = p
+  fold_keeps (suc size) p turn =
+      turn size _ (omega arith) (fold_keeps size p (λ i x h q. turn i x (omega arith) q))

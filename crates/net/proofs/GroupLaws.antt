@@ -55,7 +55,7 @@ pub members_all : (g : Group) (test : Locality → Bool) → ((l : Locality) →
 unfolding all_members
 members_all g test f = all_i 16 _ (λ i h. implies_i (member g (address_of i)) _ (f (address_of i)))
 
-pub members-map :
+pub members_map :
     (g : Group) (test more : Locality → Bool) → ((l : Locality) → test l ≡ true → more l ≡ true) → all_members g test ≡ true
     → all_members g more ≡ true
-members-map g test more f h = members_all g more (λ l m. f l (members_at g test h l m))
+members_map g test more f h = members_all g more (λ l m. f l (members_at g test h l m))

@@ -11,7 +11,7 @@ use native.Mathlib.Numerals.{add-one}
 use Rattle.net.specs.Choice.{first_from, first_below}
 use Rattle.net.proofs.Laws.{split}
 use Rattle.net.proofs.Every.{chosen}
-use Rattle.net.proofs.FirstLaws.{Left, first_start, first-again, first_here}
+use Rattle.net.proofs.FirstLaws.{Left, first_start, first_again, first_here}
 
 -- the test holds at j, which is below n, and at no lower number
 pub record Lowest (n : ℕ) (test : ℕ → Bool) (j : ℕ) : Type 0 where
@@ -25,7 +25,7 @@ module _ {A : Type 0} (n : ℕ) (test : ℕ → Bool) (at : ℕ → A) (nothing 
   left_from zero l f = first_start n test at nothing
   left_from (suc j) l f =
       rw add-one at
-      (first-again n test at nothing j (test j) (left_from j (omega arith) (λ i h. f i (omega arith))) l refl
+      (first_again n test at nothing j (test j) (left_from j (omega arith) (λ i h. f i (omega arith))) l refl
       (f j (omega arith)))
 
   pub first_is : (j : ℕ) → Lowest n test j → first_below n test at nothing ≡ at j

@@ -16,7 +16,7 @@ use Rattle.text.specs.Bytes.{bytes}
 use Rattle.readers.specs.Reader.{Reader, require}
 use Rattle.readers.specs.Progress.{reached, run_from, Went}
 use Rattle.readers.proofs.ReaderLaws.{on, next, stop, came, one_value}
-use Rattle.readers.proofs.Gives.{Gives, gives_pure, gives_then, gives-and, gives_require, Any, any, went-gives}
+use Rattle.readers.proofs.Gives.{Gives, gives_pure, gives_then, gives_and, gives_require, Any, any, went_gives}
 use Rattle.lexemes.specs.Lexemes.{byte, word, number}
 use Rattle.lexemes.specs.declared.numbers.NumberRead.{NumberRead}
 use Rattle.lexemes.specs.Progress.{byte_here, Numbered}
@@ -28,7 +28,7 @@ use Rattle.terms.proofs.TableLaws.{set_past}
 use Rattle.processes.specs.Reading.{named}
 use Rattle.processes.specs.Reading as Reading
 use Rattle.processes.specs.Progress.{room, Started}
-use Rattle.processes.proofs.ProcessLaws.{begins-process}
+use Rattle.processes.proofs.ProcessLaws.{begins_process}
 use Rattle.processes.proofs.ActionLaws.{look_run, run_if, run_else}
 use Rattle.linking.specs.Source.{Line, definition, process, tuple}
 use Rattle.linking.specs.Compiled.{size_of, placed}
@@ -39,11 +39,11 @@ use Rattle.notation.specs.Lines.{definition_line, process_line, tuple_line, plac
 use Rattle.notation.specs.LineProgress.{state, Lined, Slotted, Roomed, Owner, Here, Defined, Tupled, Placed, Located, AnyLined}
 
 -- ---- what is asked of a place alone
-pub require-same :
+pub require_same :
     (s : List ℕ) (p q : Step) (b c : Bool) (n : ℕ) → (reached p ≡ true → b ≡ c) → Went s p (require b n) q tt → Went s p (require c n) q tt
 unfolding reached run_from
-require-same s (Step.At p) q b c n e w = rw (← (e refl)) w
-require-same s (Step.Failed f) q b c n e w = record { went = w.went }
+require_same s (Step.At p) q b c n e w = rw (← (e refl)) w
+require_same s (Step.Failed f) q b c n e w = record { went = w.went }
 
 module _ (s : List ℕ) (scope : Scope) (n : ℕ) where
   -- ---- a process, with the word of its start
@@ -52,19 +52,19 @@ module _ (s : List ℕ) (scope : Scope) (n : ℕ) where
       (g : Started s p (Reading.process scope) n table uses w q count table' uses') → reached q ≡ true
       → w ≡ start_word (start_of n g.coded.tree)
   unfolding Reading.process
-  start_is p q table table' uses uses' w count g h = begins-process s p n w 33 scope q g.coded.tree g.start g.coded.went h
+  start_is p q table table' uses uses' w count g h = begins_process s p n w 33 scope q g.coded.tree g.start g.coded.went h
 
   -- ---- a definition
   module _ (from equals read next' : Step) (r : NumberRead) (w count : ℕ) (table table' : List ℕ) (uses uses' : List Bool)
       (bodies bodies' : List ℕ) (defs defs' : List Bool) (twice before twice' : Bool) where
-    pub definition-lined :
+    pub definition_lined :
         Numbered s from named 511 r → Went s r.next (word (bytes " = ")) equals tt
         → Started s equals (Reading.process scope) n table uses w read count table' uses' → Went s read (byte 10) next' tt
         → before ≡ get_or defs r.value false → bodies' ≡ choose before bodies (set bodies r.value w)
         → defs' ≡ set defs r.value true → twice' ≡ choose before true twice
         → Defined s from (definition_line scope) n table uses bodies defs twice next' count table' uses' bodies' defs' twice'
     unfolding definition_line state after entered size_of
-    definition-lined a b g d e f h i = record {
+    definition_lined a b g d e f h i = record {
       lined = λ starts net. record {
         read = definition r.value g.coded.tree;
         went =
@@ -81,19 +81,19 @@ module _ (s : List ℕ) (scope : Scope) (n : ℕ) where
   -- ---- a process at an address
   module _ (from next' : Step) (a : Locality) (node people : Node) (k w count : ℕ) (table table' : List ℕ)
       (uses uses' : List Bool) (starts starts' : List ℕ) (twice : Bool) where
-    pub process-lined :
+    pub process_lined :
         k ≡ process_count node → Slotted s from scope n k table uses w next' count table' uses'
         → starts' ≡ set starts (4 * a.0 + k) w → people ≡ with_process node k (starting_at a (place_of 0))
         → Placed s from (process_line scope) n table uses twice starts a node next' count table' uses' twice starts' people
     unfolding process_line state after size_of placed unplaced
-    process-lined c y e f =
+    process_lined c y e f =
         let g = y.started in
         record {
           lined = λ ls bodies defs net t. record {
             read = process a g.coded.tree;
             went =
                 next s from y.free next' _ _ tt _
-                (require-same s from y.free _ _ 22 (λ h. ap (λ (i : ℕ). ltb i 4) (c ∙ t.processes h)) y.slot)
+                (require_same s from y.free _ _ 22 (λ h. ap (λ (i : ℕ). ltb i 4) (c ∙ t.processes h)) y.slot)
                 (on s y.free y.read next' _ _ g.coded.tree _ g.coded.went
                 (next s y.read next' next' _ _ tt _ y.ended (stop s next' _)));
             small = g.coded.small;
@@ -107,16 +107,16 @@ module _ (s : List ℕ) (scope : Scope) (n : ℕ) where
 
   -- ---- a tuple at an address
   module _ (from next' : Step) (a : Locality) (t : Tuple) (node people : Node) (twice : Bool) where
-    pub tuple-lined :
+    pub tuple_lined :
         n ≤ room → Roomed s from scope node.stored next' t → people ≡ with_tuple node (marked a t)
         → Tupled s from (tuple_line scope) n twice a node next' n twice people
     unfolding tuple_line state after size_of placed
-    tuple-lined o y e = record {
+    tuple_lined o y e = record {
       lined = λ ls table uses bodies defs starts net h. record {
         read = tuple a t;
         went =
             next s from y.free next' _ _ tt _
-            (require-same s from y.free _ _ 22 (λ z. ap (λ (i : ℕ). ltb i 16) (h.tuples z)) y.space)
+            (require_same s from y.free _ _ 22 (λ z. ap (λ (i : ℕ). ltb i 16) (h.tuples z)) y.space)
             (on s y.free y.read next' _ _ t _ y.got (next s y.read next' next' _ _ tt _ y.ended (stop s next' _)));
         small = o;
         kept = λ z l.
@@ -138,15 +138,15 @@ pub roomed :
     → Went s free (Fields.tuple scope.addresses) read t → Went s read (byte 10) q tt → Roomed s p scope m q t
 roomed s p free read q scope m t a b c = record { free = free; read = read; space = a; got = b; ended = c }
 
-pub started-is :
+pub started_is :
     (x r : Node) (k : ℕ) (p : Process) (a : Locality) (q : Place) → p ≡ starting_at a q → r ≡ with_process x k p → r ≡ with_process x k (starting_at a q)
-started-is x r k p a q e f = f ∙ ap (with_process x k) e
+started_is x r k p a q e f = f ∙ ap (with_process x k) e
 
 -- ---- one reader in place of another that does the same
-lined-as :
+lined_as :
     (s : List ℕ) (p q : Step) (m m' : Reader Line) (before behind : State) → run_from s p m ≡ run_from s p m' → Lined s p m before q behind
     → Lined s p m' before q behind
-lined-as s p q m m' before behind e l = record { read = l.read; went = record { went = l.went.went ∙ e }; small = l.small; kept = l.kept }
+lined_as s p q m m' before behind e l = record { read = l.read; went = record { went = l.went.went ∙ e }; small = l.small; kept = l.kept }
 
 pub stored_is : (x : Node) (t u : Tuple) (c : Changed) → u ≡ t → c ≡ put_in x u → c.node ≡ with_tuple x t
 unfolding put_in
@@ -154,33 +154,33 @@ stored_is x t u c d e = ap (λ (y : Changed). y.node) e ∙ ap (with_tuple x) d
 
 module _ (s : List ℕ) (p q : Step) (scope : Scope) (b n count : ℕ) (twice twice' : Bool) (a : Locality) (node people : Node) (table table' : List ℕ)
     (uses uses' : List Bool) (starts starts' : List ℕ) (e : b ≡ byte_here s p) where
-  pub tuple-placed :
+  pub tuple_placed :
       b ≡ 60 → Tupled s p (tuple_line scope) n twice a node q count twice' people
       → Placed s p (placed_line scope) n table uses twice starts a node q count table uses twice' starts people
   unfolding placed_line
-  tuple-placed h f = record {
+  tuple_placed h f = record {
     lined = λ ls bodies defs net z.
-        lined-as s p q _ _ _ _ (run_if s p (eqb b 60) _ _ (eq-eqb b 60 h) ∙ look_run s p _ b e) (f.lined ls table uses bodies defs starts net z);
+        lined_as s p q _ _ _ _ (run_if s p (eqb b 60) _ _ (eq-eqb b 60 h) ∙ look_run s p _ b e) (f.lined ls table uses bodies defs starts net z);
   }
 
-  pub process-placed :
+  pub process_placed :
       (b ≡ 60 → ⊥) → Placed s p (process_line scope) n table uses twice starts a node q count table' uses' twice' starts' people
       → Placed s p (placed_line scope) n table uses twice starts a node q count table' uses' twice' starts' people
   unfolding placed_line
-  process-placed h f = record {
+  process_placed h f = record {
     lined = λ ls bodies defs net z.
-        lined-as s p q _ _ _ _ (run_else s p (eqb b 60) _ _ (ne_eqb b 60 h) ∙ look_run s p _ b e) (f.lined ls bodies defs net z);
+        lined_as s p q _ _ _ _ (run_else s p (eqb b 60) _ _ (ne_eqb b 60 h) ∙ look_run s p _ b e) (f.lined ls bodies defs net z);
   }
 
 -- ---- a line at an address, and any line
 module _ (s : List ℕ) (p named' opened q : Step) (scope : Scope) (n count : ℕ) (twice twice' : Bool) (a : Locality) (node people : Node) (table table' : List ℕ)
     (uses uses' : List Bool) (starts starts' : List ℕ) where
-  pub located-lined :
+  pub located_lined :
       Went s p (address scope.addresses) named' a → Went s named' (word (bytes " :: ")) opened tt
       → Placed s opened (placed_line scope) n table uses twice starts a node q count table' uses' twice' starts' people
       → Located s p scope (located_line scope) n table uses twice starts node q count table' uses' twice' starts' people
   unfolding located_line state
-  located-lined u v f = record {
+  located_lined u v f = record {
     lined = λ at ls bodies defs net o h.
         let back : reached opened ≡ true → reached named' ≡ true = came s named' opened _ _ v in
         let own : reached opened ≡ true → a ≡ address_of at = λ z. o.owner named' a u (back z) in
@@ -214,7 +214,7 @@ module _ (s : List ℕ) (p q : Step) (scope : Scope) (b n count : ℕ) (twice tw
   line_defined h same f = record {
     lined = λ at ls net o t.
         let l = f.lined starts net in
-        let whole = lined-as s p q _ (line scope ls) _ _ (run_if s p (eqb b 65) _ _ (eq-eqb b 65 h) ∙ look_run s p _ b e) l in
+        let whole = lined_as s p q _ (line scope ls) _ _ (run_if s p (eqb b 65) _ _ (eq-eqb b 65 h) ∙ look_run s p _ b e) l in
         record {
           read = whole.read;
           went = whole.went;
@@ -226,13 +226,13 @@ module _ (s : List ℕ) (p q : Step) (scope : Scope) (b n count : ℕ) (twice tw
         };
   }
 
-  pub line-located :
+  pub line_located :
       (b ≡ 65 → ⊥) → Located s p scope (located_line scope) n table uses twice starts node q count table' uses' twice' starts' people
       → AnyLined s p scope (state n table uses bodies defs twice starts) node q (state count table' uses' bodies defs twice' starts') people
   unfolding line
-  line-located h f = record {
+  line_located h f = record {
     lined = λ at ls net o t.
-        lined-as s p q _ _ _ _ (run_else s p (eqb b 65) _ _ (ne_eqb b 65 h) ∙ look_run s p _ b e) (f.lined at ls bodies defs net o t);
+        lined_as s p q _ _ _ _ (run_else s p (eqb b 65) _ _ (ne_eqb b 65 h) ∙ look_run s p _ b e) (f.lined at ls bodies defs net o t);
   }
 
 -- ---- a body entered
@@ -249,15 +249,15 @@ entered_past xs k x b e h = set_past xs k x h ∙ entered_here xs (set xs k x) b
 pub address_gives : (n : ℕ) → Gives Any (address n) (λ l. l.0 < n)
 unfolding address
 address_gives n =
-    gives_then (any (number 15)) (λ l _. gives-and (gives_require (ltb l n) 23 tt) (λ _ e. gives_pure (λ x. x.0 < n) (address_of l) (ltb-true l n e)))
+    gives_then (any (number 15)) (λ l _. gives_and (gives_require (ltb l n) 23 tt) (λ _ e. gives_pure (λ x. x.0 < n) (address_of l) (ltb-true l n e)))
 
 pub address_below : (s : List ℕ) (p q : Step) (n : ℕ) (a : Locality) → Went s p (address n) q a → reached q ≡ true → a.0 < n
-address_below s p q n a w h = went-gives s p q (address n) (λ l. l.0 < n) a (address_gives n) w h
+address_below s p q n a w h = went_gives s p q (address n) (λ l. l.0 < n) a (address_gives n) w h
 
-pub owner-found :
+pub owner_found :
     (s : List ℕ) (p q : Step) (scope : Scope) (a : Locality) (r : ℕ) → scope.addresses ≤ 16 → Went s p (address scope.addresses) q a → r ≡ a.0 % 16
     → Owner s p scope r
-owner-found s p q scope a r h w e = record {
+owner_found s p q scope a r h w e = record {
   below = omega arith;
   owner = λ y b v z.
       let same : b ≡ a = one_value s p y q (address scope.addresses) b a v w z in

@@ -15,7 +15,7 @@ use Rattle.readers.specs.Reader.{Reader, pure}
 use Rattle.readers.specs.Progress.{reached, outcome, run_from, Went}
 use Rattle.readers.proofs.ReaderLaws.{after}
 use Rattle.readers.proofs.ReaderLaws as Readers
-use Rattle.readers.proofs.Gives.{Gives, gives_pure, gives_then, gives-and, gives_choice, gives_require, Any, any, went-gives}
+use Rattle.readers.proofs.Gives.{Gives, gives_pure, gives_then, gives_and, gives_choice, gives_require, Any, any, went_gives}
 use Rattle.lexemes.specs.Lexemes.{byte, word}
 use Rattle.fields.specs.Fields.{address}
 use Rattle.terms.specs.Loading.{fits}
@@ -29,13 +29,13 @@ use Rattle.linking.specs.Counts.{processes_in, tuples_in, counted}
 use Rattle.linking.specs.NodeCounts.{Counts, HasRoom}
 use Rattle.linking.specs.State.{State, after_all, unplaced, FitsLine, FitAll}
 use Rattle.linking.specs.State as State
-use Rattle.linking.proofs.NodeCounts.{counts-more}
-use Rattle.linking.proofs.Peopled.{after_more, fit-more, after_count, after_net_one, total_more}
+use Rattle.linking.proofs.NodeCounts.{counts_more}
+use Rattle.linking.proofs.Peopled.{after_more, fit_more, after_count, after_net_one, total_more}
 use Rattle.notation.specs.Types.{Step, Locality, Node, Net, Scope}
 use Rattle.notation.specs.Lines.{definition_line, process_line, tuple_line, placed_line, located_line, line, lines_after, lines}
 use Rattle.notation.specs.LineProgress.{state, Lined, Owner, AnyLined, inside, Spans, Lining, AllLined}
 use Rattle.notation.proofs.LineLaws.{address_gives}
-use Rattle.notation.proofs.LineLengths.{line-long}
+use Rattle.notation.proofs.LineLengths.{line_long}
 
 -- ---- whether a line follows
 pub inside_place : (s : List ℕ) (p : Step) (k : ℕ) → p ≡ Step.At k → ltb k (length s) ≡ inside s p
@@ -75,21 +75,21 @@ module _ (scope : Scope) (few : scope.addresses ≤ 16) (ls : List Line) where
   definition_good : Gives Any (definition_line scope) (Good ls)
   unfolding definition_line Good
   definition_good =
-      gives_then named_most (λ k h. gives-and (any (word _)) (λ _ _. gives_then process_good (λ x f.
-      gives-and (any (byte 10)) (λ _ _. gives_pure (Good ls) (definition k x) (omega arith, f)))))
+      gives_then named_most (λ k h. gives_and (any (word _)) (λ _ _. gives_then process_good (λ x f.
+      gives_and (any (byte 10)) (λ _ _. gives_pure (Good ls) (definition k x) (omega arith, f)))))
 
   placed_good : (a : Locality) → a.0 < 16 → Gives Any (placed_line scope ls a) (Good ls)
   unfolding placed_line tuple_line process_line Good
   placed_good a h = gives_look _ _ (λ b. gives_choice (Good ls) _ _ _
-      (gives-and (gives_require _ 22 tt) (λ _ e. gives_then (any _) (λ t _.
-      gives-and (any (byte 10)) (λ _ _. gives_pure (Good ls) (tuple a t) (h, ltb-true _ _ e)))))
-      (gives-and (gives_require _ 22 tt) (λ _ e. gives_then process_good (λ x f.
-      gives-and (any (byte 10)) (λ _ _. gives_pure (Good ls) (process a x) (h, (f, ltb-true _ _ e)))))))
+      (gives_and (gives_require _ 22 tt) (λ _ e. gives_then (any _) (λ t _.
+      gives_and (any (byte 10)) (λ _ _. gives_pure (Good ls) (tuple a t) (h, ltb-true _ _ e)))))
+      (gives_and (gives_require _ 22 tt) (λ _ e. gives_then process_good (λ x f.
+      gives_and (any (byte 10)) (λ _ _. gives_pure (Good ls) (process a x) (h, (f, ltb-true _ _ e)))))))
 
   line_good : Gives Any (line scope ls) (Good ls)
   unfolding line located_line
   line_good = gives_look _ _ (λ b. gives_choice (Good ls) _ _ _ definition_good
-      (gives_then (address_gives scope.addresses) (λ a h. gives-and (any (word _)) (λ _ _. placed_good a (omega arith)))))
+      (gives_then (address_gives scope.addresses) (λ a h. gives_and (any (word _)) (λ _ _. placed_good a (omega arith)))))
 
 -- such a line finds its address and its room in a net that has what the lines before say
 good_fits : (ls : List Line) (s : Net) → Counts ls s → (l : Line) → Good ls l → FitsLine s l
@@ -122,14 +122,14 @@ module _ (s : List ℕ) (scope : Scope) where
   inside_reached (Step.Failed f) t = never t
 
   -- how far a line goes
-  spans-more :
+  spans_more :
       (p q : Step) (ls : List Line) (l : Line) → reached p ≡ true → Spans (total ls) p → Went s p (line scope ls) q l
       → Spans (total ls + size_of l) q × (reached q ≡ true → 3 * (total ls + size_of l) ≤ length s)
   unfolding Spans reached outcome run_from
-  spans-more (Step.At p) (Step.At q) ls l t h w =
-      let far = line-long scope ls s p q l (sym w.went) in (omega arith, λ _. omega arith)
-  spans-more (Step.At p) (Step.Failed f) ls l t h w = (tt, λ z. never z)
-  spans-more (Step.Failed g) q ls l t h w = never t
+  spans_more (Step.At p) (Step.At q) ls l t h w =
+      let far = line_long scope ls s p q l (sym w.went) in (omega arith, λ _. omega arith)
+  spans_more (Step.At p) (Step.Failed f) ls l t h w = (tt, λ z. never z)
+  spans_more (Step.Failed g) q ls l t h w = never t
 
   spans_none : (p : Step) → Spans 0 p
   unfolding Spans
@@ -165,14 +165,14 @@ module _ (s : List ℕ) (scope : Scope) where
       counts = λ _. c;
     }
 
-    lining-more :
+    lining_more :
         (p q : Step) (left at : ℕ) (more : Bool) (before : Net → State) (net : Net) (behind : Net → State) (x y : Node)
         → more ≡ true → more ≡ both (leb 1 left) (inside s p) → ((t : Net) → (before t).net ≡ t)
         → Lining s p₀ scope first p left (before net) → Owner s p scope at → x ≡ node_at net (address_of at)
         → AnyLined s p scope before x q behind y
         → Lining s p₀ scope first q (left - 1) (behind (with_node net (address_of at) y))
     unfolding room
-    lining-more p q left at more before net behind x y t e b i o z a =
+    lining_more p q left at more before net behind x y t e b i o z a =
         let on : inside s p ≡ true = both_r (leb 1 left) _ (sym e ∙ t) in
         let here : reached p ≡ true = inside_reached p on in
         let one : 1 ≤ left = leb-true 1 left (both_l _ (inside s p) (sym e ∙ t)) in
@@ -183,10 +183,10 @@ module _ (s : List ℕ) (scope : Scope) where
           processes = λ _. ap process_count z ∙ has.processes;
           tuples = λ _. ap (λ (n : Node). n.stored) z ∙ has.stored;
         }) in
-        let far = spans-more p q i.lines l.read here i.spans l.went in
+        let far = spans_more p q i.lines l.read here i.spans l.went in
         let sum = total_more i.lines l.read in
         let count : (before net).count ≡ total i.lines = ap (λ (u : State). u.count) (i.kept here) ∙ after_count i.lines first ∙ omega (arith, zero-count) in
-        let good : reached q ≡ true → Good i.lines l.read = λ r. went-gives s p q (line scope i.lines) (Good i.lines) l.read (line_good scope i.few i.lines) l.went r in
+        let good : reached q ≡ true → Good i.lines l.read = λ r. went_gives s p q (line scope i.lines) (Good i.lines) l.read (line_good scope i.few i.lines) l.went r in
         let step : reached q ≡ true → behind (with_node net (address_of at) y) ≡ State.after l.read (before net) = λ r. l.kept r (let long = far.1 r in omega (arith, count, i.short)) in
         record {
           lines = i.lines ++ (l.read ∷ []);
@@ -196,18 +196,18 @@ module _ (s : List ℕ) (scope : Scope) where
           small = l.small;
           spans = subst (λ (k : ℕ). Spans k q) (sym sum) far.0;
           kept = λ r. step r ∙ ap (State.after l.read) (i.kept here) ∙ sym (after_more i.lines l.read first);
-          fit = λ r. fit-more i.lines l.read first (i.fit here)
+          fit = λ r. fit_more i.lines l.read first (i.fit here)
               (subst (λ (u : State). FitsLine u.net l.read) (i.kept here)
               (subst (λ (u : Net). FitsLine u l.read) (sym (b net)) (good_fits i.lines net c l.read (good r))));
           counts = λ r. subst (Counts (i.lines ++ (l.read ∷ [])))
               (sym (ap (λ (u : State). u.net) (step r) ∙ after_net_one l.read (before net) ∙ ap (placed unplaced (before net).count l.read) (b net)))
-              (counts-more i.lines net c unplaced (before net).count l.read (good_room i.lines l.read (good r)));
+              (counts_more i.lines net c unplaced (before net).count l.read (good_room i.lines l.read (good r)));
         }
 
-    lining-end :
+    lining_end :
         (p : Step) (left : ℕ) (more : Bool) (now : State) → more ≡ false → more ≡ both (leb 1 left) (inside s p)
         → Lining s p₀ scope first p left now → AllLined s p₀ scope first p now
-    lining-end p left more now f e i = record {
+    lining_end p left more now f e i = record {
       read = i.lines;
       went = record { went = sym (whole p₀ ∙ i.rest ∙ ended_lines p left i.lines (sym e ∙ f)) };
       kept = i.kept;
@@ -227,11 +227,11 @@ module _ (s : List ℕ) (scope : Scope) where
     unfolding state
     lines_begin left short few e c = lining_begin p₀ First none_counted left short few e c
 
-    pub lines-few :
+    pub lines_few :
         (p : Step) (left count : ℕ) (twice : Bool) (table : List ℕ) (uses : List Bool) (bodies : List ℕ) (defs : List Bool) (starts : List ℕ) (net : Net)
         → Lining s p₀ scope First p left (state count table uses bodies defs twice starts net) → count ≤ room
     unfolding state
-    lines-few p left count twice table uses bodies defs starts net i = i.small
+    lines_few p left count twice table uses bodies defs starts net i = i.small
 
     pub lines_more :
         (p q : Step) (left at count count' : ℕ) (more twice twice' : Bool) (table table' : List ℕ) (uses uses' : List Bool) (bodies bodies' : List ℕ)
@@ -243,10 +243,10 @@ module _ (s : List ℕ) (scope : Scope) where
         → Lining s p₀ scope First q (left - 1) (state count' table' uses' bodies' defs' twice' starts' (with_node net (address_of at) y))
     unfolding state
     lines_more p q left at count count' more twice twice' table table' uses uses' bodies bodies' defs defs' starts starts' net y t e i o a =
-        lining-more p₀ First none_counted p q left at more (state count table uses bodies defs twice starts) net
+        lining_more p₀ First none_counted p q left at more (state count table uses bodies defs twice starts) net
         (state count' table' uses' bodies' defs' twice' starts') _ y t e (λ _. refl) i o refl a
 
     pub lines_end :
         (p : Step) (left : ℕ) (more : Bool) (now : State) → more ≡ false → more ≡ both (leb 1 left) (inside s p)
         → Lining s p₀ scope First p left now → AllLined s p₀ scope First p now
-    lines_end = lining-end p₀ First none_counted
+    lines_end = lining_end p₀ First none_counted

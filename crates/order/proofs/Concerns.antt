@@ -115,18 +115,18 @@ covered s b m = record {
 }
 
 -- ---- a target in a sound net is an address in use
-request-below :
+request_below :
     (a : Locality) (n k : ℕ) (t : Evaluated) (r : Request) → RequestOk a n k t r → (l : Locality) → among l (targets r) ≡ true → l.0 < n
 unfolding RequestOk targets among group_sound
-request-below a n k t Request.Lack ok l h = never false h refl
-request-below a n k t Request.Stop ok l h = never false h refl
-request-below a n k t (Request.Out m q) ok l h = let e = among_one l m h in omega (arith, e, ok.0)
-request-below a n k t (Request.In m q) ok l h = let e = among_one l m h in omega (arith, e, ok.0)
-request-below a n k t (Request.Read m q) ok l h = let e = among_one l m h in omega (arith, e, ok.0)
-request-below a n k t (Request.Eval m sent q) ok l h = let e = among_one l m h in omega (arith, e, ok.0)
-request-below a n k t (Request.New v q) ok l h = never false h refl
-request-below a n k t (Request.Fork q r) ok l h = never false h refl
-request-below a n k t (Request.OutAll g q) ok l h = ltb-true _ _ (members_at g _ ok.0 l (in_member l g h))
+request_below a n k t Request.Lack ok l h = never false h refl
+request_below a n k t Request.Stop ok l h = never false h refl
+request_below a n k t (Request.Out m q) ok l h = let e = among_one l m h in omega (arith, e, ok.0)
+request_below a n k t (Request.In m q) ok l h = let e = among_one l m h in omega (arith, e, ok.0)
+request_below a n k t (Request.Read m q) ok l h = let e = among_one l m h in omega (arith, e, ok.0)
+request_below a n k t (Request.Eval m sent q) ok l h = let e = among_one l m h in omega (arith, e, ok.0)
+request_below a n k t (Request.New v q) ok l h = never false h refl
+request_below a n k t (Request.Fork q r) ok l h = never false h refl
+request_below a n k t (Request.OutAll g q) ok l h = ltb-true _ _ (members_at g _ ok.0 l (in_member l g h))
 
 slot_below : (b : ℕ) → slot_of b < 4
 unfolding slot_of
@@ -139,7 +139,7 @@ module _ (s : Net) (ok : NetOk s) (b : ℕ) (used : (host_of b).0 < s.addresses)
       let busy = both_r (eqb (spare_of b) 0) _ m in
       let running = ((node_at_law s ok (host_of b) used).processes_ok.holds (slot_of b) (slot_below b)).running busy in
       let fetched = instruction_at_law s ok _ running.place in
-      request-below _ _ _ _ _ (request_ok s.format s.addresses s.length (host_of b) _ _ used running fetched) l h
+      request_below _ _ _ _ _ (request_ok s.format s.addresses s.length (host_of b) _ _ used running fetched) l h
 
   pub targets_below : (l : Locality) → among l (targets_of s b) ≡ true → l.0 < s.addresses
   unfolding targets_of among

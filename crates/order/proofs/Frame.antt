@@ -29,11 +29,11 @@ unfoldable pub through : {A : Locality → Type 0} → Edit A → Picked → Pic
 through e r = record { answer = r.answer; net = done e r.net }
 
 -- a pick of an address in use
-hosted-step :
+hosted_step :
     (s : Net) (b : ℕ) → (host_of b).0 < s.addresses
     → step_of s b ≡ choose (eqb (spare_of b) 0) (slot_step s (host_of b) (slot_of b)) (unchanged Answer.Malformed s)
 unfolding step_of
-hosted-step s b h =
+hosted_step s b h =
     ap (λ (r : Picked). choose (eqb (spare_of b) 0) r (unchanged Answer.Malformed s))
     (choose_true _ _ _ (lt-ltb (host_of b).0 s.addresses h))
 
@@ -80,11 +80,11 @@ module _ {A B : Locality → Type 0} (away : (l : Locality) → A l → B l → 
   unfolding taken
   taken_through s l i h = simp (same_put, same_node)
 
-  created-through :
+  created_through :
       (s : Net) (a : Locality) (k : ℕ) (p : Process) (v : ℕ) (q : Place) → B a → B (unused s) → openings e ≡ 0
       → done e (created s a k p v q) ≡ created (done e s) a k p v q
   unfolding created created_at unused
-  created-through s a k p v q h g n = simp (same_put, same_node, grow_through, format_kept, same_count)
+  created_through s a k p v q h g n = simp (same_put, same_node, grow_through, format_kept, same_count)
 
   ruleset passing = (
     through_choose,
@@ -93,7 +93,7 @@ module _ {A B : Locality → Type 0} (away : (l : Locality) → A l → B l → 
     host_through,
     added_through,
     taken_through,
-    created-through,
+    created_through,
     same_node,
     same_count,
     code_kept,
@@ -101,77 +101,77 @@ module _ {A B : Locality → Type 0} (away : (l : Locality) → A l → B l → 
 
   -- ---- each request of the process p at a in slot k
   module _ (s : Net) (a : Locality) (k : ℕ) (hosted : B a) where
-    in-through :
+    in_through :
         (l : Locality) (q : Place) (i : Found) (p : Process) → B l
         → through e (in_found s a k l q i p) ≡ in_found (done e s) a k l q i p
     unfolding in_found
-    in-through l q (Found.At i) p h = simp passing
-    in-through l q Found.Nothing p h = simp passing
+    in_through l q (Found.At i) p h = simp passing
+    in_through l q Found.Nothing p h = simp passing
 
     read_through : (q : Place) (i : Found) (p : Process) → through e (read_found s a k q i p) ≡ read_found (done e s) a k q i p
     unfolding read_found
     read_through q (Found.At i) p = simp passing
     read_through q Found.Nothing p = simp passing
 
-    started-through :
+    started_through :
         (l : Locality) (p copy : Process) (q : Place) (j : Slot) → B l
         → through e (started_in s a k l p copy q j) ≡ started_in (done e s) a k l p copy q j
     unfolding started_in
-    started-through l p copy q (Slot.Number j) h = simp passing
-    started-through l p copy q Slot.Full h = simp passing
+    started_through l p copy q (Slot.Number j) h = simp passing
+    started_through l p copy q Slot.Full h = simp passing
 
     stopped_through : through e (stopped s a k) ≡ stopped (done e s) a k
     unfolding stopped through
     stopped_through = simp passing
 
-    all-passing :
+    all_passing :
         (g : Group) (p : Process) (q : Place) (t : Tuple) → ((l : Locality) → member g l ≡ true → B l)
         → through e (out_all s a k p g q t) ≡ out_all (done e s) a k p g q t
     unfolding out_all
-    all-passing g p q t each = simp (passing, room_through g each, added_all_through g each)
+    all_passing g p q t each = simp (passing, room_through g each, added_all_through g each)
 
-    done-through :
+    done_through :
         (p : Process) (t : Evaluated) (r : Request) → Covered B s r → (is_new r ≡ true → openings e ≡ 0)
         → through e (carried_out s a k p t r) ≡ carried_out (done e s) a k p t r
     unfolding carried_out targets is_new out input read eval create fork
-    done-through p t Request.Lack h n = simp passing
-    done-through p t Request.Stop h n = stopped_through
-    done-through p t (Request.Out l q) h n = let g : B l = h.each l (first_among l) in simp passing
-    done-through p t (Request.In l q) h n = let g : B l = h.each l (first_among l) in simp (passing, in-through)
-    done-through p t (Request.Read l q) h n = let g : B l = h.each l (first_among l) in simp (passing, read_through)
-    done-through p t (Request.Eval l sent q) h n = let g : B l = h.each l (first_among l) in simp (passing, started-through)
-    done-through p t (Request.New v q) h n =
+    done_through p t Request.Lack h n = simp passing
+    done_through p t Request.Stop h n = stopped_through
+    done_through p t (Request.Out l q) h n = let g : B l = h.each l (first_among l) in simp passing
+    done_through p t (Request.In l q) h n = let g : B l = h.each l (first_among l) in simp (passing, in_through)
+    done_through p t (Request.Read l q) h n = let g : B l = h.each l (first_among l) in simp (passing, read_through)
+    done_through p t (Request.Eval l sent q) h n = let g : B l = h.each l (first_among l) in simp (passing, started_through)
+    done_through p t (Request.New v q) h n =
         let g : B (unused s) = h.next refl in let m : openings e ≡ 0 = n refl in simp passing
-    done-through p t (Request.Fork q r) h n = simp (passing, started-through)
-    done-through p t (Request.OutAll g q) h n = all-passing g p q _ (λ l m. h.each l (member_in l g m))
+    done_through p t (Request.Fork q r) h n = simp (passing, started_through)
+    done_through p t (Request.OutAll g q) h n = all_passing g p q _ (λ l m. h.each l (member_in l g m))
 
-    acting-through :
+    acting_through :
         (p : Process) (t : Evaluated) (r : Request) → Covered B s r → (is_new r ≡ true → openings e ≡ 0)
         → through e (acting s a k p t r) ≡ acting (done e s) a k p t r
     unfolding acting
-    acting-through p t r h n = simp (passing, done-through)
+    acting_through p t r h n = simp (passing, done_through)
 
   -- ---- a pick
   module _
       (s : Net) (b : ℕ) (hosted : B (host_of b)) (within : meets s b ≡ true → Covered B s (asks s b))
       (still : opens s b ≡ true → openings e ≡ 0)
     where
-      slot-through :
+      slot_through :
           eqb (spare_of b) 0 ≡ true → through e (slot_step s (host_of b) (slot_of b)) ≡ slot_step (done e s) (host_of b) (slot_of b)
       unfolding slot_step process_step meets asks process_of opens
-      slot-through spare =
+      slot_through spare =
           simp passing
           (choose_both _ _ _ _ _
           (λ busy.
           let m : meets s b ≡ true = both_i _ _ spare busy in
-          acting-through s (host_of b) (slot_of b) hosted _ _ (asks s b) (within m) (λ h. still (both_i _ _ m h)))
+          acting_through s (host_of b) (slot_of b) hosted _ _ (asks s b) (within m) (λ h. still (both_i _ _ m h)))
           refl)
 
       pick_through : (host_of b).0 < s.addresses → through e (step_of s b) ≡ step_of (done e s) b
       pick_through used =
           let count = count_is e s in
-          rw (hosted-step s b used, hosted-step (done e s) b (omega (arith, count)))
-          (simp passing (choose_both _ _ _ _ _ slot-through refl))
+          rw (hosted_step s b used, hosted_step (done e s) b (omega (arith, count)))
+          (simp passing (choose_both _ _ _ _ _ slot_through refl))
 
 pub step_through :
     {A : Locality → Type 0} (e : Edit A) (s : Net) (b : ℕ) → ((l : Locality) → A l → Concern s b l → ⊥)

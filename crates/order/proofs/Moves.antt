@@ -57,11 +57,11 @@ module _ {A : Locality → Type 0} (s : Net) where
     read_edits new q (Found.At i) p = puts new _
     read_edits new q Found.Nothing p = refuses new _
 
-    started-edits :
+    started_edits :
         (new : Bool) (l : Locality) (p copy : Process) (q : Place) (j : Slot) → A l → Edited A s new (started_in s a k l p copy q j)
     unfolding started_in with_host
-    started-edits new l p copy q (Slot.Number j) h = puts_two new _ l _ h
-    started-edits new l p copy q Slot.Full h = refuses new _
+    started_edits new l p copy q (Slot.Number j) h = puts_two new _ l _ h
+    started_edits new l p copy q Slot.Full h = refuses new _
 
     stopped_edits : (new : Bool) → Edited A s new (stopped s a k)
     unfolding stopped with_host done openings
@@ -84,9 +84,9 @@ module _ {A : Locality → Type 0} (s : Net) where
     done_edits p t (Request.In l q) h = in_edits _ l q _ _ (h.each l (first_among l))
     done_edits p t (Request.Read l q) h = read_edits _ q _ _
     done_edits p t (Request.Eval l sent q) h =
-        chosen (Edited A s _) _ _ _ (λ _. started-edits _ l p _ q _ (h.each l (first_among l))) (λ _. refuses _ _)
+        chosen (Edited A s _) _ _ _ (λ _. started_edits _ l p _ q _ (h.each l (first_among l))) (λ _. refuses _ _)
     done_edits p t (Request.New v q) h = chosen (Edited A s true) _ _ _ (λ _. created_edits p v q (h.next refl)) (λ _. refuses _ _)
-    done_edits p t (Request.Fork q r) h = started-edits _ a p _ q _ hosted
+    done_edits p t (Request.Fork q r) h = started_edits _ a p _ q _ hosted
     done_edits p t (Request.OutAll g q) h =
         chosen (Edited A s _) _ _ _
         (λ _. all_kept g _ (λ s'. Edited A s false (performed s')) _ (puts _ _)

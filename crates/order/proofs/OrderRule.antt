@@ -19,9 +19,9 @@ use Rattle.texts.specs.TextClaims.{TextIsSound}
 use Rattle.texts.proofs.TextClaims.{text_is_sound}
 use Rattle.step.specs.Pick.{host_of, unused, step_of, pick_of}
 use Rattle.step.specs.declared.machine.Picked.{Picked}
-use Rattle.step.proofs.SoundKept.{step-sound-kept}
+use Rattle.step.proofs.SoundKept.{step_sound_kept}
 use Rattle.runs.specs.Run.{ran_from}
-use Rattle.runs.proofs.SoundRuns.{ran-kept}
+use Rattle.runs.proofs.SoundRuns.{ran_kept}
 use Rattle.tenant.proofs.Fence.{tested, never}
 use Rattle.written.proofs.OpenedShaped.{opened_shaped}
 use Rattle.text_tenant.specs.TextTenantRule.{TextIsImaged}
@@ -98,7 +98,7 @@ unfolding pick_of
 picks_as s b g = choose_true _ _ _ g.sound
 
 step_good : (s : Net) (b : ℕ) → Good s → Good (step_of s b).net
-step_good s b g = let kept = step-sound-kept s b g.shaped g.sound in record { shaped = kept.1; sound = kept.0 }
+step_good s b g = let kept = step_sound_kept s b g.shaped g.sound in record { shaped = kept.1; sound = kept.0 }
 
 -- two picks, one after the other
 pick_pick : (s : Net) (b c : ℕ) → Good s → pick_of (pick_of s b).net c ≡ step_of (step_of s b).net c
@@ -117,7 +117,7 @@ order s b c g a =
 
 -- ---- of nets that come from accepted images and texts
 run_good : (s : Net) (picks : List ℕ) → Good s → Good (ran_from s picks).net
-run_good s picks g = let kept = ran-kept s picks g.shaped g.sound in record { shaped = kept.1; sound = kept.0 }
+run_good s picks g = let kept = ran_kept s picks g.shaped g.sound in record { shaped = kept.1; sound = kept.0 }
 
 image_good : (image : List ℕ) → (opened_of image).answer ≡ Verdict.Accepted → Good (opened_of image).net
 unfolding AcceptedIsSound

@@ -68,10 +68,10 @@ pub forget_moved : (p : Process) (q : Place) → forget_process (moved_to p q) �
 unfolding forget_process moved_to
 forget_moved p q = refl
 
-pub forget-variable :
+pub forget_variable :
     (p : Process) (v : ℕ) (x : Value) → forget_process (with_variable p v x) ≡ with_variable (forget_process p) v x
 unfolding forget_process with_variable
-forget-variable p v x = refl
+forget_variable p v x = refl
 
 pub forget_copied : (p : Process) (q : Place) → forget_process (copied_to p q) ≡ copied_to (forget_process p) q
 unfolding forget_process copied_to
@@ -108,10 +108,10 @@ pub forget_with_rows : (x : Node) (rs : List Row) → forget_node (with_rows x r
 unfolding forget_node with_rows
 forget_with_rows x rs = refl
 
-pub forget-with-process :
+pub forget_with_process :
     (x : Node) (k : ℕ) (p : Process) → forget_node (with_process x k p) ≡ with_process (forget_node x) k (forget_process p)
 unfolding forget_node with_process
-forget-with-process x k p i =
+forget_with_process x k p i =
     let ps = map_set forget_process x.processes k p in
     record { rows = x.rows; processes = ps i; stored = x.stored; tuples = x.tuples }
 

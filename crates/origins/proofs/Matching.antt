@@ -12,7 +12,7 @@ use Rattle.matching.specs.Matching.{oldest_of, bound_field, bound_of, bound_at, 
 use Rattle.plans.specs.Request.{target_of, at, spoken, asked, request_of}
 use Rattle.step.specs.Types.{Locality, Item, Tuple, Process, Node, Target, Pattern, Action, Instruction}
 use Rattle.step.specs.Types.{Want, Evaluated, Found, Aim, Request}
-use Rattle.origins.proofs.Forgetting.{forget_process, forget_node, forget-variable}
+use Rattle.origins.proofs.Forgetting.{forget_process, forget_node, forget_variable}
 
 -- ---- asking
 module _ (a : Locality) (p : Process) where
@@ -68,29 +68,29 @@ module _ (a : Locality) (p : Process) where
       asked_same _ c.action ∙ ap (λ (e : Evaluated). asked a p e c.action) (evaluated_same c)
 
 -- ---- meeting a tuple
-fold-through :
+fold_through :
     {A : Type 0} (g : A → A) (f : ℕ → A → A) → ((i : ℕ) (x : A) → g (f i x) ≡ f i (g x))
     → (n : ℕ) (x : A) → g (fold n f x) ≡ fold n f (g x)
 unfolding fold
-fold-through g f e zero x = refl
-fold-through g f e (suc n) x = e n _ ∙ ap (f n) (fold-through g f e n x)
+fold_through g f e zero x = refl
+fold_through g f e (suc n) x = e n _ ∙ ap (f n) (fold_through g f e n x)
 
 bound_field_law : (p : Process) (x : Item) (w : Want) → forget_process (bound_field p x w) ≡ bound_field (forget_process p) x w
 unfolding bound_field
 bound_field_law p x (Want.Exactly y) = refl
-bound_field_law p x (Want.AnyReading v) = forget-variable p v _
-bound_field_law p x (Want.AnyAddress v) = forget-variable p v _
+bound_field_law p x (Want.AnyReading v) = forget_variable p v _
+bound_field_law p x (Want.AnyAddress v) = forget_variable p v _
 
-bound-turn :
+bound_turn :
     (b : Bool) (p : Process) (x : Item) (w : Want)
     → forget_process (choose b (bound_field p x w) p) ≡ choose b (bound_field (forget_process p) x w) (forget_process p)
 unfolding choose
-bound-turn true p x w = bound_field_law p x w
-bound-turn false p x w = refl
+bound_turn true p x w = bound_field_law p x w
+bound_turn false p x w = refl
 
 bound_forget : (p : Process) (t : Tuple) (e : Evaluated) → forget_process (bound_of p t e) ≡ bound_of (forget_process p) t e
 unfolding bound_of
-bound_forget p t e = fold-through forget_process _ (λ i q. bound-turn (ltb i e.count) q (field_at t i) (want_at e i)) 4 p
+bound_forget p t e = fold_through forget_process _ (λ i q. bound_turn (ltb i e.count) q (field_at t i) (want_at e i)) 4 p
 
 bound_at_law :
     (f : Found) (p : Process) (x : Node) (e : Evaluated)

@@ -9,7 +9,7 @@ use lib.ListN.{get_or-eq_default}
 use borrow.Author.Tests.{eq-eqb}
 use Rattle.net.specs.Records.{free_process, alike, zero_node, node_at, row_at, process_at, row_for, sent_from, address_of}
 use Rattle.net.proofs.Laws.{choose_true}
-use Rattle.net.proofs.Every.{filled-each}
+use Rattle.net.proofs.Every.{filled_each}
 use Rattle.net.proofs.NodeLaws.{row_in_law}
 use Rattle.net.proofs.Past.{past_process, past_node}
 use Rattle.sound.proofs.NodeFacts.{of_zero, ProcessOk, NodeOk}
@@ -34,16 +34,16 @@ pub record OneRow (s : Net) : Type 0 where
   pub nodes : (a : Locality) → OneRowNode (node_at s a)
 
 -- ---- what it is for: the row of each process
-pub row-only :
+pub row_only :
     (s : Net) (a : Locality) (p : Process) → OneRow s → p.origin.0 < 16 → row_for (node_at s a) p ≡ first_row (node_at s a)
-row-only s a p one low = sym (row_in_law (node_at s a) p low) ∙ (one.nodes a).as_first p.origin low
+row_only s a p one low = sym (row_in_law (node_at s a) p low) ∙ (one.nodes a).as_first p.origin low
 
 -- of code that a sends
-pub row-sent :
+pub row_sent :
     (s : Net) (a l : Locality) (p : Process) (q : Place) → OneRow s → a.0 < 16
     → row_for (node_at s l) (sent_from a p q) ≡ first_row (node_at s l)
 unfolding sent_from
-row-sent s a l p q one low = row-only s l (sent_from a p q) one low
+row_sent s a l p q one low = row_only s l (sent_from a p q) one low
 
 -- and of a process whose origin is forgotten
 pub row_forgotten : (x : Node) (p : Process) → row_for x (forget_process p) ≡ first_row x
@@ -95,5 +95,5 @@ one_row s ok e = record { format_is = e; few = ok.addresses_most; nodes = λ a. 
     go a (yes past) =
         subst OneRowNode (sym (get_or-eq_default s.nodes past_node (omega (arith, ok.nodes_ok.size_is)))) past_node_law
     go a (no within) =
-        filled-each ok.nodes_ok (λ x n. used_node s.format s.addresses s.length x e ok.addresses_most n)
+        filled_each ok.nodes_ok (λ x n. used_node s.format s.addresses s.length x e ok.addresses_most n)
         (of_zero OneRowNode (used_node 1 1 1 zero_node refl (omega arith) (zero_node_law 1 1 1))) a.0 (omega arith)

@@ -11,7 +11,7 @@ use lib.Seq.{ext_get_or}
 use Rattle.net.specs.Records.{free_process, zero_node, node_at, process_at, address_of}
 use Rattle.net.specs.Shape.{ShapedNode, Shaped}
 use Rattle.net.proofs.Laws.{choose_true}
-use Rattle.net.proofs.Every.{filled-each}
+use Rattle.net.proofs.Every.{filled_each}
 use Rattle.net.proofs.Past.{past_process, past_node}
 use Rattle.sound.specs.Soundness.{sound_of}
 use Rattle.sound.proofs.NodeFacts.{of_zero}
@@ -35,11 +35,11 @@ unfolding forget_process
 process_to p p' h i =
     record { busy = h.busy i; at = h.place i; origin = record { 0 = 0 }; variables = h.variables i }
 
-processes-to :
+processes_to :
     (x x' : Node) → ShapedNode x → ShapedNode x' → AlikeNode x x'
     → map forget_process x.processes ≡ map forget_process x'.processes
 unfolding process_at forget_node
-processes-to x x' z z' h =
+processes_to x x' z z' h =
     let l = length-map x.processes forget_process ∙ z.processes_are in
     let l' = length-map x'.processes forget_process ∙ z'.processes_are in
     ext_get_or past_process _ _ (l ∙ sym l')
@@ -48,7 +48,7 @@ processes-to x x' z z' h =
 node_to : (x x' : Node) → ShapedNode x → ShapedNode x' → AlikeNode x x' → forget_node x ≡ forget_node x'
 unfolding forget_node
 node_to x x' z z' h i =
-    let ps = processes-to x x' z z' h in
+    let ps = processes_to x x' z z' h in
     record { rows = h.rows i; processes = ps i; stored = h.stored i; tuples = h.tuples i }
 
 nodes_to : (s t : Net) → Shaped s → Shaped t → AlikeNet s t → map forget_node s.nodes ≡ map forget_node t.nodes
@@ -79,14 +79,14 @@ zero_free = record { free_zero = λ k h _. get_or-replicate 4 k free_process _ h
 free_slots : (s : Net) → NetOk s → (a : Locality) → a.0 < 16 → FreeIsZero (node_at s a)
 unfolding node_at process_at
 free_slots s ok a =
-    filled-each ok.nodes_ok (λ x n. record { free_zero = λ k h. (n.processes_ok.holds k h).free })
+    filled_each ok.nodes_ok (λ x n. record { free_zero = λ k h. (n.processes_ok.holds k h).free })
     (of_zero FreeIsZero zero_free) a.0
 
-process-back :
+process_back :
     (p p' : Process) → forget_process p ≡ forget_process p' → (p.busy ≡ false → p ≡ free_process)
     → (p'.busy ≡ false → p' ≡ free_process) → AlikeProcess p p'
 unfolding forget_process
-process-back p p' e f f' =
+process_back p p' e f f' =
     let busy : p.busy ≡ p'.busy = ap (λ (r : Process). r.busy) e in
     record {
       busy = busy;
@@ -102,7 +102,7 @@ node_back x x' f f' e = record {
   stored = ap (λ (y : Node). y.stored) e;
   tuples = ap (λ (y : Node). y.tuples) e;
   processes = λ k h.
-      process-back _ _ (sym (process_at_law x k) ∙ ap (λ (y : Node). process_at y k) e ∙ process_at_law x' k) (f.free_zero k h)
+      process_back _ _ (sym (process_at_law x k) ∙ ap (λ (y : Node). process_at y k) e ∙ process_at_law x' k) (f.free_zero k h)
       (f'.free_zero k h);
 }
 

@@ -17,19 +17,19 @@ use Rattle.step.specs.Types.{Place, Group, Tuple, Slot, Evaluated, Found, Reques
 use Rattle.step.specs.declared.machine.Picked.{Picked}
 use Rattle.origins.specs.Types.{Locality, Process, Node, Net}
 use Rattle.origins.proofs.Forgetting.{forget_process, forget, process_twice, forget_twice, forget_busy}
-use Rattle.origins.proofs.Forgetting.{forget_place, forget_moved, forget-variable, forget_copied, forget_sent}
+use Rattle.origins.proofs.Forgetting.{forget_place, forget_moved, forget_variable, forget_copied, forget_sent}
 use Rattle.origins.proofs.Forgetting.{forget_free, forget_row_for, forget_stored, process_at_law, forget_slot}
-use Rattle.origins.proofs.Forgetting.{forget_with_rows, forget-with-process, forget_with_tuple, forget_without}
+use Rattle.origins.proofs.Forgetting.{forget_with_rows, forget_with_process, forget_with_tuple, forget_without}
 use Rattle.origins.proofs.Forgetting.{forget_zero, forget_format, forget_addresses, forget_code, node_at_law, forget_with_node}
 use Rattle.origins.proofs.Forgetting.{forget_opened, seen, seen_choose, seen_unchanged, seen_performed}
 use Rattle.origins.proofs.Matching.{evaluated_same, request_same, found_same, matched_forget}
-use Rattle.origins.proofs.OneRow.{OneRow, row-only, row-sent, row_forgotten, creator_alike, opened_alike}
+use Rattle.origins.proofs.OneRow.{OneRow, row_only, row_sent, row_forgotten, creator_alike, opened_alike}
 
 -- ---- changes of a net
-host-forget :
+host_forget :
     (s : Net) (a : Locality) (k : ℕ) (p : Process) → forget (with_host s a k p) ≡ with_host (forget s) a k (forget_process p)
 unfolding with_host
-host-forget s a k p = simp (forget_with_node, forget-with-process, node_at_law)
+host_forget s a k p = simp (forget_with_node, forget_with_process, node_at_law)
 
 added_forget : (s : Net) (l : Locality) (t : Tuple) → forget (added s l t) ≡ added (forget s) l t
 unfolding added
@@ -45,18 +45,18 @@ taken_forget : (s : Net) (l : Locality) (i : ℕ) → forget (taken s l i) ≡ t
 unfolding taken
 taken_forget s l i = simp (forget_with_node, forget_without, node_at_law)
 
-created-forget :
+created_forget :
     (s : Net) (a : Locality) (k : ℕ) (p : Process) (v : ℕ) (q : Place) → OneRow s → p.origin.0 < 16
     → forget (created s a k p v q) ≡ created (forget s) a k (forget_process p) v q
 unfolding created created_at unused
-created-forget s a k p v q one low =
+created_forget s a k p v q one low =
     let f = one.format_is in
     simp (
       forget_with_node,
       forget_with_rows,
-      forget-with-process,
+      forget_with_process,
       forget_moved,
-      forget-variable,
+      forget_variable,
       forget_opened,
       forget_zero,
       forget_format,
@@ -66,14 +66,14 @@ created-forget s a k p v q one low =
       opened_alike,
       forget_row_for,
       row_forgotten,
-      row-only,
+      row_only,
     )
 
-created-twice :
+created_twice :
     (s : Net) (a : Locality) (k : ℕ) (p : Process) (v : ℕ) (q : Place) → OneRow s → p.origin.0 < 16
     → forget (created (forget s) a k (forget_process p) v q) ≡ created (forget s) a k (forget_process p) v q
-created-twice s a k p v q one low =
-    let e = created-forget s a k p v q one low in
+created_twice s a k p v q one low =
+    let e = created_forget s a k p v q one low in
     ap forget (sym e) ∙ forget_twice _ ∙ e
 
 -- how forgetting passes inward
@@ -81,13 +81,13 @@ ruleset inward = (
   seen_choose,
   seen_unchanged,
   seen_performed,
-  host-forget,
+  host_forget,
   added_forget,
   room_forget,
   added_all_forget,
   taken_forget,
-  created-forget,
-  created-twice,
+  created_forget,
+  created_twice,
   process_twice,
   forget_twice,
   forget_busy,
@@ -102,8 +102,8 @@ ruleset inward = (
   forget_addresses,
   forget_code,
   row_forgotten,
-  row-sent,
-  row-only,
+  row_sent,
+  row_only,
   process_at_law,
   node_at_law,
   evaluated_same,
@@ -114,27 +114,27 @@ ruleset inward = (
 
 -- ---- each request of the process p at a in slot k
 module _ (s : Net) (a : Locality) (k : ℕ) where
-  in-forget :
+  in_forget :
       (l : Locality) (q : Place) (i : Found) (p : Process)
       → seen (in_found (forget s) a k l q i (forget_process p)) ≡ seen (in_found s a k l q i p)
   unfolding in_found
-  in-forget l q (Found.At i) p = simp inward
-  in-forget l q Found.Nothing p = simp inward
+  in_forget l q (Found.At i) p = simp inward
+  in_forget l q Found.Nothing p = simp inward
 
-  read-forget :
+  read_forget :
       (q : Place) (i : Found) (p : Process)
       → seen (read_found (forget s) a k q i (forget_process p)) ≡ seen (read_found s a k q i p)
   unfolding read_found
-  read-forget q (Found.At i) p = simp inward
-  read-forget q Found.Nothing p = simp inward
+  read_forget q (Found.At i) p = simp inward
+  read_forget q Found.Nothing p = simp inward
 
   -- the copy's origin is forgotten too, whoever sent it
-  started-forget :
+  started_forget :
       (l : Locality) (p copy : Process) (q : Place) (j : Slot)
       → seen (started_in s a k l p copy q j) ≡ started_in (forget s) a k l (forget_process p) (forget_process copy) q j
   unfolding started_in
-  started-forget l p copy q (Slot.Number j) = simp inward
-  started-forget l p copy q Slot.Full = simp inward
+  started_forget l p copy q (Slot.Number j) = simp inward
+  started_forget l p copy q Slot.Full = simp inward
 
   stopped_forget : seen (stopped (forget s) a k) ≡ seen (stopped s a k)
   unfolding stopped seen
@@ -147,11 +147,11 @@ module _ (s : Net) (one : OneRow s) (a : Locality) (here : a.0 < 16) (k : ℕ) w
     done_forget Request.Lack = simp inward
     done_forget Request.Stop = stopped_forget s a k
     done_forget (Request.Out l q) = simp inward
-    done_forget (Request.In l q) = simp (inward, in-forget)
-    done_forget (Request.Read l q) = simp (inward, read-forget)
-    done_forget (Request.Eval l sent q) = simp (inward, started-forget)
+    done_forget (Request.In l q) = simp (inward, in_forget)
+    done_forget (Request.Read l q) = simp (inward, read_forget)
+    done_forget (Request.Eval l sent q) = simp (inward, started_forget)
     done_forget (Request.New v q) = simp inward
-    done_forget (Request.Fork q r) = simp (inward, started-forget)
+    done_forget (Request.Fork q r) = simp (inward, started_forget)
     done_forget (Request.OutAll g q) = simp inward
 
     acting_forget : (r : Request) → seen (acting (forget s) a k (forget_process p) e r) ≡ seen (acting s a k p e r)

@@ -40,10 +40,10 @@ module _ (s : List ℕ) (p : Step) (n count kind target second : ℕ) (table : L
       → Closed s p n count kind target c second table q table'
   closed c w d b e = record { dot = d; word = w; follows = b; stored = e }
 
-  pub closed-plain :
+  pub closed_plain :
       (c : Instruction) → c ≡ zero_instruction → Closed s p n count kind target c second table q table'
       → Closed s p n count kind target zero_instruction second table q table'
-  closed-plain c e w = rw e at w
+  closed_plain c e w = rw e at w
 
 pub sent :
     (s : List ℕ) (p a q : Step) (scope : Scope) (n count start : ℕ) (table table' : List ℕ) (w : ℕ) → Aimed s p scope.addresses a w
@@ -65,11 +65,11 @@ module _ (a : Action) (kind w : ℕ) (c : Instruction) (h : Alone a kind w c) wh
   alone_words_law : (n following : ℕ) → instruction_words kind w c following 0 ≡ action_words n a following ++ words_in (suc n) a
   alone_words_law n following = rw (h.words n following, h.none (suc n)) (sym (instruction_alone kind w c following 0))
 
-  alone-acted :
+  alone_acted :
       (m : Reader Action) (s : List ℕ) (p t q : Step) (n : ℕ) (table : List ℕ) (count : ℕ) (table' : List ℕ) (used : List Bool) → Went s p m t a
       → (n < room → count ≡ n + 1) → (count < room → n < room) → count ≤ room → Closed s t n count kind w c 0 table q table'
       → Acted s p m n table used q count table' used
-  alone-acted m s p t q n table count table' used v e z l d = record {
+  alone_acted m s p t q n table count table' used v e z l d = record {
     tree = a;
     middle = t;
     went = v;
@@ -128,53 +128,53 @@ filled s p m a q scope n kind table count table' c w f t e g l d = record {
 }
 
 module _ (s : List ℕ) (p q r : Step) (scope : Scope) (n : ℕ) (table : List ℕ) (count : ℕ) (table' : List ℕ) (used : List Bool) where
-  filled-acted :
+  filled_acted :
       (make : Instruction → Target → Action) (kind : ℕ) → ((c : Instruction) (w : ℕ) (t : Target) → w ≡ target_word t → Alone (make c t) kind w c)
       → (opening : List ℕ) → Went s p (word opening) q tt → Filled s q scope n kind table r count table'
       → Acted s p (communication opening make scope) n table used r count table' used
   unfolding communication
-  filled-acted make kind h opening v f =
+  filled_acted make kind h opening v f =
       let c = f.template in
       let t = f.aims.target in
-      alone-acted (make c t) kind f.word c (h c f.word t f.aims.word) _ s p f.aimed r n table count table' used
+      alone_acted (make c t) kind f.word c (h c f.word t f.aims.word) _ s p f.aimed r n table count table' used
       (next s p q f.aimed (word opening) _ tt (make c t) v
       (on s q f.middle f.aimed _ _ c (make c t) f.filled
       (on s f.middle f.aimed f.aimed _ _ t (make c t) f.aims.went (stop s f.aimed (make c t)))))
       f.more f.most f.small f.closed
 
-  pub in-acted :
+  pub in_acted :
       Went s p (word (bytes "in(")) q tt → Filled s q scope n 2 table r count table'
       → Acted s p (communication (bytes "in(") input scope) n table used r count table' used
-  in-acted v f = filled-acted input 2 input_alone (bytes "in(") v f
+  in_acted v f = filled_acted input 2 input_alone (bytes "in(") v f
 
-  pub read-acted :
+  pub read_acted :
       Went s p (word (bytes "read(")) q tt → Filled s q scope n 3 table r count table'
       → Acted s p (communication (bytes "read(") read scope) n table used r count table' used
-  read-acted v f = filled-acted read 3 read_alone (bytes "read(") v f
+  read_acted v f = filled_acted read 3 read_alone (bytes "read(") v f
 
 -- ---- an out
 module _ (s : List ℕ) (p a q : Step) (scope : Scope) (c : Instruction) (w n : ℕ) (table : List ℕ) (count : ℕ) (table' : List ℕ) (used : List Bool)
     (e : n < room → count ≡ n + 1) (z : count < room → n < room) (l : count ≤ room) where
-  pub one-acted :
+  pub one_acted :
       (t : Target) → Went s p (Fields.target scope.addresses) a t → w ≡ target_word t → Closed s a n count 1 w c 0 table q table'
       → Acted s p (to_one scope c) n table used q count table' used
   unfolding to_one
-  one-acted t v f d =
-      alone-acted (out c t) 1 w c (out_alone c w t f) _ s p a q n table count table' used (on s p a a _ _ t (out c t) v (stop s a (out c t))) e z l d
+  one_acted t v f d =
+      alone_acted (out c t) 1 w c (out_alone c w t f) _ s p a q n table count table' used (on s p a a _ _ t (out c t) v (stop s a (out c t))) e z l d
 
-  pub all-acted :
+  pub all_acted :
       (g : Group) → Went s p (group scope.addresses) a g → w ≡ g.0 → Closed s a n count 7 w c 0 table q table'
       → Acted s p (to_all scope c) n table used q count table' used
   unfolding to_all
-  all-acted g v f d =
-      alone-acted (out_all c g) 7 w c (all_alone c w g f) _ s p a q n table count table' used (on s p a a _ _ g (out_all c g) v (stop s a (out_all c g))) e z l d
+  all_acted g v f d =
+      alone_acted (out_all c g) 7 w c (all_alone c w g f) _ s p a q n table count table' used (on s p a a _ _ g (out_all c g) v (stop s a (out_all c g))) e z l d
 
 -- the same from elsewhere, or by another reader
-acted-from :
+acted_from :
     (s : List ℕ) (p p' : Step) (m m' : Reader Action) (n : ℕ) (table : List ℕ) (used : List Bool) (q : Step) (count : ℕ) (table' : List ℕ) (used' : List Bool)
     → ((o : Step) (x : Action) → Went s p m o x → Went s p' m' o x) → Acted s p m n table used q count table' used'
     → Acted s p' m' n table used q count table' used'
-acted-from s p p' m m' n table used q count table' used' f a = record {
+acted_from s p p' m m' n table used q count table' used' f a = record {
   tree = a.tree;
   middle = a.middle;
   went = f a.middle a.tree a.went;
@@ -187,41 +187,41 @@ acted-from s p p' m m' n table used q count table' used' f a = record {
 }
 
 -- what is read before an action
-acted-after :
+acted_after :
     {A : Type 0} (s : List ℕ) (p o : Step) (m : Reader A) (f : A → Reader Action) (x : A) (n : ℕ) (table : List ℕ) (used : List Bool) (q : Step) (count : ℕ)
     (table' : List ℕ) (used' : List Bool) → Went s p m o x → Acted s o (f x) n table used q count table' used'
     → Acted s p (m >>= f) n table used q count table' used'
-acted-after s p o m f x n table used q count table' used' v a =
-    acted-from s o p (f x) (m >>= f) n table used q count table' used' (λ r y w. on s p o r m f x y v w) a
+acted_after s p o m f x n table used q count table' used' v a =
+    acted_from s o p (f x) (m >>= f) n table used q count table' used' (λ r y w. on s p o r m f x y v w) a
 
-pub out-acted :
+pub out_acted :
     (s : List ℕ) (p a b d : Step) (scope : Scope) (c : Instruction) (n : ℕ) (table : List ℕ) (used : List Bool) (q : Step) (count : ℕ) (table' : List ℕ)
     (used' : List Bool) → Went s p (word (bytes "out(")) a tt → Went s a (Fields.template false scope.addresses) b c
     → Went s b (word (bytes ")@")) d tt → Acted s d (receiving scope c) n table used q count table' used'
     → Acted s p (putting scope) n table used q count table' used'
 unfolding putting ◌>>◌
-out-acted s p a b d scope c n table used q count table' used' o f k r =
-    acted-after s p a _ _ tt n table used q count table' used' o
-    (acted-after s a b _ _ c n table used q count table' used' f (acted-after s b d _ _ tt n table used q count table' used' k r))
+out_acted s p a b d scope c n table used q count table' used' o f k r =
+    acted_after s p a _ _ tt n table used q count table' used' o
+    (acted_after s a b _ _ c n table used q count table' used' f (acted_after s b d _ _ tt n table used q count table' used' k r))
 
 -- ---- a newloc
-pub newloc-acted :
+pub newloc_acted :
     (s : List ℕ) (p a b c q : Step) (n v : ℕ) (table : List ℕ) (count : ℕ) (table' : List ℕ) (used : List Bool)
     → Went s p (word (bytes "newloc(u")) a tt → Went s a Fields.variable b v → Went s b (byte 41) c tt → (n < room → count ≡ n + 1)
     → (count < room → n < room) → count ≤ room → Closed s c n count 5 v zero_instruction 0 table q table' → Acted s p creation n table used q count table' used
 unfolding creation
-newloc-acted s p a b c q n v table count table' used o f g e z l d =
-    alone-acted (newloc v) 5 v zero_instruction (newloc_alone v) _ s p c q n table count table' used
+newloc_acted s p a b c q n v table count table' used o f g e z l d =
+    alone_acted (newloc v) 5 v zero_instruction (newloc_alone v) _ s p c q n table count table' used
     (next s p a c _ _ tt (newloc v) o
     (on s a b c Fields.variable _ v (newloc v) f (next s b c c (byte 41) (pure (newloc v)) tt (newloc v) g (stop s c (newloc v)))))
     e z l d
 
 -- ---- by the first byte
-pub acted-as :
+pub acted_as :
     (s : List ℕ) (p : Step) (m m' : Reader Action) (n : ℕ) (table : List ℕ) (used : List Bool) (q : Step) (count : ℕ) (table' : List ℕ) (used' : List Bool)
     → run_from s p m ≡ run_from s p m' → Acted s p m n table used q count table' used' → Acted s p m' n table used q count table' used'
-acted-as s p m m' n table used q count table' used' e a =
-    acted-from s p p m m' n table used q count table' used' (λ o x w. record { went = w.went ∙ e }) a
+acted_as s p m m' n table used q count table' used' e a =
+    acted_from s p p m m' n table used q count table' used' (λ o x w. record { went = w.went ∙ e }) a
 
 -- what the byte here decides on
 pub look_run : {A : Type 0} (s : List ℕ) (p : Step) (f : ℕ → Reader A) (b : ℕ) → b ≡ byte_here s p → run_from s p (f b) ≡ run_from s p (look f)
@@ -244,49 +244,49 @@ module _ (s : List ℕ) (p : Step) (b : ℕ) (scope : Scope) (n : ℕ) (table : 
   pub receiving_all : (c : Instruction) → (eqb b 123 && eqb scope.format 2) ≡ true → Acted s p (to_all scope c) n table used q count table' used'
       → Acted s p (receiving scope c) n table used q count table' used'
   unfolding receiving
-  receiving_all c d a = acted-as s p _ _ n table used q count table' used'
+  receiving_all c d a = acted_as s p _ _ n table used q count table' used'
       (run_if s p (both (eqb b 123) (eqb scope.format 2)) _ _ (sym to_set ∙ d) ∙ look_run s p _ b e) a
 
   pub receiving_one : (c : Instruction) → (eqb b 123 && eqb scope.format 2) ≡ false → Acted s p (to_one scope c) n table used q count table' used'
       → Acted s p (receiving scope c) n table used q count table' used'
   unfolding receiving
-  receiving_one c d a = acted-as s p _ _ n table used q count table' used'
+  receiving_one c d a = acted_as s p _ _ n table used q count table' used'
       (run_else s p (both (eqb b 123) (eqb scope.format 2)) _ _ (sym to_set ∙ d) ∙ look_run s p _ b e) a
 
   pub simple_out : b ≡ 111 → Acted s p (putting scope) n table used q count table' used'
       → Acted s p (simple scope) n table used q count table' used'
   unfolding simple
-  simple_out d a = acted-as s p _ _ n table used q count table' used'
+  simple_out d a = acted_as s p _ _ n table used q count table' used'
       (run_if s p (eqb b 111) _ _ (eq-eqb b 111 d) ∙ look_run s p _ b e) a
 
   pub simple_in : (b ≡ 111 → ⊥) → b ≡ 105 → Acted s p (communication (bytes "in(") input scope) n table used q count table' used'
       → Acted s p (simple scope) n table used q count table' used'
   unfolding simple
-  simple_in c d a = acted-as s p _ _ n table used q count table' used'
+  simple_in c d a = acted_as s p _ _ n table used q count table' used'
       (run_if s p (eqb b 105) _ _ (eq-eqb b 105 d) ∙ run_else s p (eqb b 111) _ _ (ne_eqb b 111 c) ∙ look_run s p _ b e) a
 
   pub simple_read : (b ≡ 111 → ⊥) → (b ≡ 105 → ⊥) → b ≡ 114 → Acted s p (communication (bytes "read(") read scope) n table used q count table' used'
       → Acted s p (simple scope) n table used q count table' used'
   unfolding simple
-  simple_read c c' d a = acted-as s p _ _ n table used q count table' used'
+  simple_read c c' d a = acted_as s p _ _ n table used q count table' used'
       (run_if s p (eqb b 114) _ _ (eq-eqb b 114 d) ∙ run_else s p (eqb b 105) _ _ (ne_eqb b 105 c')
       ∙ run_else s p (eqb b 111) _ _ (ne_eqb b 111 c) ∙ look_run s p _ b e) a
 
   pub simple_newloc : (b ≡ 111 → ⊥) → (b ≡ 105 → ⊥) → (b ≡ 114 → ⊥) → Acted s p creation n table used q count table' used'
       → Acted s p (simple scope) n table used q count table' used'
   unfolding simple
-  simple_newloc c c' c'' a = acted-as s p _ _ n table used q count table' used'
+  simple_newloc c c' c'' a = acted_as s p _ _ n table used q count table' used'
       (run_else s p (eqb b 114) _ _ (ne_eqb b 114 c'') ∙ run_else s p (eqb b 105) _ _ (ne_eqb b 105 c')
       ∙ run_else s p (eqb b 111) _ _ (ne_eqb b 111 c) ∙ look_run s p _ b e) a
 
   pub action_eval : (inner : Reader Process) → b ≡ 101 → Acted s p (evaluation inner scope) n table used q count table' used'
       → Acted s p (action inner scope) n table used q count table' used'
   unfolding action
-  action_eval inner d a = acted-as s p _ _ n table used q count table' used'
+  action_eval inner d a = acted_as s p _ _ n table used q count table' used'
       (run_if s p (eqb b 101) _ _ (eq-eqb b 101 d) ∙ look_run s p _ b e) a
 
   pub action_simple : (inner : Reader Process) → (b ≡ 101 → ⊥) → Acted s p (simple scope) n table used q count table' used'
       → Acted s p (action inner scope) n table used q count table' used'
   unfolding action
-  action_simple inner d a = acted-as s p _ _ n table used q count table' used'
+  action_simple inner d a = acted_as s p _ _ n table used q count table' used'
       (run_else s p (eqb b 101) _ _ (ne_eqb b 101 d) ∙ look_run s p _ b e) a

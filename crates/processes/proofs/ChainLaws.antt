@@ -13,7 +13,7 @@ use Rattle.net.proofs.ReadingLaws.{never}
 use Rattle.readers.specs.Reader.{Reader, pure, and_then, ◌>>=◌}
 use Rattle.readers.specs.Progress.{reached, outcome, run_from, Went}
 use Rattle.readers.proofs.ReaderLaws.{next, one_outcome, no_outcome}
-use Rattle.readers.proofs.Gives.{Fine, Gives, gives_pure, gives_then, gives-and, Any, any, fine_at}
+use Rattle.readers.proofs.Gives.{Fine, Gives, gives_pure, gives_then, gives_and, Any, any, fine_at}
 use Rattle.lexemes.specs.Lexemes.{byte_at, look, fail, byte, number}
 use Rattle.lexemes.specs.declared.numbers.NumberRead.{NumberRead}
 use Rattle.lexemes.specs.Progress.{byte_here, Numbered}
@@ -49,10 +49,10 @@ unfolding named
 name_read s p q r w v = record { read = next s p q r.next (byte 65) (number 511) tt r.value w v.read; small = v.small }
 
 -- ---- what a chain that begins with A stands for
-chain-named :
+chain_named :
     (s : List ℕ) (p k : ℕ) (scope : Scope) (inner : Reader Process) → byte_at s p ≡ 65 → chain (suc k) inner scope s p ≡ called s p
 unfolding chain ended look
-chain-named s p k scope inner e =
+chain_named s p k scope inner e =
     ap (λ (m : Reader Process). m s p) (choose_true _ (ended inner) (acting inner (chain k inner scope) scope) (sym (ends_name (byte_at s p) _ e)))
     ∙ ap (λ (m : Reader Process). m s p)
     (choose_true _ called (choose (eqb (byte_at s p) 40) (forked inner) Reading.stopped) (eq-eqb (byte_at s p) 65 e))
@@ -73,7 +73,7 @@ named_start :
 unfolding byte_here run_from start_of start_word
 named_start s n v (Step.At p) r zero scope inner q x e w o h = absurd (no_chain s p 0 scope inner q x refl o h)
 named_start s n v (Step.At p) r (suc k) scope inner q x e w o h =
-    let is : x ≡ name v = one_outcome q r x (name v) (o ∙ chain-named s p k scope inner e ∙ sym (called_is s p v r w)) h in rw is refl
+    let is : x ≡ name v = one_outcome q r x (name v) (o ∙ chain_named s p k scope inner e ∙ sym (called_is s p v r w)) h in rw is refl
 named_start s n v (Step.Failed f) r k scope inner q x e w o h = absurd (no_outcome q x f o h)
 
 pub begins_name : (s : List ℕ) (p : Step) (n b : ℕ) (r : NumberRead) → b ≡ byte_here s p → b ≡ 65 → Numbered s p named 511 r → Begins s p n r.value
@@ -89,17 +89,17 @@ module _ (n : ℕ) where
   forks_here : (inner : Reader Process) → Gives Any (forked inner) Here
   unfolding forked start_of
   forks_here inner =
-      gives-and (any (byte 40)) (λ _ _. gives_then (any inner) (λ p _. gives-and (any _) (λ _ _. gives_then (any inner)
-      (λ q _. gives-and (any (byte 41)) (λ _ _. gives_pure Here (fork p q) refl)))))
+      gives_and (any (byte 40)) (λ _ _. gives_then (any inner) (λ p _. gives_and (any _) (λ _ _. gives_then (any inner)
+      (λ q _. gives_and (any (byte 41)) (λ _ _. gives_pure Here (fork p q) refl)))))
 
   stops_here : Gives Any Reading.stopped Here
   unfolding Reading.stopped start_of
-  stops_here = gives-and (any _) (λ _ _. gives_pure Here nil refl)
+  stops_here = gives_and (any _) (λ _ _. gives_pure Here nil refl)
 
   acts_here : (inner rest : Reader Process) (scope : Scope) → Gives Any (acting inner rest scope) Here
   unfolding acting start_of
   acts_here inner rest scope =
-      gives_then (any (action inner scope)) (λ a _. gives-and (any (byte 46)) (λ _ _. gives_then (any rest) (λ p _. gives_pure Here (act a p) refl)))
+      gives_then (any (action inner scope)) (λ a _. gives_and (any (byte 46)) (λ _ _. gives_then (any rest) (λ p _. gives_pure Here (act a p) refl)))
 
   pick :
       (b : Bool) (m m' : Reader Process) (s : List ℕ) (p : ℕ) → Fine Any Here (m s p) → Fine Any Here (m' s p)
@@ -119,19 +119,19 @@ module _ (n : ℕ) where
   chain_here s p k scope inner e =
       pick (ends_chain (byte_at s p) (byte_at s (p + 1))) _ _ s p (ended_here s p inner e) ((acts_here inner (chain k inner scope) scope).run s p)
 
-  here-start :
+  here_start :
       (s : List ℕ) (p : Step) (k : ℕ) (scope : Scope) (inner : Reader Process) (q : Step) (x : Process) → eqb (byte_here s p) 65 ≡ false
       → outcome q x ≡ run_from s p (chain k inner scope) → reached q ≡ true → start_of n x ≡ here n
   unfolding byte_here run_from
-  here-start s (Step.At p) zero scope inner q x e o h = absurd (no_chain s p 0 scope inner q x refl o h)
-  here-start s (Step.At p) (suc k) scope inner q x e o h = fine_at Here q x _ o (chain_here s p k scope inner e) h
-  here-start s (Step.Failed f) k scope inner q x e o h = absurd (no_outcome q x f o h)
+  here_start s (Step.At p) zero scope inner q x e o h = absurd (no_chain s p 0 scope inner q x refl o h)
+  here_start s (Step.At p) (suc k) scope inner q x e o h = fine_at Here q x _ o (chain_here s p k scope inner e) h
+  here_start s (Step.Failed f) k scope inner q x e o h = absurd (no_outcome q x f o h)
 
 pub begins_here : (s : List ℕ) (p : Step) (n b : ℕ) → b ≡ byte_here s p → (b ≡ 65 → ⊥) → Begins s p n (512 + n)
 unfolding start_word
 begins_here s p n b e d = record {
   begins = λ k scope inner q x v h.
-      let t : start_of n x ≡ here n = here-start n s p k scope inner q x (ap (λ (y : ℕ). eqb y 65) (sym e) ∙ ne_eqb b 65 d) v.went h in rw t refl;
+      let t : start_of n x ≡ here n = here_start n s p k scope inner q x (ap (λ (y : ℕ). eqb y 65) (sym e) ∙ ne_eqb b 65 d) v.went h in rw t refl;
 }
 
 module _ (s : List ℕ) (p : ℕ) where

@@ -14,7 +14,7 @@ use Rattle.net.specs.Choice.{choose}
 use Rattle.net.specs.Records.{address_of, zero_instruction, with_pattern, pattern_at}
 use Rattle.net.proofs.Laws.{both_r}
 use Rattle.readers.specs.Reader.{Reader}
-use Rattle.readers.proofs.Gives.{stopped, Gives, gives_pure, gives_weaken, gives_then, gives-and, gives_choice, gives_each, gives_require, Any, any}
+use Rattle.readers.proofs.Gives.{stopped, Gives, gives_pure, gives_weaken, gives_then, gives_and, gives_choice, gives_each, gives_require, Any, any}
 use Rattle.lexemes.specs.Lexemes.{byte_at, look, fail, byte, word, digit, longer, another, rest, number}
 use Rattle.fields.specs.Fields as Fields
 use Rattle.fields.specs.Sets.{group_of, listed, group}
@@ -36,7 +36,7 @@ module _ (limit : ℕ) where
   longer_most : (v : ℕ) → Gives Any (longer limit v) (λ x. x ≤ limit)
   unfolding longer
   longer_most v =
-      gives_then (any digit) (λ d _. gives-and (gives_require _ 31 tt)
+      gives_then (any digit) (λ d _. gives_and (gives_require _ 31 tt)
       (λ _ e. gives_pure (λ x. x ≤ limit) (v * 10 + d) (leb-true (v * 10 + d) limit (both_r (leb 1 v) _ e))))
 
   another_most : (i v : ℕ) → v ≤ limit → Gives Any (another limit i v) (λ x. x ≤ limit)
@@ -46,12 +46,12 @@ module _ (limit : ℕ) where
   pub number_most : Gives Any (number limit) (λ x. x ≤ limit)
   unfolding number rest
   number_most =
-      gives_then (any digit) (λ d _. gives-and (gives_require _ 31 tt)
+      gives_then (any digit) (λ d _. gives_and (gives_require _ 31 tt)
       (λ _ e. gives_each (λ _ x. x ≤ limit) 10 (another limit) (λ i _ v h. another_most i v h) d (leb-true d limit e)))
 
 pub named_most : Gives Any named (λ k. k ≤ 511)
 unfolding named
-named_most = gives-and (any (byte 65)) (λ _ _. number_most 511)
+named_most = gives_and (any (byte 65)) (λ _ _. number_most 511)
 
 -- ---- targets and template fields
 variable_low : Gives Any Fields.variable (λ v. v < 256)
@@ -60,51 +60,51 @@ variable_low = gives_weaken (number_most 7) (λ v h. omega arith)
 
 held_low : Gives Any Fields.held (λ v. v < 256)
 unfolding Fields.held
-held_low = gives-and (any (byte 118)) (λ _ _. variable_low)
+held_low = gives_and (any (byte 118)) (λ _ _. variable_low)
 
 address_low : (n : ℕ) → Gives Any (Fields.address n) (λ l. l.0 < 256)
 unfolding Fields.address
-address_low n = gives_then (number_most 15) (λ l h. gives-and (any _) (λ _ _. gives_pure (λ x. x.0 < 256) (address_of l) (omega arith)))
+address_low n = gives_then (number_most 15) (λ l h. gives_and (any _) (λ _ _. gives_pure (λ x. x.0 < 256) (address_of l) (omega arith)))
 
 pub target_fits : (n : ℕ) → Gives Any (Fields.target n) fits_target
 unfolding Fields.target Fields.own_target Fields.held_target Fields.written_target fits_target
 target_fits n = gives_look _ _ (λ b. gives_choice fits_target _ _ _
-    (gives-and (any Fields.own) (λ _ _. gives_pure fits_target Target.Own tt))
+    (gives_and (any Fields.own) (λ _ _. gives_pure fits_target Target.Own tt))
     (gives_choice fits_target _ _ _ (gives_then held_low (λ v h. gives_pure fits_target (Target.Held v) h))
     (gives_then (address_low n) (λ l h. gives_pure fits_target (Target.Written l) h))))
 
 reading_fits_law : Gives Any Fields.reading fits_reading
 unfolding Fields.reading Fields.negative Fields.positive fits_reading
 reading_fits_law = gives_look _ _ (λ b. gives_choice fits_reading _ _ _
-    (gives-and (any (byte 45)) (λ _ _. gives_then (number_most 2147483648)
-    (λ v h. gives-and (any _) (λ _ _. gives_pure fits_reading (ℤ.negsuc (v - 1)) (omega arith)))))
+    (gives_and (any (byte 45)) (λ _ _. gives_then (number_most 2147483648)
+    (λ v h. gives_and (any _) (λ _ _. gives_pure fits_reading (ℤ.negsuc (v - 1)) (omega arith)))))
     (gives_then (number_most 2147483647) (λ v h. gives_pure fits_reading (ℤ.pos v) (omega arith))))
 
 fresh_low : (c : Instruction) → Gives Any (Fields.fresh c) (λ v. v < 256)
 unfolding Fields.fresh
-fresh_low c = gives_then variable_low (λ v h. gives-and (any _) (λ _ _. gives_pure (λ x. x < 256) v h))
+fresh_low c = gives_then variable_low (λ v h. gives_and (any _) (λ _ _. gives_pure (λ x. x < 256) v h))
 
 bound_fits : (c : Instruction) → Gives Any (Fields.bound c) fits_pattern
 unfolding Fields.bound Fields.formal_reading Fields.formal_address fits_pattern
 bound_fits c = gives_look _ _ (λ b. gives_choice fits_pattern _ _ _
-    (gives-and (any (byte 120)) (λ _ _. gives_then (fresh_low c) (λ v h. gives_pure fits_pattern (Pattern.FormalReading v) h)))
-    (gives-and (any (byte 117)) (λ _ _. gives_then (fresh_low c) (λ v h. gives_pure fits_pattern (Pattern.FormalAddress v) h))))
+    (gives_and (any (byte 120)) (λ _ _. gives_then (fresh_low c) (λ v h. gives_pure fits_pattern (Pattern.FormalReading v) h)))
+    (gives_and (any (byte 117)) (λ _ _. gives_then (fresh_low c) (λ v h. gives_pure fits_pattern (Pattern.FormalAddress v) h))))
 
 pattern_fits_law : (formals : Bool) (n : ℕ) (c : Instruction) → Gives Any (Fields.pattern formals n c) fits_pattern
 unfolding Fields.pattern Fields.formal Fields.address_pattern Fields.at_address Fields.own_pattern Fields.held_pattern Fields.reading_pattern fits_pattern
 pattern_fits_law formals n c = gives_look _ _ (λ b. gives_choice fits_pattern _ _ _
-    (gives-and (any _) (λ _ _. gives-and (any (byte 33)) (λ _ _. bound_fits c)))
+    (gives_and (any _) (λ _ _. gives_and (any (byte 33)) (λ _ _. bound_fits c)))
     (gives_choice fits_pattern _ _ _
-    (gives_then (gives-and (any (byte 64)) (λ _ _. address_low n)) (λ l h. gives_pure fits_pattern (Pattern.Address l) h))
-    (gives_choice fits_pattern _ _ _ (gives-and (any Fields.own) (λ _ _. gives_pure fits_pattern Pattern.Own tt))
+    (gives_then (gives_and (any (byte 64)) (λ _ _. address_low n)) (λ l h. gives_pure fits_pattern (Pattern.Address l) h))
+    (gives_choice fits_pattern _ _ _ (gives_and (any Fields.own) (λ _ _. gives_pure fits_pattern Pattern.Own tt))
     (gives_choice fits_pattern _ _ _ (gives_then held_low (λ v h. gives_pure fits_pattern (Pattern.Held v) h))
     (gives_then reading_fits_law (λ x h. gives_pure fits_pattern (Pattern.Reading x) h))))))
 
 -- ---- templates
-field-set :
+field_set :
     (c : Instruction) (f : TemplateField) (k i : ℕ) (d : TemplateField) → length c.template ≡ 4 → i < 4 → fits_pattern f.pattern
     → fits_pattern (get_or c.template i d).pattern → fits_pattern (get_or (set c.template k f) i d).pattern
-field-set c f k i d l h g e = go (dec_le i k) (dec_le k i)
+field_set c f k i d l h g e = go (dec_le i k) (dec_le k i)
   where
     other : (i ≡ k → ⊥) → fits_pattern (get_or (set c.template k f) i d).pattern
     other z = rw (get_or-set_other c.template k i f d z) e
@@ -122,7 +122,7 @@ with_fits c x f g = go (ltb c.count 4)
     go : (b : Bool) → FitsTemplate (choose b (record { action = c.action; count = c.count + 1; template = set c.template c.count (record { pattern = x }) }) c)
     go true = record {
       four = length-set c.template c.count (record { pattern = x }) ∙ f.four;
-      fields = λ i h. field-set c (record { pattern = x }) c.count i _ f.four h g (f.fields i h);
+      fields = λ i h. field_set c (record { pattern = x }) c.count i _ f.four h g (f.fields i h);
     }
     go false = f
 
@@ -140,53 +140,53 @@ template_fits formals n = patterns_fit 4 formals n zero_instruction zero_fits
 -- ---- actions and processes
 target_after : (n : ℕ) → Gives Any (at_target n) fits_target
 unfolding at_target
-target_after n = gives-and (any _) (λ _ _. target_fits n)
+target_after n = gives_and (any _) (λ _ _. target_fits n)
 
 group_fits : (n : ℕ) → Gives Any (group n) (λ g. g.0 < 65536)
 unfolding group
 group_fits n =
-    gives-and (any (byte 123)) (λ _ _. gives_then (any (listed n))
-    (λ marks _. gives-and (any (byte 125)) (λ _ _. gives_pure (λ g. g.0 < 65536) (group_of marks) (group_low marks))))
+    gives_and (any (byte 123)) (λ _ _. gives_then (any (listed n))
+    (λ marks _. gives_and (any (byte 125)) (λ _ _. gives_pure (λ g. g.0 < 65536) (group_of marks) (group_low marks))))
 
 module _ (inner : Reader Process) (g : Gives Any inner fits) (x : Scope) where
-  talk-fits :
+  talk_fits :
       (opening : List ℕ) (make : Instruction → Target → Action)
       → ((c : Instruction) (t : Target) → FitsTemplate c → fits_target t → fits_in (make c t)) → Gives Any (communication opening make x) fits_in
   unfolding communication
-  talk-fits opening make f =
-      gives-and (any (word opening)) (λ _ _. gives_then (template_fits true x.addresses)
+  talk_fits opening make f =
+      gives_and (any (word opening)) (λ _ _. gives_then (template_fits true x.addresses)
       (λ c h. gives_then (target_after x.addresses) (λ t k. gives_pure fits_in (make c t) (f c t h k))))
 
   put_fits : Gives Any (putting x) fits_in
   unfolding putting receiving to_one to_all fits_in
   put_fits =
-      gives-and (any _) (λ _ _. gives_then (template_fits false x.addresses) (λ c h. gives-and (any _) (λ _ _. gives_look _ _ (λ b. gives_choice fits_in _ _ _
+      gives_and (any _) (λ _ _. gives_then (template_fits false x.addresses) (λ c h. gives_and (any _) (λ _ _. gives_look _ _ (λ b. gives_choice fits_in _ _ _
       (gives_then (group_fits x.addresses) (λ s k. gives_pure fits_in (out_all c s) (h, k)))
       (gives_then (target_fits x.addresses) (λ t k. gives_pure fits_in (out c t) (h, k)))))))
 
   action_fits_law : Gives Any (action inner x) fits_in
   unfolding action simple evaluation creation fits_in
   action_fits_law = gives_look _ _ (λ b. gives_choice fits_in _ _ _
-      (gives-and (any _) (λ _ _. gives_then g (λ p h. gives_then (target_after x.addresses) (λ t k. gives_pure fits_in (eval p t) (h, k)))))
+      (gives_and (any _) (λ _ _. gives_then g (λ p h. gives_then (target_after x.addresses) (λ t k. gives_pure fits_in (eval p t) (h, k)))))
       (gives_look _ _ (λ b. gives_choice fits_in _ _ _ put_fits
-      (gives_choice fits_in _ _ _ (talk-fits _ input (λ c t h k. (h, k)))
-      (gives_choice fits_in _ _ _ (talk-fits _ read (λ c t h k. (h, k)))
-      (gives-and (any _) (λ _ _. gives_then variable_low (λ v h. gives-and (any (byte 41)) (λ _ _. gives_pure fits_in (newloc v) h)))))))))
+      (gives_choice fits_in _ _ _ (talk_fits _ input (λ c t h k. (h, k)))
+      (gives_choice fits_in _ _ _ (talk_fits _ read (λ c t h k. (h, k)))
+      (gives_and (any _) (λ _ _. gives_then variable_low (λ v h. gives_and (any (byte 41)) (λ _ _. gives_pure fits_in (newloc v) h)))))))))
 
   ended_fits : Gives Any (ended inner) fits
   unfolding ended called forked Reading.stopped fits
   ended_fits = gives_look _ _ (λ b. gives_choice fits _ _ _
       (gives_then named_most (λ k h. gives_pure fits (name k) (omega arith)))
       (gives_choice fits _ _ _
-      (gives-and (any (byte 40)) (λ _ _. gives_then g (λ p h. gives-and (any _) (λ _ _. gives_then g (λ q k. gives-and (any (byte 41)) (λ _ _. gives_pure fits (fork p q) (h, k)))))))
-      (gives-and (any _) (λ _ _. gives_pure fits nil tt))))
+      (gives_and (any (byte 40)) (λ _ _. gives_then g (λ p h. gives_and (any _) (λ _ _. gives_then g (λ q k. gives_and (any (byte 41)) (λ _ _. gives_pure fits (fork p q) (h, k)))))))
+      (gives_and (any _) (λ _ _. gives_pure fits nil tt))))
 
   chain_fits : (k : ℕ) → Gives Any (chain k inner x) fits
   unfolding chain fail acting fits
   chain_fits zero = record { run = λ s p. stopped tt }
   chain_fits (suc k) = record {
     run = λ s p. (gives_choice fits (ends_chain (byte_at s p) (byte_at s (p + 1))) _ _ ended_fits
-        (gives_then action_fits_law (λ a h. gives-and (any (byte 46)) (λ _ _. gives_then (chain_fits k) (λ r l. gives_pure fits (act a r) (h, l)))))).run s p;
+        (gives_then action_fits_law (λ a h. gives_and (any (byte 46)) (λ _ _. gives_then (chain_fits k) (λ r l. gives_pure fits (act a r) (h, l)))))).run s p;
   }
 
 -- every process that is read fits its words

@@ -78,11 +78,11 @@ module _ (x : Scope) (k : ℕ) (most : k ≤ 512) where
         again = λ place right m. ap (λ (q : Place). with_action c (Action.Read t q) ∷ []) (right p.0 h);
       }
 
-    out-all-ok :
+    out_all_ok :
         x.format ≡ 2 → (g : Group) → GroupOk x.addresses g → TemplateOk false x.addresses c
         → BodyOk x k (with_action c (Action.OutAll g p))
     unfolding body_of process_of named template_in with_action uses uses_in choose code_of code_in instruction_of start_of size size_in
-    out-all-ok second g good ok = record {
+    out_all_ok second g good ok = record {
       formed =
           acts
           (shares second (template_ok false ok (Action.OutAll g p)) (record { in_range_law = good.members; fits = good.fits }))
@@ -102,10 +102,10 @@ module _ (x : Scope) (k : ℕ) (most : k ≤ 512) where
     }
 
     module _ (q : Place) (g : q.0 < k) where
-      eval-ok :
+      eval_ok :
           (t : Target) → target_sound x.addresses t ≡ true → BodyOk x k (with_action zero_instruction (Action.Eval t p q))
       unfolding body_of process_of named with_action uses uses_in code_of code_in instruction_of start_of size size_in
-      eval-ok t good = record {
+      eval_ok t good = record {
         formed = acts (sends {d = 31} (named_formed p h) (record { in_range_law = good })) (named_formed q g);
         below = λ j. either_holds (eqb j p.0) (eqb j q.0) (named_below p h j) (named_below q g j);
         again = λ place right m.
@@ -131,11 +131,11 @@ module _ (x : Scope) (k : ℕ) (most : k ≤ 512) where
     acting_ok (suc zero) s (t, good, (b, ok, (p, h, e))) = subst (BodyOk x k) e (out_ok b p h t good ok)
     acting_ok (suc (suc zero)) s (t, good, (b, ok, (p, h, e))) = subst (BodyOk x k) e (in_ok b p h t good ok)
     acting_ok (suc (suc (suc zero))) s (t, good, (b, ok, (p, h, e))) = subst (BodyOk x k) e (read_ok b p h t good ok)
-    acting_ok (suc (suc (suc (suc zero)))) s (t, good, (p, h, (q, g, e))) = subst (BodyOk x k) e (eval-ok p h q g t good)
+    acting_ok (suc (suc (suc (suc zero)))) s (t, good, (p, h, (q, g, e))) = subst (BodyOk x k) e (eval_ok p h q g t good)
     acting_ok (suc (suc (suc (suc (suc zero))))) s (v, l, (p, h, e)) = subst (BodyOk x k) e (new_ok p h v l)
     acting_ok (suc (suc (suc (suc (suc (suc zero)))))) s (p, h, (q, g, e)) = subst (BodyOk x k) e (fork_ok p h q g)
     acting_ok (suc (suc (suc (suc (suc (suc (suc v))))))) s (g, good, (b, ok, (p, h, e))) =
-        subst (BodyOk x k) e (out-all-ok b p h (s (omega arith)) g good ok)
+        subst (BodyOk x k) e (out_all_ok b p h (s (omega arith)) g good ok)
 
     pub body_ok : 1 ≤ x.format → x.format ≤ 2 → InstructionOk x.format x.addresses k c → BodyOk x k c
     unfolding InstructionOk actions_in

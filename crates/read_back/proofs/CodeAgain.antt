@@ -15,9 +15,9 @@ use Rattle.written.proofs.WrittenWhole.{NetOk}
 use Rattle.read_back.specs.Types.{Place, Instruction, Net}
 use Rattle.read_back.specs.NetSource.{definitions_of, lines_of}
 use Rattle.read_back.proofs.Listed.{listed_take, rest_is, filled_is}
-use Rattle.read_back.proofs.LineLists.{code-append}
-use Rattle.read_back.proofs.Definitions.{definitions, definitions-code}
-use Rattle.read_back.proofs.Located.{located-code}
+use Rattle.read_back.proofs.LineLists.{code_append}
+use Rattle.read_back.proofs.Definitions.{definitions, definitions_code}
+use Rattle.read_back.proofs.Located.{located_code}
 use Rattle.read_back.proofs.NetLines.{code_at, located, few_instructions, code_ok, all_located, names_stand}
 
 module _ (s : Net) (ok : NetOk s) where
@@ -28,11 +28,11 @@ module _ (s : Net) (ok : NetOk s) where
   unfolding lines_of definitions_of instruction_at
   lines_code =
       let few = few_instructions s ok in
-      code-append place 0 (definitions (code_at s) s.length) (located s)
+      code_append place 0 (definitions (code_at s) s.length) (located s)
       ∙ ap (λ (cs : List Instruction). code_from place 0 (definitions (code_at s) s.length) ++ cs)
-      (located-code place _ (located s) (all_located s ok))
+      (located_code place _ (located s) (all_located s ok))
       ∙ append-nil (code_from place 0 (definitions (code_at s) s.length))
-      ∙ definitions-code (code_at s) place s.length (λ i m h. (code_ok s ok i h).again place (names_stand s ok) m)
+      ∙ definitions_code (code_at s) place s.length (λ i m h. (code_ok s ok i h).again place (names_stand s ok) m)
       ∙ listed_take s.code past_instruction s.length (omega (arith, ok.code_ok.size_is))
 
   pub code_again : over empty_net.code 0 (code_from (place_in (lines_of s)) 0 (lines_of s)) ≡ s.code

@@ -18,7 +18,7 @@ use Rattle.linking.specs.Counts.{counted}
 use Rattle.read_back.specs.Types.{Place, Instruction, Net}
 use Rattle.read_back.specs.NetSource.{listed, body_of, definition_at}
 use Rattle.read_back.proofs.Bodies.{size_one, starts_here}
-use Rattle.read_back.proofs.LineLists.{total_append, counted_append, defined_append, code-append, people-append}
+use Rattle.read_back.proofs.LineLists.{total_append, counted_append, defined_append, code_append, people_append}
 
 -- the instructions, by their places
 module _ (c : ℕ → Instruction) where
@@ -103,14 +103,14 @@ module _ (c : ℕ → Instruction) where
     unfolding listed joined peopled placed
     definitions_people zero m s = refl
     definitions_people (suc n) m s =
-        people-append place m (definitions n) (definition_at n (c n) ∷ []) s ∙ definitions_people n m s
+        people_append place m (definitions n) (definition_at n (c n) ∷ []) s ∙ definitions_people n m s
 
-    pub definitions-code :
+    pub definitions_code :
         (n : ℕ) → ((i m : ℕ) → i < n → code_of place m (body_of (c i)) ≡ c i ∷ []) → code_from place 0 (definitions n) ≡ listed n c
     unfolding listed joined code_from line_code
-    definitions-code zero h = refl
-    definitions-code (suc n) h =
-        code-append place 0 (definitions n) (definition_at n (c n) ∷ [])
+    definitions_code zero h = refl
+    definitions_code (suc n) h =
+        code_append place 0 (definitions n) (definition_at n (c n) ∷ [])
         ∙ ap (λ (cs : List Instruction). cs ++ (code_of place (0 + total (definitions n)) (body_of (c n)) ++ []))
-        (definitions-code n (λ i m l. h i m (omega arith)))
+        (definitions_code n (λ i m l. h i m (omega arith)))
         ∙ ap (λ (cs : List Instruction). listed n c ++ (cs ++ [])) (h n (0 + total (definitions n)) (omega arith))

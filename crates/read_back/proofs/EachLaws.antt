@@ -32,8 +32,8 @@ module _ {A : Type 0} {R : List A → A → Type 0} where
     each_chosen b y h = chosen (Each R xs) b _ _ (λ e. more (h e) none) (λ e. none)
 
 -- what is asked of each by itself
-pub each-alone :
+pub each_alone :
     {A : Type 0} {P Q : A → Type 0} {xs ys : List A} (zs : List A) → ((x : A) → P x → Q x) → Each (λ before. P) xs ys
     → Each (λ before. Q) zs ys
-each-alone zs f none = none
-each-alone zs f (more {y = y} p e) = more (f y p) (each-alone (zs ++ (y ∷ [])) f e)
+each_alone zs f none = none
+each_alone zs f (more {y = y} p e) = more (f y p) (each_alone (zs ++ (y ∷ [])) f e)

@@ -110,10 +110,10 @@ unfolding weight
 weight_append [] ys = omega arith
 weight_append (x ∷ xs) ys = let rest = weight_append xs ys in omega arith
 
-last-weight :
+last_weight :
     (g : Group) (i : ℕ) → weight (map address_text (choose (member g (address_of i)) (address_of i ∷ []) [])) ≤ suc (length (decimal i))
 unfolding weight address_text
-last-weight g i =
+last_weight g i =
     chosen (λ (ls : List Locality). weight (map address_text ls) ≤ suc (length (decimal i))) (member g (address_of i)) _ _
     (λ e. omega arith) (λ e. omega arith)
 
@@ -125,8 +125,8 @@ weight_members g (suc i) h = go (weight_members g i (omega arith)) (dec_le 10 i)
     go :
         weight (map address_text (members_below i g)) ≤ 2 * i + (i - 10) → Dec (10 ≤ i)
         → weight (map address_text (members_below (suc i) g)) ≤ 2 * suc i + (suc i - 10)
-    go before (yes l) = simp (map-append, weight_append) (omega (arith, last-weight g i, two_digits i (omega arith)))
-    go before (no l) = simp (map-append, weight_append) (omega (arith, last-weight g i, one_digit i (omega arith)))
+    go before (yes l) = simp (map-append, weight_append) (omega (arith, last_weight g i, two_digits i (omega arith)))
+    go before (no l) = simp (map-append, weight_append) (omega (arith, last_weight g i, one_digit i (omega arith)))
 
 pub group_short : (g : Group) → length (group_text g) ≤ 39
 unfolding group_text members_of bytes

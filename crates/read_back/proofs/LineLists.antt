@@ -30,22 +30,22 @@ defined_append j [] ms = omega arith
 defined_append j (l ∷ ls) ms = let rest = defined_append j ls ms in omega arith
 
 module _ (place : Start → Place) where
-  pub code-append :
+  pub code_append :
       (m : ℕ) (ls ms : List Line) → code_from place m (ls ++ ms) ≡ code_from place m ls ++ code_from place (m + total ls) ms
   unfolding code_from total
-  code-append m [] ms = ap (λ (i : ℕ). code_from place i ms) (omega arith)
-  code-append m (l ∷ ls) ms =
-      ap (λ (cs : List Instruction). line_code place m l ++ cs) (code-append (m + size_of l) ls ms)
+  code_append m [] ms = ap (λ (i : ℕ). code_from place i ms) (omega arith)
+  code_append m (l ∷ ls) ms =
+      ap (λ (cs : List Instruction). line_code place m l ++ cs) (code_append (m + size_of l) ls ms)
       ∙ sym (append_assoc (line_code place m l) (code_from place (m + size_of l) ls) (code_from place (m + size_of l + total ls) ms))
       ∙ ap (λ (i : ℕ). (line_code place m l ++ code_from place (m + size_of l) ls) ++ code_from place i ms) (omega arith)
 
-  pub people-append :
+  pub people_append :
       (m : ℕ) (ls ms : List Line) (s : Net) → peopled place m (ls ++ ms) s ≡ peopled place (m + total ls) ms (peopled place m ls s)
   unfolding peopled total
-  people-append m [] ms s = ap (λ (i : ℕ). peopled place i ms s) (omega arith)
-  people-append m (l ∷ ls) ms s =
+  people_append m [] ms s = ap (λ (i : ℕ). peopled place i ms s) (omega arith)
+  people_append m (l ∷ ls) ms s =
       let after : Net = placed place m l s in
-      people-append (m + size_of l) ls ms after
+      people_append (m + size_of l) ls ms after
       ∙ ap (λ (i : ℕ). peopled place i ms (peopled place (m + size_of l) ls after)) (omega arith)
 
 -- ---- lines each of which uses names below k alone

@@ -18,7 +18,7 @@ use Rattle.read_back.specs.NetSource.{listed, named, template_in, process_of, bo
 use Rattle.read_back.specs.NetSource.{tuple_lines, lines_at, lines_of}
 use Rattle.read_back.proofs.NumbersShort.{one_digit, two_digits, three_digits}
 use Rattle.read_back.proofs.FieldsFormed.{tuple_formed}
-use Rattle.read_back.proofs.NetLines.{scope, code_at, busy-within, few_addresses, few_instructions, node_ok, code_ok}
+use Rattle.read_back.proofs.NetLines.{scope, code_at, busy_within, few_addresses, few_instructions, node_ok, code_ok}
 use Rattle.read_back.proofs.FieldsShort.{tuple_short, template_short, target_short, group_short}
 
 -- ---- bodies
@@ -97,7 +97,7 @@ module _ (s : Net) (ok : NetOk s) where
       parts_short 11 4 _ (λ j l.
       chosen (λ (ls : List Line). length (lines_text ls) ≤ 11) (process_at (node_at s (address_of a)) j).busy _ []
       (λ e.
-      let within = busy-within _ _ _ _ (node_ok s ok a h).slots_ok.slots j l e in
+      let within = busy_within _ _ _ _ (node_ok s ok a h).slots_ok.slots j l e in
       one_line_short 11 _ (process_short (scope s) (few_addresses s ok) (address_of a) _ h (omega arith)))
       (λ e. omega arith))
 

@@ -23,18 +23,18 @@ unfolding listed joined
 listed_length zero f = refl
 listed_length (suc n) f = let before = listed_length n f in omega (arith, length-append (listed n f) (f n ∷ []))
 
-last-at :
+last_at :
     {A : Type 0} (n : ℕ) (f : ℕ → A) (d : A) (i : ℕ) → (i < n → get_or (listed n f) i d ≡ f i) → (i < n) ⊎ (i ≡ n)
     → get_or (listed n f ++ (f n ∷ [])) i d ≡ f i
-last-at n f d i before (inl l) =
+last_at n f d i before (inl l) =
     get_or-append (listed n f) (f n ∷ []) d i (omega (arith, listed_length n f)) ∙ before l
-last-at n f d i before (inr e) =
+last_at n f d i before (inr e) =
     get_or_at (listed n f) (f n) [] d i (listed_length n f ∙ sym e) ∙ ap f (sym e)
 
 pub listed_at : {A : Type 0} (n : ℕ) (f : ℕ → A) (d : A) (i : ℕ) → i < n → get_or (listed n f) i d ≡ f i
 unfolding listed joined
 listed_at zero f d i h = absurd (omega arith)
-listed_at (suc n) f d i h = last-at n f d i (listed_at n f d i) (split i n h)
+listed_at (suc n) f d i h = last_at n f d i (listed_at n f d i) (split i n h)
 
 pub map-append : {A B : Type 0} (f : A → B) (xs ys : List A) → map f (xs ++ ys) ≡ map f xs ++ map f ys
 map-append f [] ys = refl

@@ -47,12 +47,12 @@ module _ {k : ℕ} where
       let rest = located_total ls e in
       omega (arith, located_size l h)
 
-  pub located-code :
+  pub located_code :
       (place : Start → Place) (m : ℕ) {ms : List Line} (ls : List Line) → Each (λ before. Located k) ms ls
       → code_from place m ls ≡ []
   unfolding code_from
-  located-code place m _ none = refl
-  located-code place m _ (more {y = l} {ys = ls} h e) = rw (located_nothing place m l h) (located-code place (m + size_of l) ls e)
+  located_code place m _ none = refl
+  located_code place m _ (more {y = l} {ys = ls} h e) = rw (located_nothing place m l h) (located_code place (m + size_of l) ls e)
 
   pub located_defined : (j : ℕ) {ms : List Line} (ls : List Line) → Each (λ before. Located k) ms ls → defined j ls ≡ 0
   unfolding defined

@@ -17,7 +17,7 @@ use Rattle.linking.specs.Names.{uses_line, used, defined, name_right, names_righ
 use Rattle.sources.specs.WellFormed.{Each}
 use Rattle.read_back.specs.Types.{Instruction}
 use Rattle.read_back.specs.NetSource.{body_of}
-use Rattle.read_back.proofs.EachLaws.{each_append, each_listed, each-alone}
+use Rattle.read_back.proofs.EachLaws.{each_append, each_listed, each_alone}
 use Rattle.read_back.proofs.LineLists.{defined_append, used_below}
 use Rattle.read_back.proofs.Definitions.{definitions, found_at, never_defined, once_defined}
 use Rattle.read_back.proofs.Located.{Located, located_below, located_defined}
@@ -45,7 +45,7 @@ module _ (c : ℕ → Instruction) (k : ℕ) (rest : List Line) where
     unfolding uses_line
     all_below =
         used_below k {ms = []} lines
-        (each_append rest (each_listed [] k _ (λ i l j. below i j l)) (each-alone _ (located_below k) located))
+        (each_append rest (each_listed [] k _ (λ i l j. below i j l)) (each_alone _ (located_below k) located))
 
     known : (j : ℕ) → j < k → name_right lines j ≡ true
     unfolding name_right is_here

@@ -31,11 +31,11 @@ place_within : (a : Locality) (k : ℕ) (p : Process) → Starts a k p → p.at.
 unfolding starting_at
 place_within a k p s = subst (λ (q : Process). q.at.0 < k) s.is s.within
 
-pub busy-within :
+pub busy_within :
     (a : Locality) (k c : ℕ) (x : Node) → ProcessesOk a k c x → (j : ℕ) → j < 4 → (process_at x j).busy ≡ true
     → (process_at x j).at.0 < k
 unfolding process_at
-busy-within a k c x ok j h e =
+busy_within a k c x ok j h e =
     let below = ltb-true j c (sym (slot_busy x c (first_busy a k c x ok) j h) ∙ e) in
     place_within a k _ ((ok.slots_ok.holds j h).used below)
 
@@ -75,7 +75,7 @@ module _ (s : Net) (ok : NetOk s) where
       each_joined _ s.addresses _ (λ a h.
       let slots = (node_ok a h).slots_ok in
       each_append _
-      (each_joined _ 4 _ (λ j l. each_chosen _ _ _ (λ e. starts (busy-within _ _ _ _ slots.slots j l e))))
+      (each_joined _ 4 _ (λ j l. each_chosen _ _ _ (λ e. starts (busy_within _ _ _ _ slots.slots j l e))))
       (each_listed _ _ _ (λ j l. stores)))
 
   pub lines_total : total (lines_of s) ≡ s.length

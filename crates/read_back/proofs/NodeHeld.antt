@@ -33,12 +33,12 @@ module _ (a : Locality) (u : Net) (inside : a.0 < length u.nodes) where
 
   -- a line that puts something there
   module _ (place : Start → Place) (m : ℕ) (y : Node) where
-    pub process-put :
+    pub process_put :
         (p : Place)
         → placed place m (process a (named p)) (with_node u a y)
         ≡ with_node u a (with_process y (process_count y) (starting_at a (place (called p.0))))
     unfolding placed start_of named
-    process-put p =
+    process_put p =
         ap (λ (z : Node). with_node (with_node u a y) a (with_process z (process_count z) (starting_at a (place (called p.0)))))
         (node_held y)
         ∙ held_again y _

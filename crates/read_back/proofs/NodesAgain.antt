@@ -16,12 +16,12 @@ use Rattle.written.proofs.WrittenProcesses.{bare_node, free}
 use Rattle.written.proofs.WrittenWhole.{NetOk}
 use Rattle.read_back.specs.Types.{Place, Row, Node, Net}
 use Rattle.read_back.specs.NetSource.{listed, definitions_of, policy_of, process_lines, tuple_lines, lines_at, lines_of}
-use Rattle.read_back.proofs.UpTo.{UpTo, up_to_none, up_to_next, up-to-all}
+use Rattle.read_back.proofs.UpTo.{UpTo, up_to_none, up_to_next, up_to_all}
 use Rattle.read_back.proofs.Listed.{listed_length}
-use Rattle.read_back.proofs.LineLists.{people-append}
+use Rattle.read_back.proofs.LineLists.{people_append}
 use Rattle.read_back.proofs.Definitions.{definitions, definitions_people}
-use Rattle.read_back.proofs.PolicyAgain.{governed-again}
-use Rattle.read_back.proofs.ProcessesPut.{processes-put}
+use Rattle.read_back.proofs.PolicyAgain.{governed_again}
+use Rattle.read_back.proofs.ProcessesPut.{processes_put}
 use Rattle.read_back.proofs.TuplesPut.{tuples_put}
 use Rattle.read_back.proofs.NetLines.{code_at, located, few_addresses, node_ok, lines_total, names_stand}
 
@@ -78,14 +78,14 @@ module _ (s : Net) (r : ℕ → List Row) where
   unfolding node_at with_rows zero_node bare_node
   with_rows_law j w e = ap (λ (y : Node). with_rows y (r j)) e
 
-  ruled-standing :
+  ruled_standing :
       (j : ℕ) (u : Net) → j ≤ 16 → Standing s barely (λ i. zero_node) 0 u
       → Standing s barely (λ i. zero_node) j (ruled 0 (listed j r) u)
   unfolding listed joined ruled
-  ruled-standing zero u h t = t
-  ruled-standing (suc j) u h t =
+  ruled_standing zero u h t = t
+  ruled_standing (suc j) u h t =
       let w : Net = ruled 0 (listed j r) u in
-      let before = ruled-standing j u (omega arith) t in
+      let before = ruled_standing j u (omega arith) t in
       subst (Standing s barely (λ i. zero_node) (suc j))
       (sym (rows_append 0 (listed j r) (r j ∷ []) u
       ∙ ap (λ (i : ℕ). with_node w (address_of i) (with_rows (node_at w (address_of i)) (r j))) (omega (arith, listed_length j r))))
@@ -102,9 +102,9 @@ module _ (s : Net) (ok : NetOk s) where
   started : Standing s (barely s rows_at) (λ i. zero_node) s.addresses start
   started =
       subst (Standing s (barely s rows_at) (λ i. zero_node) s.addresses)
-      (sym (governed-again s ok (total (lines_of s))
+      (sym (governed_again s ok (total (lines_of s))
       ∙ ap (λ (k : ℕ). ruled 0 (listed s.addresses rows_at) (unruled s.format s.addresses k)) (lines_total s ok)))
-      (ruled-standing s rows_at s.addresses _ (few_addresses s ok) (unruled_standing s rows_at))
+      (ruled_standing s rows_at s.addresses _ (few_addresses s ok) (unruled_standing s rows_at))
 
   -- ---- processes and tuples, address after address
   abbrev before : ℕ → Node
@@ -128,19 +128,19 @@ module _ (s : Net) (ok : NetOk s) where
     nodes_are = up_to_none started.nodes_are.size_is (λ i l. refl);
   }
 
-  peopled-at :
+  peopled_at :
       (j m : ℕ) (u : Net) → j < s.addresses → Standing s after before j u
       → peopled place m (lines_at s (address_of j)) u ≡ with_node u (address_of j) (after j)
   unfolding lines_at node_at
-  peopled-at j m u h t =
+  peopled_at j m u h t =
       let few = few_addresses s ok in
       let node = node_ok s ok j h in
       let inside : j < length u.nodes = omega (arith, t.nodes_are.size_is) in
       let slots = node.slots_ok in
       let ruled-at = t.nodes_are.left j (omega arith) (omega arith) ∙ started.nodes_are.done j h (omega arith) in
-      people-append place m (process_lines (address_of j) (after j)) (tuple_lines (address_of j) (after j)) u
+      people_append place m (process_lines (address_of j) (after j)) (tuple_lines (address_of j) (after j)) u
       ∙ tuples_put place s.addresses (address_of j) (after j) node.store_ok u inside _ _
-      (processes-put place s.length (names_stand s ok) (address_of j) (after j) u inside slots.count slots.slots m ruled-at)
+      (processes_put place s.length (names_stand s ok) (address_of j) (after j) u inside slots.count slots.slots m ruled-at)
 
   peopled_standing : (j m : ℕ) → j ≤ s.addresses → Standing s after before j (peopled place m (lines_to j) start)
   unfolding joined peopled
@@ -148,14 +148,14 @@ module _ (s : Net) (ok : NetOk s) where
   peopled_standing (suc j) m h =
       let t = peopled_standing j m (omega arith) in
       subst (Standing s after before (suc j))
-      (sym (people-append place m (lines_to j) (lines_at s (address_of j)) start ∙ peopled-at j _ _ h t))
+      (sym (people_append place m (lines_to j) (lines_at s (address_of j)) start ∙ peopled_at j _ _ h t))
       (standing_next s after before j _ (after j) refl t)
 
   lines_put : Standing s after before s.addresses (peopled place 0 (lines_of s) start)
   unfolding lines_of definitions_of
   lines_put =
       subst (Standing s after before s.addresses)
-      (sym (people-append place 0 (definitions (code_at s) s.length) (located s) start
+      (sym (people_append place 0 (definitions (code_at s) s.length) (located s) start
       ∙ ap (peopled place (0 + total (definitions (code_at s) s.length)) (located s))
       (definitions_people (code_at s) place s.length 0 start)))
       (peopled_standing s.addresses _ (omega arith))
@@ -168,6 +168,6 @@ module _ (s : Net) (ok : NetOk s) where
     length_is = lines_put.length_is;
     code_is = lines_put.code_is;
     nodes_are =
-        up-to-all s.addresses s.nodes ok.nodes_ok.size_is (λ i l. refl)
+        up_to_all s.addresses s.nodes ok.nodes_ok.size_is (λ i l. refl)
         (λ i l m. started.nodes_are.left i l m ∙ (ok.nodes_ok.holds i m).unused l) lines_put.nodes_are;
   }

@@ -81,12 +81,12 @@ module _ (s : Net) (ok : NetOk s) where
       (λ e. map_listed filled s.addresses _ ∙ listed_same _ _ _ (λ a l. filled_again _ _ _ (rows_ok a l) (few_addresses s ok) e))
 
   -- the net of the policies alone, with k instructions
-  pub governed-again :
+  pub governed_again :
       (k : ℕ)
       → governed (policy_of s) k
       ≡ ruled 0 (listed s.addresses (λ a. (node_at s (address_of a)).rows)) (unruled s.format s.addresses k)
   unfolding governed
-  governed-again k = λ d. ruled 0 (rows_again d) (unruled (format_again d) (addresses_again d) k)
+  governed_again k = λ d. ruled 0 (rows_again d) (unruled (format_again d) (addresses_again d) k)
 
   -- ---- well formed
   plain_formed : PolicyFormed (plain (listed s.addresses (λ a. row_at (node_at s (address_of a)) (address_of 0))))

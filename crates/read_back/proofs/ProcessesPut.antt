@@ -21,9 +21,9 @@ use Rattle.linking.specs.Compiled.{total, placed, peopled}
 use Rattle.written.proofs.WrittenProcesses.{Starts, ProcessesOk, bare_node, free, first_busy}
 use Rattle.read_back.specs.Types.{Locality, Place, Process, Node, Net}
 use Rattle.read_back.specs.NetSource.{named, process_lines}
-use Rattle.read_back.proofs.LineLists.{people-append}
-use Rattle.read_back.proofs.UpTo.{UpTo, up_to_none, up_to_next, up_to_skip, up-to-all}
-use Rattle.read_back.proofs.NodeHeld.{held_first, process-put}
+use Rattle.read_back.proofs.LineLists.{people_append}
+use Rattle.read_back.proofs.UpTo.{UpTo, up_to_none, up_to_next, up_to_skip, up_to_all}
+use Rattle.read_back.proofs.NodeHeld.{held_first, process_put}
 
 module _
     (place : Start → Place) (k : ℕ) (right : (j : ℕ) → j < k → place (called j) ≡ place_of j)
@@ -89,7 +89,7 @@ module _
                 is =
                     ap (λ (ls : List Line). peopled place m ls w) (choose_true _ _ _ (busy_at j h ∙ lt-ltb j c (omega arith)))
                     ∙ ap (placed place m (process a (named p.at))) s.is
-                    ∙ process-put a u inside place m y p.at
+                    ∙ process_put a u inside place m y p.at
                     ∙ ap (λ (i : ℕ). with_node u a (with_process y i (starting_at a (place (called p.at.0)))))
                     (counted j (omega arith) s.ps s.slots)
                     ∙ ap (λ (q : Process). with_node u a (with_process y j q))
@@ -101,15 +101,15 @@ module _
       unfolding joined peopled
       slots_started zero m h e = none_started e
       slots_started (suc j) m h e =
-          subst (Started (suc j)) (sym (people-append place m (joined j line) (line j) u))
+          subst (Started (suc j)) (sym (people_append place m (joined j line) (line j) u))
           (next_started j (m + total (joined j line)) _ h (slots_started j m (omega arith) e))
 
-      pub processes-put :
+      pub processes_put :
           (m : ℕ) → node_at u a ≡ bare_node x.rows free
           → peopled place m (process_lines a x) u ≡ with_node u a (bare_node x.rows x.processes)
       unfolding process_lines process_at
-      processes-put m e =
+      processes_put m e =
           let s = slots_started 4 m (omega arith) e in
           s.is
           ∙ ap (λ (ps : List Process). with_node u a (bare_node x.rows ps))
-          (up-to-all 4 x.processes ok.slots_ok.size_is (λ i l. refl) (λ i l g. absurd (omega arith)) s.slots)
+          (up_to_all 4 x.processes ok.slots_ok.size_is (λ i l. refl) (λ i l g. absurd (omega arith)) s.slots)

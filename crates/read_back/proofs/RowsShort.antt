@@ -78,17 +78,17 @@ module _ (n : ℕ) where
   node_short i j _ h g (more {y = r} {ys = rs} f e) =
       simp length-append (omega (arith, origin_row_short i j r h (omega arith) f, node_short i (suc j) rs h (omega arith) e))
 
-  nodes-short :
+  nodes_short :
       (i : ℕ) {before : List (List Row)} (rss : List (List Row)) → n ≤ 16 → i + length rss ≤ 100
       → Each (λ earlier. NodeFormed n) before rss → length (nodes_text i rss) ≤ 2320 * length rss
   unfolding nodes_text
-  nodes-short i _ few h none = omega arith
-  nodes-short i _ few h (more {y = rs} {ys = rss} f e) =
+  nodes_short i _ few h none = omega arith
+  nodes_short i _ few h (more {y = rs} {ys = rss} f e) =
       let count = f.each_origin in
       let node = node_short i 0 rs (omega arith) (omega arith) f.rows in
-      simp length-append (omega (arith, nodes-short (suc i) rss few (omega arith) e))
+      simp length-append (omega (arith, nodes_short (suc i) rss few (omega arith) e))
 
 pub policy_short : (p : Policy) → PolicyFormed p → length (policy_text p) ≤ 37120
 unfolding policy_text
 policy_short _ (one_row {rs = rs} some few e) = omega (arith, rows_short (length rs) 0 rs (omega arith) e)
-policy_short _ (each_origin {rss = rss} some few e) = omega (arith, nodes-short (length rss) 0 rss few (omega arith) e)
+policy_short _ (each_origin {rss = rss} some few e) = omega (arith, nodes_short (length rss) 0 rss few (omega arith) e)

@@ -14,7 +14,7 @@ use Rattle.read_back.proofs.EachLaws.{each_append, each_joined, each_listed, eac
 use Rattle.read_back.proofs.FieldsFormed.{tuple_formed}
 use Rattle.read_back.proofs.PolicyAgain.{scope_again, policy_formed}
 use Rattle.read_back.proofs.LinesCounted.{processes_before, tuples_before}
-use Rattle.read_back.proofs.NetLines.{scope, code_at, located, busy-within, few_instructions, node_ok, code_ok, lines_total, names_are_right}
+use Rattle.read_back.proofs.NetLines.{scope, code_at, located, busy_within, few_instructions, node_ok, code_ok, lines_total, names_are_right}
 use Rattle.read_back.proofs.NetAgain.{compiled_again}
 
 name_formed : (x : Scope) (d : ℕ) (p : Place) → p.0 < 512 → ProcessFormed x d (named p)
@@ -31,7 +31,7 @@ module _ (s : Net) (ok : NetOk s) where
       let node = node_ok s ok a h in
       each_append _
       (each_joined _ 4 _ (λ j l. each_chosen _ _ _ (λ e.
-      let within = busy-within _ _ _ _ node.slots_ok.slots j l e in
+      let within = busy_within _ _ _ _ node.slots_ok.slots j l e in
       let room = processes_before s (code_at s) s.length a j in
       let few = few_instructions s ok in
       runs h (omega arith) (name_formed (scope s) 32 _ (omega arith)))))

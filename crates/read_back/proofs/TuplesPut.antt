@@ -21,8 +21,8 @@ use Rattle.written.proofs.WrittenStore.{TuplesOk}
 use Rattle.written.proofs.WrittenTuples.{marked_again}
 use Rattle.read_back.specs.Types.{Locality, Place, Tuple, Node, Net}
 use Rattle.read_back.specs.NetSource.{listed, tuple_lines}
-use Rattle.read_back.proofs.LineLists.{people-append}
-use Rattle.read_back.proofs.UpTo.{UpTo, up_to_none, up_to_next, up-to-all}
+use Rattle.read_back.proofs.LineLists.{people_append}
+use Rattle.read_back.proofs.UpTo.{UpTo, up_to_none, up_to_next, up_to_all}
 use Rattle.read_back.proofs.NodeHeld.{tuple_put}
 
 module _
@@ -65,7 +65,7 @@ module _
     unfolding listed joined peopled
     tuples_stored zero m w h s = s
     tuples_stored (suc j) m w h s =
-        subst (Stored (suc j)) (sym (people-append place m (listed j tuple_line) (tuple_line j ∷ []) w))
+        subst (Stored (suc j)) (sym (people_append place m (listed j tuple_line) (tuple_line j ∷ []) w))
         (next_stored j (m + total (listed j tuple_line)) _ h (tuples_stored j m w (omega arith) s))
 
     pub tuples_put :
@@ -79,5 +79,5 @@ module _
         }) in
         s.is
         ∙ ap (λ (ts : List Tuple). with_node u a (storing x.stored ts))
-        (up-to-all x.stored x.tuples ok.tuples_ok.size_is (λ i l. refl)
+        (up_to_all x.stored x.tuples ok.tuples_ok.size_is (λ i l. refl)
         (λ i l g. (ok.tuples_ok.holds i g).unused l) s.store)

@@ -45,10 +45,10 @@ module _ {A : Type 0} {g h : ℕ → A} {d : A} {size : ℕ} {xs : List A} where
       go i l m (no p) = u.done i (omega arith) m
 
   -- the array whose first places are filled, and whose others stand already
-  pub up-to-all :
+  pub up_to_all :
       (j : ℕ) (ys : List A) → length ys ≡ size → ((i : ℕ) → i < size → get_or ys i d ≡ g i)
       → ((i : ℕ) → j ≤ i → i < size → h i ≡ g i) → UpTo g h d size j xs → xs ≡ ys
-  up-to-all j ys e f rest u =
+  up_to_all j ys e f rest u =
       ext_get_or d xs ys (u.size_is ∙ sym e) (λ i l.
       let m : i < size = omega (arith, u.size_is) in
       go i m (dec_le j i) ∙ sym (f i m))

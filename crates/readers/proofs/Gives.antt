@@ -34,24 +34,24 @@ module _ {N : ℕ → Type 0} {A : Type 0} where
   gives_weaken g f = record { run = λ s p. fine_weaken f (g.run s p) }
 
 module _ {N : ℕ → Type 0} {A B : Type 0} where
-  fine-then :
+  fine_then :
       {P : A → Type 0} {Q : B → Type 0} {o : Parsed A} (f : A → Reader B) (s : List ℕ) → Fine N P o
       → ((a : A) → P a → Gives N (f a) Q) → Fine N Q (and_then o s f)
   unfolding and_then
-  fine-then f s (value {a} {q} h) g = (g a h).run s q
-  fine-then f s (stopped l) g = stopped l
+  fine_then f s (value {a} {q} h) g = (g a h).run s q
+  fine_then f s (stopped l) g = stopped l
 
   pub gives_then :
       {P : A → Type 0} {Q : B → Type 0} {m : Reader A} {f : A → Reader B} → Gives N m P
       → ((a : A) → P a → Gives N (f a) Q) → Gives N (m >>= f) Q
   unfolding ◌>>=◌
-  gives_then {f} g h = record { run = λ s p. fine-then f s (g.run s p) h }
+  gives_then {f} g h = record { run = λ s p. fine_then f s (g.run s p) h }
 
-  pub gives-and :
+  pub gives_and :
       {P : A → Type 0} {Q : B → Type 0} {m : Reader A} {f : Reader B} → Gives N m P
       → ((a : A) → P a → Gives N f Q) → Gives N (m >> f) Q
   unfolding ◌>>◌
-  gives-and g h = gives_then g h
+  gives_and g h = gives_then g h
 
 -- ---- turns: the invariant speaks of the number of turns done
 module _ {N : ℕ → Type 0} {A : Type 0} (Inv : ℕ → A → Type 0) (n : ℕ) (f : ℕ → A → Reader A)
@@ -73,12 +73,12 @@ module _ {N : ℕ → Type 0} {A : Type 0} (P : A → Type 0) where
   unfolding alternative
   gives_last last k g = g
 
-  pub gives-first :
+  pub gives_first :
       (r : Reader A) (rs : List (Reader A)) (last : Reader A) (k : ℕ) → Gives N r P
       → ((j : ℕ) → k ≡ suc j → Gives N (alternative rs last j) P) → Gives N (alternative (r ∷ rs) last k) P
   unfolding alternative
-  gives-first r rs last zero g h = g
-  gives-first r rs last (suc j) g h = h j refl
+  gives_first r rs last zero g h = g
+  gives_first r rs last (suc j) g h = h j refl
 
   pub gives_choice : (b : Bool) (m r : Reader A) → Gives N m P → Gives N r P → Gives N (choose b m r) P
   unfolding choose
@@ -86,38 +86,38 @@ module _ {N : ℕ → Type 0} {A : Type 0} (P : A → Type 0) where
   gives_choice false m r g h = h
 
 -- ---- a test
-pub fine-unless :
+pub fine_unless :
     {N : ℕ → Type 0} {A : Type 0} (P : A → Type 0) (b : Bool) (o : Parsed A) (n at w : ℕ) → N n → (b ≡ true → Fine N P o)
     → Fine N P (choose b o (fault (fault_at n at w)))
 unfolding choose fault_at
-fine-unless P true o n at w l h = h refl
-fine-unless P false o n at w l h = stopped l
+fine_unless P true o n at w l h = h refl
+fine_unless P false o n at w l h = stopped l
 
 pub gives_require_in : {N : ℕ → Type 0} (at w : ℕ) (ok : Bool) (n : ℕ) → N n → Gives N (require_in at w ok n) (λ _. ok ≡ true)
 unfolding require_in
-gives_require_in at w ok n l = record { run = λ s p. fine-unless (λ _. ok ≡ true) ok (got tt p) n at w l (λ e. value e) }
+gives_require_in at w ok n l = record { run = λ s p. fine_unless (λ _. ok ≡ true) ok (got tt p) n at w l (λ e. value e) }
 
 pub gives_require : {N : ℕ → Type 0} (ok : Bool) (n : ℕ) → N n → Gives N (require ok n) (λ _. ok ≡ true)
 unfolding require
 gives_require ok n l = record { run = λ s p. (gives_require_in p 0 ok n l).run s p }
 
 -- a value that has to pass it
-pub gives-tested :
+pub gives_tested :
     {N : ℕ → Type 0} {A : Type 0} {P : A → Type 0} {m : Reader A} (test : A → Bool) (n : ℕ) → N n → Gives N m P
     → Gives N (m >>= (λ a. require (test a) n >> pure a)) (λ a. P a × (test a ≡ true))
-gives-tested test n l g = gives_then g (λ a h. gives-and (gives_require (test a) n l) (λ _ e. gives_pure _ a (h, e)))
+gives_tested test n l g = gives_then g (λ a h. gives_and (gives_require (test a) n l) (λ _ e. gives_pure _ a (h, e)))
 
 -- a field that has to
-gives-through :
+gives_through :
     {N : ℕ → Type 0} {A : Type 0} {P : A → Type 0} {m : Reader A} (at w : ℕ) (test : A → Bool) (n : ℕ) → N n → Gives N m P
     → Gives N (m >>= (λ a. require_in at w (test a) n >> pure a)) (λ a. P a × (test a ≡ true))
-gives-through at w test n l g = gives_then g (λ a h. gives-and (gives_require_in at w (test a) n l) (λ _ e. gives_pure _ a (h, e)))
+gives_through at w test n l g = gives_then g (λ a h. gives_and (gives_require_in at w (test a) n l) (λ _ e. gives_pure _ a (h, e)))
 
-pub gives-passing :
+pub gives_passing :
     {N : ℕ → Type 0} {A : Type 0} {P : A → Type 0} {m : Reader A} (w : ℕ) (test : A → Bool) (n : ℕ) → N n → Gives N m P
     → Gives N (tested w m test n) (λ a. P a × (test a ≡ true))
 unfolding tested
-gives-passing w test n l g = record { run = λ s p. (gives-through p w test n l g).run s p }
+gives_passing w test n l g = record { run = λ s p. (gives_through p w test n l g).run s p }
 
 -- ---- whatever the number of a fault
 abbrev pub Any : ℕ → Type 0
@@ -138,8 +138,8 @@ module _ {N : ℕ → Type 0} {A : Type 0} where
   fine_at P (Step.At q) a (fault f) e g z = no_fault (sym e)
   fine_at P (Step.Failed f) a o e g z = never z
 
-  pub went-gives :
+  pub went_gives :
       (s : List ℕ) (p q : Step) (m : Reader A) (P : A → Type 0) (a : A) → Gives N m P → Went s p m q a → reached q ≡ true → P a
   unfolding run_from
-  went-gives s (Step.At p) q m P a g w h = fine_at P q a (m s p) w.went (g.run s p) h
-  went-gives s (Step.Failed f) q m P a g w h = absurd (no_outcome q a f w.went h)
+  went_gives s (Step.At p) q m P a g w h = fine_at P q a (m s p) w.went (g.run s p) h
+  went_gives s (Step.Failed f) q m P a g w h = absurd (no_outcome q a f w.went h)

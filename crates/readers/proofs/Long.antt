@@ -33,24 +33,24 @@ module _ {A : Type 0} where
   span_got : {P : A → ℕ → Type 0} {s : List ℕ} {p q : ℕ} {a : A} → Spans s p P (got a q) → Span s p q (P a)
   span_got (value h) = h
 
-  pub long-got :
+  pub long_got :
       {P : A → ℕ → Type 0} {m : Reader A} → Long m P → (s : List ℕ) (p : ℕ) (a : A) (q : ℕ) → m s p ≡ got a q
       → Span s p q (P a)
-  long-got {P} l s p a q e = span_got (subst (λ (o : Parsed A). Spans s p P o) e (l.run s p))
+  long_got {P} l s p a q e = span_got (subst (λ (o : Parsed A). Spans s p P o) e (l.run s p))
 
   pub long_pure : (P : A → ℕ → Type 0) (a : A) → P a 0 → Long (pure a) P
   unfolding pure
   long_pure P a h = record { run = λ s p. value {q = p} (record { count = 0; end = omega arith; within = omega arith; holds = h }) }
 
-  spans-weaken :
+  spans_weaken :
       {P Q : A → ℕ → Type 0} {s : List ℕ} {p : ℕ} {o : Parsed A} → ((a : A) (i : ℕ) → P a i → Q a i)
       → Spans s p P o → Spans s p Q o
-  spans-weaken f (value {a} h) =
+  spans_weaken f (value {a} h) =
       value (record { count = h.count; end = h.end; within = h.within; holds = f a h.count h.holds })
-  spans-weaken f stopped = stopped
+  spans_weaken f stopped = stopped
 
   pub long_weaken : {P Q : A → ℕ → Type 0} {m : Reader A} → Long m P → ((a : A) (i : ℕ) → P a i → Q a i) → Long m Q
-  long_weaken l f = record { run = λ s p. spans-weaken f (l.run s p) }
+  long_weaken l f = record { run = λ s p. spans_weaken f (l.run s p) }
 
   pub long_choice : (P : A → ℕ → Type 0) (b : Bool) (m r : Reader A) → Long m P → Long r P → Long (choose b m r) P
   unfolding choose
@@ -66,24 +66,24 @@ spans_on i e w (value {q = r} h) =
 spans_on i e w stopped = stopped
 
 module _ {A B : Type 0} where
-  spans-then :
+  spans_then :
       {P : A → ℕ → Type 0} {Q : B → ℕ → Type 0} {s : List ℕ} {p : ℕ} {o : Parsed A} (f : A → Reader B) → Spans s p P o
       → ((a : A) (i : ℕ) → P a i → Long (f a) (λ b j. Q b (i + j))) → Spans s p Q (and_then o s f)
   unfolding and_then
-  spans-then {s} f (value {a} {q} h) g = spans_on h.count h.end h.within ((g a h.count h.holds).run s q)
-  spans-then f stopped g = stopped
+  spans_then {s} f (value {a} {q} h) g = spans_on h.count h.end h.within ((g a h.count h.holds).run s q)
+  spans_then f stopped g = stopped
 
-  pub long-then :
+  pub long_then :
       {P : A → ℕ → Type 0} {Q : B → ℕ → Type 0} {m : Reader A} {f : A → Reader B} → Long m P
       → ((a : A) (i : ℕ) → P a i → Long (f a) (λ b j. Q b (i + j))) → Long (m >>= f) Q
   unfolding ◌>>=◌
-  long-then {f} l h = record { run = λ s p. spans-then f (l.run s p) h }
+  long_then {f} l h = record { run = λ s p. spans_then f (l.run s p) h }
 
-  pub long-and :
+  pub long_and :
       {P : A → ℕ → Type 0} {Q : B → ℕ → Type 0} {m : Reader A} {f : Reader B} → Long m P
       → ((a : A) (i : ℕ) → P a i → Long f (λ b j. Q b (i + j))) → Long (m >> f) Q
   unfolding ◌>>◌
-  long-and l h = long-then l h
+  long_and l h = long_then l h
 
 -- ---- readers of which no more is said than that they do not go back, nor past the end
 pub goes : {A : Type 0} {P : A → ℕ → Type 0} {m : Reader A} → Long m P → Long m Any
@@ -93,10 +93,10 @@ pub goes_pure : {A : Type 0} (a : A) → Long (pure a) Any
 goes_pure a = long_pure Any a tt
 
 pub goes_then : {A B : Type 0} {m : Reader A} {f : A → Reader B} → Long m Any → ((a : A) → Long (f a) Any) → Long (m >>= f) Any
-goes_then l h = long-then l (λ a _ _. h a)
+goes_then l h = long_then l (λ a _ _. h a)
 
 pub goes_and : {A B : Type 0} {m : Reader A} {f : Reader B} → Long m Any → Long f Any → Long (m >> f) Any
-goes_and l h = long-and l (λ _ _ _. h)
+goes_and l h = long_and l (λ _ _ _. h)
 
 pub goes_choice : {A : Type 0} (b : Bool) (m r : Reader A) → Long m Any → Long r Any → Long (choose b m r) Any
 goes_choice b m r l h = long_choice Any b m r l h

@@ -93,10 +93,10 @@ module _ {B : Type 0} (g : List B → List ℕ) (none : g [] ≡ []) (both : (a 
       omega (arith, last, product)
 
   -- so many at most
-  some-short :
+  some_short :
       (count size m : ℕ) (f : ℕ → List B) → ((i : ℕ) → i < size → length (g (f i)) ≤ m)
       → length (g (joined (fewer count size) f)) ≤ size * m
-  some-short count size m f h =
+  some_short count size m f h =
       let few = fewer_below count size in
       let some = parts_short (fewer count size) m f (λ i l. h i (omega (arith, few))) in
       le_trans some (mul-le-mul_right m few)
@@ -146,7 +146,7 @@ made_short i b x h g l =
 fields_short : (t : Tuple) → length (spaced (field_words t)) ≤ 88
 unfolding field_words
 fields_short t =
-    some-short spaced spaced_none spaced_both t.count 4 22 _ (λ i _. word_more _ _ 21 0 (item_short (field_at t i)) no_words)
+    some_short spaced spaced_none spaced_both t.count 4 22 _ (λ i _. word_more _ _ 21 0 (item_short (field_at t i)) no_words)
 
 mark_short : (parts : Parts) (t : Tuple) → length (spaced (mark_words parts t)) ≤ 26
 unfolding mark_words bytes word_text
@@ -162,7 +162,7 @@ tuple_short parts a t =
 tuples_short : (parts : Parts) (a : Locality) (x : Node) → length (printed (tuple_lines parts a x)) ≤ 2256
 unfolding tuple_lines
 tuples_short parts a x =
-    some-short printed printed_none printed_both x.stored 16 141 _ (λ i _. tuple_short parts a (tuple_at x i))
+    some_short printed printed_none printed_both x.stored 16 141 _ (λ i _. tuple_short parts a (tuple_at x i))
 
 -- of names that are no longer than an entry's
 module _ (shown : Shown) (short : (l : Locality) → length (shown.names l) ≤ 15) where
@@ -174,7 +174,7 @@ module _ (shown : Shown) (short : (l : Locality) → length (shown.names l) ≤ 
   net_lines_short : (s : Net) → length (printed (net_lines shown s)) ≤ 37440
   unfolding net_lines
   net_lines_short s =
-      some-short printed printed_none printed_both s.addresses 16 2340 _
+      some_short printed printed_none printed_both s.addresses 16 2340 _
       (λ a _. address_short s (address_of a))
 
 total_short : (n : ℕ) → length (printed (total_line n ∷ [])) ≤ 27
@@ -213,11 +213,11 @@ take_small [] (suc n) h i = omega arith
 take_small (b ∷ bs) (suc n) h zero = h 0
 take_small (b ∷ bs) (suc n) h (suc i) = take_small bs n (λ j. h (suc j)) i
 
-picks-short :
+picks_short :
     (picks : List ℕ) (r : Ran) → length picks ≤ 65536 → ((i : ℕ) → get_or picks i 0 < 256)
     → length (printed (pick_lines picks (numbers r))) ≤ 1245184
 unfolding pick_lines numbers
-picks-short picks r h g =
+picks_short picks r h g =
     let each = parts_short printed printed_none printed_both (length picks) 19 _
     (λ i l. made_short (i + 1) _ _ (omega arith) (g i) (answers_small r.answers i)) in
     le_trans each (mul-le-mul_right 19 h)
@@ -228,14 +228,14 @@ module _ (shown : Shown) (short : (l : Locality) → length (shown.names l) ≤ 
   after_short s =
       two_short printed printed_none printed_both _ _ 37440 27 (net_lines_short shown short s) (closing_short shown.parts s)
 
-  register-short :
+  register_short :
       (s : Net) (picks : List ℕ) (x : Outcome) → length picks ≤ 65536 → ((i : ℕ) → get_or picks i 0 < 256)
       → length (register_in shown s picks x) ≤ longest
   unfolding register_in register_lines longest
-  register-short s picks (refused f) h g = omega (arith, refused_at_short shown.parts f)
-  register-short s picks (refused_text n) h g = omega (arith, refused_short n)
-  register-short s picks (ran r) h g =
-      let rest = two_short printed printed_none printed_both _ _ _ _ (picks-short picks r h g) (after_short r.net) in
+  register_short s picks (refused f) h g = omega (arith, refused_at_short shown.parts f)
+  register_short s picks (refused_text n) h g = omega (arith, refused_short n)
+  register_short s picks (ran r) h g =
+      let rest = two_short printed printed_none printed_both _ _ _ _ (picks_short picks r h g) (after_short r.net) in
       let whole = lines_short _ _ 46 _ (net_short s.addresses s.length) rest in
       omega (arith, whole)
 
@@ -244,7 +244,7 @@ module _ (shown : Shown) (short : (l : Locality) → length (shown.names l) ≤ 
       (s : Net) (picks : List ℕ) (x : Outcome) → ((i : ℕ) → get_or picks i 0 < 256)
       → length (register_in shown s (take 65536 picks) x) ≤ longest
   first_short s picks x h =
-      register-short s (take 65536 picks) x (omega (arith, length-take 65536 picks)) (take_small picks 65536 h)
+      register_short s (take 65536 picks) x (omega (arith, length-take 65536 picks)) (take_small picks 65536 h)
 
 no_names_short : (parts : Parts) (l : Locality) → length ((unnamed parts).names l) ≤ 15
 unfolding unnamed

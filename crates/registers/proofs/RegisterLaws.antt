@@ -86,10 +86,10 @@ module _ (s : Net) (picks xs : List ℕ) (room : length picks ≤ length xs) whe
   picks_answers ys e = e ∙ choose_true _ _ _ (le-leb _ _ room)
 
 -- the line of a net
-pub start-line :
+pub start_line :
     (s t : Net) (xs ys : List ℕ) (r : ℕ) → t ≡ s → Wrote xs 0 (printed (net_line t.addresses t.length ∷ [])) ys r
     → Wrote xs 0 (printed (net_line s.addresses s.length ∷ [])) ys r
-start-line s t xs ys r e w = subst (λ (z : Net). Wrote xs 0 (printed (net_line z.addresses z.length ∷ [])) ys r) e w
+start_line s t xs ys r e w = subst (λ (z : Net). Wrote xs 0 (printed (net_line z.addresses z.length ∷ [])) ys r) e w
 
 module _
     (shown : Shown) (s : Net) (picks xs ys : List ℕ) (last : Net) (net_is : last ≡ (lean_ran_from s picks).net)
@@ -107,72 +107,72 @@ module _
         (ap (λ (zs : List ℕ). get_or zs i 0) left_is
         ∙ over_at xs _ i (omega (arith, numbers_length)) (omega (arith, numbers_length))))
 
-    pub register-run :
+    pub register_run :
         (out₀ out₁ out₂ out₃ : List ℕ) (p q r : ℕ)
         → Wrote out₀ 0 (printed (net_line s.addresses s.length ∷ [])) out₁ p
         → Wrote out₁ p (printed (pick_lines picks ys)) out₂ q
         → Wrote out₂ q (printed (after_lines shown last)) out₃ r
         → Wrote out₀ 0 (register_in shown s picks (ran (lean_ran_from s picks))) out₃ r
     unfolding register_in register_lines
-    register-run out₀ out₁ out₂ out₃ p q r a b c =
+    register_run out₀ out₁ out₂ out₃ p q r a b c =
         lines_then _ _ _ _ _ _ _ _ a
         (parts_then printed printed_none printed_both _ _ _ _ _ _ _ _
         (subst (λ (t : List (List Word)). Wrote out₁ p (printed t) out₂ q) lines_same b)
         (subst (λ (z : Net). Wrote out₂ q (printed (after_lines shown z)) out₃ r) net_is c))
 
 -- of the net and the outcome that the image or the text has
-register-as :
+register_as_law :
     (shown : Shown) (picks xs ys : List ℕ) (r : ℕ) (s t : Net) (x y : Outcome) → s ≡ t → x ≡ y → Wrote xs 0 (register_in shown s picks x) ys r
     → Wrote xs 0 (register_in shown t picks y) ys r
-register-as shown picks xs ys r s t x y d e w = rw (← d, ← e) w
+register_as_law shown picks xs ys r s t x y d e w = rw (← d, ← e) w
 
 module _
     (parts : Parts) (site office image picks : List ℕ) (answer : Verdict) (s : Net) (judged : answer ≡ (opened_of image).answer)
     (net_is : s ≡ (opened_of image).net) (xs ys : List ℕ) (r : ℕ)
   where
-    pub register-accepted :
+    pub register_accepted :
         answer ≡ Verdict.Accepted
         → Wrote xs 0 (register_in (named parts site office) s (take 65536 picks) (ran (lean_ran_from s (take 65536 picks)))) ys r
         → Wrote xs 0 (register_as (named parts site office) image picks) ys r
     unfolding register_as
-    register-accepted a w =
-        register-as _ _ xs ys r _ _ _ _ net_is (engine_ran image answer s judged net_is (take 65536 picks) a) w
+    register_accepted a w =
+        register_as_law _ _ xs ys r _ _ _ _ net_is (engine_ran image answer s judged net_is (take 65536 picks) a) w
 
-    pub register-refused :
+    pub register_refused :
         (f : Fault) → answer ≡ Verdict.Refused f → Wrote xs 0 (printed (refused_line parts f ∷ [])) ys r
         → Wrote xs 0 (register_as (named parts site office) image picks) ys r
     unfolding register_as register_in register_lines named
-    register-refused f a w =
-        register-as _ _ xs ys r _ _ _ _ net_is (engine_refused image answer s judged net_is (take 65536 picks) f a) w
+    register_refused f a w =
+        register_as_law _ _ xs ys r _ _ _ _ net_is (engine_refused image answer s judged net_is (take 65536 picks) f a) w
 
 module _
     (parts : Parts) (site office text picks : List ℕ) (answer : TextVerdict) (s : Net) (judged : answer ≡ (read_of text).answer)
     (net_is : s ≡ (read_of text).net) (xs ys : List ℕ) (r : ℕ)
   where
-    pub text-accepted :
+    pub text_accepted :
         answer ≡ TextVerdict.Accepted
         → Wrote xs 0 (register_in (named parts site office) s (take 65536 picks) (ran (lean_ran_from s (take 65536 picks)))) ys r
         → Wrote xs 0 (register_text_as (named parts site office) text picks) ys r
     unfolding register_text_as
-    text-accepted a w =
-        register-as _ _ xs ys r _ _ _ _ net_is (text_engine_ran text answer s judged net_is (take 65536 picks) a) w
+    text_accepted a w =
+        register_as_law _ _ xs ys r _ _ _ _ net_is (text_engine_ran text answer s judged net_is (take 65536 picks) a) w
 
-    pub text-refused :
+    pub text_refused :
         (n : ℕ) → answer ≡ TextVerdict.Refused n → Wrote xs 0 (printed (refusal_line n ∷ [])) ys r
         → Wrote xs 0 (register_text_as (named parts site office) text picks) ys r
     unfolding register_text_as register_in register_lines
-    text-refused n a w =
-        register-as _ _ xs ys r _ _ _ _ net_is (text_engine_refused text answer s judged net_is (take 65536 picks) n a) w
+    text_refused n a w =
+        register_as_law _ _ xs ys r _ _ _ _ net_is (text_engine_refused text answer s judged net_is (take 65536 picks) n a) w
 
 -- ---- without names
 module _ (parts : Parts) (source picks xs ys : List ℕ) (r : ℕ) where
   pub unnamed_as : Wrote xs 0 (register_as (named parts [] []) source picks) ys r → Wrote xs 0 (register_as (unnamed parts) source picks) ys r
   unnamed_as w = subst (λ (shown : Shown). Wrote xs 0 (register_as shown source picks) ys r) (named_none parts) w
 
-  pub unnamed-text-as :
+  pub unnamed_text_as :
       Wrote xs 0 (register_text_as (named parts [] []) source picks) ys r
       → Wrote xs 0 (register_text_as (unnamed parts) source picks) ys r
-  unnamed-text-as w = subst (λ (shown : Shown). Wrote xs 0 (register_text_as shown source picks) ys r) (named_none parts) w
+  unnamed_text_as w = subst (λ (shown : Shown). Wrote xs 0 (register_text_as shown source picks) ys r) (named_none parts) w
 
 -- ---- all that there is to show
 module _ (parts : Parts) (all : parts ≡ all_parts) (source picks xs ys : List ℕ) (r : ℕ) where
@@ -180,27 +180,27 @@ module _ (parts : Parts) (all : parts ≡ all_parts) (source picks xs ys : List 
   unfolding register_of current
   current_as w = subst (λ (p : Parts). Wrote xs 0 (register_as (unnamed p) source picks) ys r) all w
 
-  pub current-text-as :
+  pub current_text_as :
       Wrote xs 0 (register_text_as (unnamed parts) source picks) ys r → Wrote xs 0 (register_text_of source picks) ys r
   unfolding register_text_of current
-  current-text-as w = subst (λ (p : Parts). Wrote xs 0 (register_text_as (unnamed p) source picks) ys r) all w
+  current_text_as w = subst (λ (p : Parts). Wrote xs 0 (register_text_as (unnamed p) source picks) ys r) all w
 
-  pub named-as :
+  pub named_as :
       (site office : List ℕ) → Wrote xs 0 (register_as (named parts site office) source picks) ys r
       → Wrote xs 0 (named_register_of site office source picks) ys r
   unfolding named_register_of
-  named-as site office w = subst (λ (p : Parts). Wrote xs 0 (register_as (named p site office) source picks) ys r) all w
+  named_as site office w = subst (λ (p : Parts). Wrote xs 0 (register_as (named p site office) source picks) ys r) all w
 
-  pub named-text-as :
+  pub named_text_as :
       (site office : List ℕ) → Wrote xs 0 (register_text_as (named parts site office) source picks) ys r
       → Wrote xs 0 (named_register_text_of site office source picks) ys r
   unfolding named_register_text_of
-  named-text-as site office w = subst (λ (p : Parts). Wrote xs 0 (register_text_as (named p site office) source picks) ys r) all w
+  named_text_as site office w = subst (λ (p : Parts). Wrote xs 0 (register_text_as (named p site office) source picks) ys r) all w
 
 -- ---- the picks that count
-pub register-first :
+pub register_first :
     (picks : List ℕ) (n : ℕ) (shown : Shown) (s : Net) (xs ys : List ℕ) (r : ℕ) → take n picks ≡ take 65536 picks
     → Wrote xs 0 (register_in shown s (take n picks) (ran (lean_ran_from s (take n picks)))) ys r
     → Wrote xs 0 (register_in shown s (take 65536 picks) (ran (lean_ran_from s (take 65536 picks)))) ys r
-register-first picks n shown s xs ys r e w =
+register_first picks n shown s xs ys r e w =
     subst (λ (p : List ℕ). Wrote xs 0 (register_in shown s p (ran (lean_ran_from s p))) ys r) e w

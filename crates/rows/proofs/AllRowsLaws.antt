@@ -22,7 +22,7 @@ use Rattle.rows.specs.Types.{Step, Row, Net}
 use Rattle.rows.specs.Rows.{is_row, row, rows_after, within, all_within, rows}
 use Rattle.rows.specs.Policies.{plain_rows}
 use Rattle.rows.specs.Progress.{RowsRead, holds_at, Ruling, Gathered, Ruled}
-use Rattle.rows.proofs.RuledLaws.{plain_more, counted-anew, rows_within}
+use Rattle.rows.proofs.RuledLaws.{plain_more, counted_anew, rows_within}
 
 -- ---- whether a row comes next, of at most sixteen: `here` says whether one stands here
 pub next_row : (n : ℕ) (here r : Bool) → n < 16 → r ≡ here → r ≡ both (ltb n 16) here
@@ -89,11 +89,11 @@ module _ (s : List ℕ) where
       (ap (λ (m : Reader (List Row)). m s p) (choose_true _ _ _ t) ∙ after s (Step.At p) q (row (length rs)) _ r (rw c w))
   one_row (Step.Failed f) q k j n rs r e t c w = never t
 
-  pub ruling-more :
+  pub ruling_more :
       (p q : Step) (n : ℕ) (net with : Net) (more : Bool) (r : Row) (rs : List Row) → more ≡ true → Ruling s p n net
       → more ≡ both (ltb n 16) (holds_at is_row s p) → Went s p (row n) q r → rs ≡ alike r
       → with ≡ with_node net (address_of n) (with_rows (node_at net (address_of n)) rs) → Ruling s q (n + 1) with
-  ruling-more p q n net with more r rs t l e w same put =
+  ruling_more p q n net with more r rs t l e w same put =
       let place : n < 16 = has_place n (holds_at is_row s p) more e t in
       record {
         read = l.read ++ (r ∷ []);
@@ -122,7 +122,7 @@ module _ (s : List ℕ) where
   gathered p last n net more another f l e d w = record {
     read = l.read;
     within = omega (arith, l.count, l.within);
-    standing = counted-anew (plain l.read) net n l.standing l.count;
+    standing = counted_anew (plain l.read) net n l.standing l.count;
     went = record {
       went =
           (last_row s is_row l.read (λ k. rows_after k l.read) (none_more l.read) (one_too_many l.read) p last n more another f e d w).went
@@ -135,12 +135,12 @@ module _ (s : List ℕ) where
   unfolding addresses_of
   few_gathered r g = omega (arith, ap (λ (x : Net). x.addresses) g.standing, governed_addresses (plain g.read) 0, g.within)
 
-  pub judged-rows :
+  pub judged_rows :
       (r : RowsRead) (counted last : Step) (good : Bool) → Gathered s r → Went s r.next (require (leb 1 r.net.addresses) 31) counted tt
       → good ≡ all r.net.addresses (λ i. within r.net.addresses (row_at (node_at r.net (address_of i)) (address_of i)))
       → Went s counted (require good 23) last tt → Ruled s plain_rows (record { net = r.net; next = last })
   unfolding rows plain_rows addresses_of
-  judged-rows r counted last good g v e w =
+  judged_rows r counted last good g v e w =
       let count : r.net.addresses ≡ length g.read =
       ap (λ (x : Net). x.addresses) g.standing ∙ governed_addresses (plain g.read) 0 in
       let fits : good ≡ all_within g.read = e ∙ rows_within g.read r.net g.within g.standing in

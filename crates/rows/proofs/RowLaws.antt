@@ -51,11 +51,11 @@ module _ (s : List ℕ) (p : ℕ) where
   no_more : (q : ℕ) → Digits s p q → is_digit (byte_at s q) ≡ false → q ≡ p + digits_from (length s) s p
   no_more q l d = omega (arith, l.rest, none (length s - (q - p)) q d)
 
-  pub digits-stop :
+  pub digits_stop :
       (q b : ℕ) (digital : Bool) → Digits s p q → b ≡ get_or s q 0 → digital ≡ is_digit b → digital ≡ false
       → q ≡ p + digits_from (length s) s p
   unfolding byte_at
-  digits-stop q b digital l e d f = no_more q l (ap is_digit (sym e) ∙ sym d ∙ f)
+  digits_stop q b digital l e d f = no_more q l (ap is_digit (sym e) ∙ sym d ∙ f)
 
   no_digit : (b : ℕ) → 0 ≡ b → is_digit b ≡ false
   unfolding is_digit both
@@ -76,10 +76,10 @@ module _ (s w : List ℕ) where
   word_stands p q r v e = e ∙ got_place q ∙ ap is_got v.went
 
 module _ (w s : List ℕ) (p b : ℕ) (digital : Bool) (e : b ≡ byte_at s p) (d : digital ≡ is_digit b) where
-  pub opens-is :
+  pub opens_is :
       (q : ℕ) (r : Bool) → digital ≡ true → q ≡ p + digits_from (length s) s p → r ≡ stands_at w s q → r ≡ opens_with w s p
   unfolding opens_with both
-  opens-is q r t a h = let one : is_digit (byte_at s p) ≡ true = ap is_digit (sym e) ∙ sym d ∙ t in rw (one, ← a) h
+  opens_is q r t a h = let one : is_digit (byte_at s p) ≡ true = ap is_digit (sym e) ∙ sym d ∙ t in rw (one, ← a) h
 
   pub opens_none : digital ≡ false → false ≡ opens_with w s p
   unfolding opens_with both
@@ -118,13 +118,13 @@ module _ (s : List ℕ) where
 
 -- ---- the rights over an address
 module _ (s : List ℕ) where
-  pub rights-read :
+  pub rights_read :
       (p₀ p₁ p₂ p₃ p₄ q : Step) (i r o e some : Bool) → Went s p₀ (optional 105) p₁ i → Went s p₁ (optional 114) p₂ r
       → Went s p₂ (optional 111) p₃ o → Went s p₃ (optional 101) p₄ e
       → some ≡ any_right (record { take = i; read = r; put = o; send = e }) → Went s p₄ (require some 31) q tt
       → Went s p₀ rights q (record { take = i; read = r; put = o; send = e })
   unfolding rights
-  rights-read p₀ p₁ p₂ p₃ p₄ q i r o e some a b c d t v =
+  rights_read p₀ p₁ p₂ p₃ p₄ q i r o e some a b c d t v =
       on s p₀ p₁ q _ _ i _ a
       (on s p₁ p₂ q _ _ r _ b
       (on s p₂ p₃ q _ _ o _ c (on s p₃ p₄ q _ _ e _ d (next s p₄ q q _ _ tt _ (rw t at v) (stop s q _)))))
@@ -142,12 +142,12 @@ module _ (s : List ℕ) (c : ℕ) where
   not_present (got x q) k e = let z : false ≡ true = cc in never z
   not_present (fault f) k e = no_fault (sym e)
 
-  still-missing :
+  still_missing :
       (p k : ℕ) (t : Bool) → eqb (byte_at s p) c ≡ t → got false k ≡ optional c s p
       → Went s (Step.At k) (optional c) (Step.At k) false
   unfolding optional look present ◌>>◌ ◌>>=◌ pure choose run_from outcome
-  still-missing p k true e v = not_present (byte c s p) k (rw e at v)
-  still-missing p k false e v =
+  still_missing p k true e v = not_present (byte c s p) k (rw e at v)
+  still_missing p k false e v =
       let stays : got false k ≡ got false p = rw e at v in
       let same : k ≡ p = cc in
       let again : got false p ≡ optional c s p = rw same at v in
@@ -155,18 +155,18 @@ module _ (s : List ℕ) (c : ℕ) where
 
   missing : (p q : Step) → Went s p (optional c) q false → Went s q (optional c) q false
   unfolding run_from outcome
-  missing (Step.At p) (Step.At k) v = still-missing p k (eqb (byte_at s p) c) refl v.went
+  missing (Step.At p) (Step.At k) v = still_missing p k (eqb (byte_at s p) c) refl v.went
   missing (Step.At p) (Step.Failed g) v = record { went = refl }
   missing (Step.Failed f) (Step.At k) v = no_fault (sym v.went)
   missing (Step.Failed f) (Step.Failed g) v = record { went = refl }
 
 -- ---- the addresses of a row
 module _ (s : List ℕ) (p₀ p : Step) (low : ℕ) (row : Row) (space : Bool) (w : Went s p₀ (optional 32) p space) where
-  pub grant-more :
+  pub grant_more :
       (p₁ q : Step) (l : ℕ) (x : Rights) → space ≡ true → Went s p (granted low) p₁ l → Went s p₁ rights q x
       → Granted s p₀ low row (record { low = l + 1; row = record { create = row.create; rights = set row.rights l x }; next = q })
   unfolding grants with_rights
-  grant-more p₁ q l x t a b = record {
+  grant_more p₁ q l x t a b = record {
     turn = λ k.
         after s p₀ p (optional 32) _ space w
         ∙ ap (run_from s p) (choose_true space _ _ t)
@@ -199,18 +199,18 @@ module _ (s : List ℕ) (p₀ : Step) (row₀ : Row) where
       → run_from s p (grants k low row) ≡ run_from s r.next (grants j r.low r.row)
   as_many p i low row r k j e g = rw e (g.turn j)
 
-  pub granting-more :
+  pub granting_more :
       (p : Step) (i low : ℕ) (row : Row) (r : GrantsRead) → i < 16 → Granting s p₀ row₀ p i low row → Granted s p low row r
       → Granting s p₀ row₀ r.next (i + 1) r.low r.row
-  granting-more p i low row r h l g = record { within = omega arith; rest = l.rest ∙ as_many p i low row r (16 - i) (16 - (i + 1)) (omega arith) g }
+  granting_more p i low row r h l g = record { within = omega arith; rest = l.rest ∙ as_many p i low row r (16 - i) (16 - (i + 1)) (omega arith) g }
 
   no_more_grants : (p : Step) (k low : ℕ) (row : Row) → k ≡ 0 → run_from s p (grants k low row) ≡ outcome p row
   unfolding grants
   no_more_grants p k low row e = rw e (sym (stop s p row).went)
 
-  pub granting-end :
+  pub granting_end :
       (p : Step) (i low : ℕ) (row : Row) → 16 ≤ i → Granting s p₀ row₀ p i low row → Went s p₀ (grants 16 0 row₀) p row
-  granting-end p i low row h l = record { went = sym (l.rest ∙ no_more_grants p (16 - i) low row (omega arith)) }
+  granting_end p i low row h l = record { went = sym (l.rest ∙ no_more_grants p (16 - i) low row (omega arith)) }
 
 -- ---- a row
 module _ (s : List ℕ) where

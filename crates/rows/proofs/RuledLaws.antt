@@ -12,7 +12,7 @@ use Rattle.net.proofs.AllLaws.{all_same}
 use Rattle.net.proofs.Past.{past_row}
 use Rattle.linking.specs.Source.{Policy, plain, by_origin}
 use Rattle.linking.specs.Compiled.{format_of, addresses_of, filled, rows_of, ruled, unruled, governed}
-use Rattle.linking.proofs.Governed.{put_rows, ruled-more, ruled_counts, ruled_frame, governed_addresses, governed_rows}
+use Rattle.linking.proofs.Governed.{put_rows, ruled_more, ruled_counts, ruled_frame, governed_addresses, governed_rows}
 use Rattle.rows.specs.Types.{Locality, Row, Node, Net}
 use Rattle.rows.specs.Rows.{within, all_within}
 use Rattle.rows.specs.OriginRows.{all_nodes_within}
@@ -58,25 +58,25 @@ plain_more rs n r rows s net c e d =
     let place : n ≡ 0 + length (map alike rs) = omega (arith, length-map rs alike) in
     rw (e, d)
     (ap (λ (k : ℕ). put_rows (ruled 0 (map alike rs) s) k (alike r)) place
-    ∙ sym (ruled-more 0 (map alike rs) (alike r) s) ∙ sym (ap (λ (rss : List (List Row)). ruled 0 rss s) (map_more alike rs r)))
+    ∙ sym (ruled_more 0 (map alike rs) (alike r) s) ∙ sym (ap (λ (rss : List (List Row)). ruled 0 rss s) (map_more alike rs r)))
 
-pub origin-more :
+pub origin_more :
     (rss : List (List Row)) (n : ℕ) (rs rows : List Row) (s net : Net) → length rss ≡ n → rows ≡ filled rs
     → net ≡ ruled 0 (rows_of (by_origin rss)) s
     → with_node net (address_of n) (with_rows (node_at net (address_of n)) rows) ≡ ruled 0 (rows_of (by_origin (rss ++ (rs ∷ [])))) s
 unfolding rows_of put_rows
-origin-more rss n rs rows s net c e d =
+origin_more rss n rs rows s net c e d =
     let place : n ≡ 0 + length (map filled rss) = omega (arith, length-map rss filled) in
     rw (e, d)
     (ap (λ (k : ℕ). put_rows (ruled 0 (map filled rss) s) k (filled rs)) place
-    ∙ sym (ruled-more 0 (map filled rss) (filled rs) s) ∙ sym (ap (λ (xss : List (List Row)). ruled 0 xss s) (map_more filled rss rs)))
+    ∙ sym (ruled_more 0 (map filled rss) (filled rs) s) ∙ sym (ap (λ (xss : List (List Row)). ruled 0 xss s) (map_more filled rss rs)))
 
 -- the number of addresses, once all rows are read
-pub counted-anew :
+pub counted_anew :
     (x : Policy) (net : Net) (n : ℕ) → net ≡ ruled 0 (rows_of x) (unruled (format_of x) 0 0) → addresses_of x ≡ n
     → with_counts net n net.length ≡ governed x 0
 unfolding governed unruled with_counts with_format empty_net
-counted-anew x net n e c =
+counted_anew x net n e c =
     let start : Net = unruled (format_of x) 0 0 in
     rw (e, ← c)
     (ap (λ (k : ℕ). with_counts (ruled 0 (rows_of x) start) (addresses_of x) k) (ruled_frame 0 (rows_of x) start).length_is
@@ -107,11 +107,11 @@ unfolding row_at filled
 row_filled x rs j e h =
     ap (λ (ys : List Row). get_or ys j past_row) e ∙ padded_at rs (16 - length rs) j zero_row past_row (omega arith)
 
-row-by-origin :
+row_by_origin :
     (rss : List (List Row)) (i j : ℕ) → length rss ≤ 16 → i < length rss → j < length rss
     → row_at (node_at (governed (by_origin rss) 0) (address_of i)) (address_of j) ≡ get_or (get_or rss i []) j zero_row
 unfolding rows_of addresses_of
-row-by-origin rss i j h l m =
+row_by_origin rss i j h l m =
     row_filled _ _ j (governed_rows (by_origin rss) 0 i h l ∙ map_at filled rss i [] [] l) (omega arith)
 
 pub nodes_within :
@@ -122,4 +122,4 @@ nodes_within rss net h e =
     rw e
     (ap (λ (n : ℕ). all n (λ i. all n (λ j. within n (row_at (node_at (governed (by_origin rss) 0) (address_of i)) (address_of j)))))
     (governed_addresses (by_origin rss) 0)
-    ∙ all_same (length rss) _ _ (λ i l. all_same (length rss) _ _ (λ j m. ap (within (length rss)) (row-by-origin rss i j h l m))))
+    ∙ all_same (length rss) _ _ (λ i l. all_same (length rss) _ _ (λ j m. ap (within (length rss)) (row_by_origin rss i j h l m))))

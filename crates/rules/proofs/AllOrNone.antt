@@ -25,7 +25,7 @@ use Rattle.rules.specs.Rules.{process_in, instruction_in, Ends, NIL}
 use Rattle.rules.specs.DemandOne.{picked_process, picked_action}
 use Rattle.rules.specs.AllOrNone.{AllReceive, NoneReceives, picked_tuple, AllOrNone}
 use Rattle.rules.proofs.ReadBack.{Gave, through, acted, told, seated}
-use Rattle.rules.proofs.Rules.{final_0, picked-stop}
+use Rattle.rules.proofs.Rules.{final_0, picked_stop}
 use Rattle.rules.proofs.DemandOne.{is_performed, Left, was_performed, was_ended, as_it_was, picked_left}
 
 -- ---- the stores after an out to the set g by the process in slot k of address a, which then is p
@@ -91,7 +91,7 @@ module _ (s : Net) (b : ℕ) (g : Group) (q : Place) (shaped : Shaped s) (action
   unfolding number_of
   same_net n (was_performed e) = absurd (n (ap number_of e))
   same_net n (was_ended e) =
-      absurd (not_ended _ (picked-stop s b _ (record { is = λ i. record { answer = e i; net = (pick_of s b).net } })))
+      absurd (not_ended _ (picked_stop s b _ (record { is = λ i. record { answer = e i; net = (pick_of s b).net } })))
   same_net n (as_it_was e) = e
 
   none_receives : (after : Net) → after ≡ s → NoneReceives s after

@@ -12,11 +12,11 @@ use Rattle.rules.specs.Types.{Answer, Picked}
 use Rattle.plans.specs.Answer.{number_of}
 use Rattle.plans.specs.Request.{request_of}
 use Rattle.step.specs.Pick.{host_of, slot_of, unchanged, performed, stopped, process_step, step_of, slot_step, pick_of}
-use Rattle.rules.specs.Rules.{process_in, instruction_in, row_in, Stands, Reduces, OUT, IN, READ, EVAL, NEW, FORK, OUT-ALL}
-use Rattle.rules.specs.DemandOne.{Held, out-held, in_held, read_held, eval-held, new_held, fork_held, out-all-held}
+use Rattle.rules.specs.Rules.{process_in, instruction_in, row_in, Stands, Reduces, OUT, IN, READ, EVAL, NEW, FORK, OUT_ALL}
+use Rattle.rules.specs.DemandOne.{Held, out_held, in_held, read_held, eval_held, new_held, fork_held, out_all_held}
 use Rattle.rules.specs.DemandOne.{picked_process, picked_action, OnlyWithRight, RefusedChangesNothing}
 use Rattle.rules.proofs.Outcomes.{ComesTo, performs, refuses, ends, outcome}
-use Rattle.rules.proofs.Rules.{picked-step}
+use Rattle.rules.proofs.Rules.{picked_step}
 
 -- ---- only with the right
 module _ (s : Net) (a : Locality) (k : ℕ) where
@@ -26,13 +26,13 @@ module _ (s : Net) (a : Locality) (k : ℕ) where
   held_at x h r = rw h.acts r
 
   held : (after : Net) → Reduces s a k after → Held (row_in s a k) a (process_in s a k) (instruction_in s a k).action
-  held _ (OUT h p d g room) = held_at _ h (out-held p.points g)
+  held _ (OUT h p d g room) = held_at _ h (out_held p.points g)
   held _ (IN h p d g o) = held_at _ h (in_held p.points g)
   held _ (READ h p d g o) = held_at _ h (read_held p.points g)
-  held _ (EVAL h p g within f) = held_at _ h (eval-held p.points g)
+  held _ (EVAL h p g within f) = held_at _ h (eval_held p.points g)
   held _ (NEW h g room) = held_at _ h (new_held g)
   held _ (FORK h f) = held_at _ h fork_held
-  held _ (OUT-ALL h d used may room) = held_at _ h (out-all-held may)
+  held _ (OUT_ALL h d used may room) = held_at _ h (out_all_held may)
 
 pub is_performed : (w : Answer) → number_of w ≡ 0 → w ≡ Answer.Performed
 unfolding number_of
@@ -52,7 +52,7 @@ pub only_with_right : OnlyWithRight
 unfolding OnlyWithRight picked_process picked_action row_in process_in instruction_in
 only_with_right s b h =
     held s (host_of b) (slot_of b) (pick_of s b).net
-    (picked-step s b (pick_of s b).net
+    (picked_step s b (pick_of s b).net
     (record { is = λ i. record { answer = is_performed (pick_of s b).answer h i; net = (pick_of s b).net } }))
 
 -- ---- refused changes nothing: a pick performs a step, or ends its process, or leaves the net as it was

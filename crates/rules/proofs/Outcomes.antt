@@ -28,11 +28,11 @@ module _ (s : Net) (a : Locality) (k : ℕ) (x : Action) where
   read_outcome q (Found.At i) p = performs _
   read_outcome q Found.Nothing p = refuses Answer.NoTuple (omega arith)
 
-  started-outcome :
+  started_outcome :
       (l : Locality) (p copy : Process) (q : Place) (j : Slot) → ComesTo s a k x (started_in s a k l p copy q j)
   unfolding started_in number_of
-  started-outcome l p copy q (Slot.Number j) = performs _
-  started-outcome l p copy q Slot.Full = refuses Answer.NoRoom (omega arith)
+  started_outcome l p copy q (Slot.Number j) = performs _
+  started_outcome l p copy q Slot.Full = refuses Answer.NoRoom (omega arith)
 
   -- what is carriedOut, unless a test refuses
   or_refused :
@@ -49,25 +49,25 @@ module _ (s : Net) (a : Locality) (k : ℕ) (x : Action) where
     unfolding carried_out number_of
     lack_outcome = acting_outcome Request.Lack (refuses Answer.NotSet (omega arith))
 
-    at-outcome :
+    at_outcome :
         (aim : Aim) (f : Locality → Request) → ((l : Locality) → ComesTo s a k x (carried_out s a k p e (f l)))
         → ComesTo s a k x (acting s a k p e (at aim f))
     unfolding at
-    at-outcome (Aim.At l) f h = acting_outcome (f l) (h l)
-    at-outcome Aim.Nowhere f h = lack_outcome
+    at_outcome (Aim.At l) f h = acting_outcome (f l) (h l)
+    at_outcome Aim.Nowhere f h = lack_outcome
 
     -- a request whose template has to be defined
-    told-outcome :
+    told_outcome :
         (r : Request) → ComesTo s a k x (acting s a k p e r)
         → ComesTo s a k x (acting s a k p e (choose e.defined r Request.Lack))
-    told-outcome r h =
+    told_outcome r h =
         chosen (λ y. ComesTo s a k x (acting s a k p e y)) e.defined _ _ (λ _. h) (λ _. lack_outcome)
 
-    spoken-outcome :
+    spoken_outcome :
         (aim : Aim) (f : Locality → Request) → ((l : Locality) → ComesTo s a k x (carried_out s a k p e (f l)))
         → ComesTo s a k x (acting s a k p e (spoken e aim f))
     unfolding spoken
-    spoken-outcome aim f h = told-outcome (at aim f) (at-outcome aim f h)
+    spoken_outcome aim f h = told_outcome (at aim f) (at_outcome aim f h)
 
 -- by the action
 pub outcome :
@@ -76,15 +76,15 @@ pub outcome :
 unfolding asked carried_out out out_all input read eval fork create number_of
 outcome s a k p e Action.Stop = acting_outcome s a k _ p e _ ends
 outcome s a k p e (Action.Out t q) =
-    spoken-outcome s a k _ p e _ _ (λ l. or_refused s a k _ _ _ Answer.NoRoom (omega arith) (performs _))
-outcome s a k p e (Action.In t q) = spoken-outcome s a k _ p e _ _ (λ l. in_outcome s a k _ _ _ _ _)
-outcome s a k p e (Action.Read t q) = spoken-outcome s a k _ p e _ _ (λ l. read_outcome s a k _ _ _ _)
+    spoken_outcome s a k _ p e _ _ (λ l. or_refused s a k _ _ _ Answer.NoRoom (omega arith) (performs _))
+outcome s a k p e (Action.In t q) = spoken_outcome s a k _ p e _ _ (λ l. in_outcome s a k _ _ _ _ _)
+outcome s a k p e (Action.Read t q) = spoken_outcome s a k _ p e _ _ (λ l. read_outcome s a k _ _ _ _)
 outcome s a k p e (Action.Eval t sent q) =
-    at-outcome s a k _ p e _ _
-    (λ l. or_refused s a k _ _ _ Answer.NotWithin (omega arith) (started-outcome s a k _ _ _ _ _ _))
+    at_outcome s a k _ p e _ _
+    (λ l. or_refused s a k _ _ _ Answer.NotWithin (omega arith) (started_outcome s a k _ _ _ _ _ _))
 outcome s a k p e (Action.New v q) =
     acting_outcome s a k _ p e _ (or_refused s a k _ _ _ Answer.NoRoom (omega arith) (performs _))
-outcome s a k p e (Action.Fork q r) = acting_outcome s a k _ p e _ (started-outcome s a k _ _ _ _ _ _)
+outcome s a k p e (Action.Fork q r) = acting_outcome s a k _ p e _ (started_outcome s a k _ _ _ _ _ _)
 outcome s a k p e (Action.OutAll g q) =
-    told-outcome s a k _ p e (Request.OutAll g q)
+    told_outcome s a k _ p e (Request.OutAll g q)
     (acting_outcome s a k _ p e _ (or_refused s a k _ _ _ Answer.NoRoom (omega arith) (performs _)))

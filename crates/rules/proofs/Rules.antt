@@ -24,9 +24,9 @@ use Rattle.step.specs.Pick.{host_of, slot_of, spare_of, performed, unchanged, wi
 use Rattle.step.specs.Pick.{read_found, read, started_in, eval, fork, create, room_at_all, out_all, carried_out, acting, process_step}
 use Rattle.step.specs.Pick.{step_of, slot_step, pick_of}
 use Rattle.rules.specs.Rules.{process_in, instruction_in, template_in, row_in, Stands, Points}
-use Rattle.rules.specs.Rules.{LowestFree, Reduces, OUT, IN, READ, EVAL, NEW, FORK, OUT-ALL, Ends, NIL}
+use Rattle.rules.specs.Rules.{LowestFree, Reduces, OUT, IN, READ, EVAL, NEW, FORK, OUT_ALL, Ends, NIL}
 use Rattle.rules.specs.Rules.{StepIsPick, StopIsPick}
-use Rattle.rules.proofs.StepFacts.{Facts, facts, stored_few, Runs, running, target-exists}
+use Rattle.rules.proofs.StepFacts.{Facts, facts, stored_few, Runs, running, target_exists}
 use Rattle.rules.proofs.Within.{keeps_within, within_keeps}
 use Rattle.rules.proofs.Outcomes.{ComesTo, performs, refuses, ends, outcome}
 use Rattle.rules.proofs.ReadBack.{Gave, same_number, refused, through, Aimed, acted, aimed, told, spoke, seated}
@@ -111,7 +111,7 @@ module _ (s : Net) (a : Locality) (k : ℕ) (after : Net) (seat : Seat s a k) wh
         to = record {
           points = aim.points;
           exists =
-              target-exists s.addresses s.length a (process_in s a k) t aim.l seat.used
+              target_exists s.addresses s.length a (process_in s a k) t aim.l seat.used
               (runs s a k seat h.busy) sound aim.points;
         };
         right = ac.test;
@@ -197,28 +197,28 @@ module _ (s : Net) (a : Locality) (k : ℕ) (after : Net) (seat : Seat s a k) wh
       let ac = acted final_0 s a k _ _ _ t.rest in
       let room = through final_0 Answer.NoRoom s _ _ (omega arith) ac.rest in
       as_performed _ room.rest
-      (OUT-ALL h t.test (λ l m. ltb-true _ _ (members_at all _ (both_l _ _ (both_r _ _ sound)) l m))
+      (OUT_ALL h t.test (λ l m. ltb-true _ _ (members_at all _ (both_l _ _ (both_r _ _ sound)) l m))
       (members_at all _ ac.test) (λ l m. ltb-true _ _ (members_at all _ room.test l m)))
 
 -- a stop, and nothing else, is answered 1
-stop-by :
+stop_by :
     (s : Net) (a : Locality) (k : ℕ) (after : Net) (x : Action) (r : Picked) → ComesTo s a k x r → Stands s a k x
     → Gave Answer.Ended after r → Ends s a k after
 unfolding performed stopped unchanged number_of
-stop-by s a k after _ _ (performs n) h g = let no = same_number g in absurd (omega arith)
-stop-by s a k after _ _ (refuses n l) h g = let no = same_number g in absurd (omega arith)
-stop-by s a k after _ _ ends h g = subst (Ends s a k) (ap (λ (x : Picked). x.net) g.is) (NIL h)
+stop_by s a k after _ _ (performs n) h g = let no = same_number g in absurd (omega arith)
+stop_by s a k after _ _ (refuses n l) h g = let no = same_number g in absurd (omega arith)
+stop_by s a k after _ _ ends h g = subst (Ends s a k) (ap (λ (x : Picked). x.net) g.is) (NIL h)
 
 -- ---- from the rule to the pick
 at_is : (aim : Aim) (f : Locality → Request) (l : Locality) → aim ≡ Aim.At l → at aim f ≡ f l
 unfolding at
 at_is aim f l e = rw e
 
-spoken-is :
+spoken_is :
     (e : Evaluated) (aim : Aim) (f : Locality → Request) (l : Locality) → e.defined ≡ true → aim ≡ Aim.At l
     → spoken e aim f ≡ f l
 unfolding spoken
-spoken-is e aim f l d p = choose_true _ _ _ d ∙ at_is aim f l p
+spoken_is e aim f l d p = choose_true _ _ _ d ∙ at_is aim f l p
 
 module _ (s : Net) (a : Locality) (k : ℕ) where
   Does : Picked → Type 0
@@ -238,20 +238,20 @@ module _ (s : Net) (a : Locality) (k : ℕ) where
   step_does : (after : Net) → Seat s a k → Reduces s a k after → Does (performed after)
   unfolding Does asked granted carried_out may_put_all out out_all room_at_all input in_found read read_found eval fork create started_in
   step_does _ seat (OUT h p d g room) =
-      does _ _ h (spoken-is _ _ _ _ d p.points) g ∙ choose_true _ _ _ (lt-ltb _ _ room)
+      does _ _ h (spoken_is _ _ _ _ d p.points) g ∙ choose_true _ _ _ (lt-ltb _ _ room)
   step_does _ seat (IN {l = l} {i = i} h p d g o) =
       let found : (met s a k l).found ≡ Found.At i = (promise.finds _ _ _ i (few_stored s a k seat l p.exists)).1 o in
-      does _ _ h (spoken-is _ _ _ _ d p.points) g ∙ rw (found, promise.binds _ _ _ i found)
+      does _ _ h (spoken_is _ _ _ _ d p.points) g ∙ rw (found, promise.binds _ _ _ i found)
   step_does _ seat (READ {l = l} {i = i} h p d g o) =
       let found : (met s a k l).found ≡ Found.At i = (promise.finds _ _ _ i (few_stored s a k seat l p.exists)).1 o in
-      does _ _ h (spoken-is _ _ _ _ d p.points) g ∙ rw (found, promise.binds _ _ _ i found)
+      does _ _ h (spoken_is _ _ _ _ d p.points) g ∙ rw (found, promise.binds _ _ _ i found)
   step_does _ seat (EVAL h p g within f) =
       does _ _ h (at_is _ _ _ p.points) g
       ∙ choose_true _ _ _ (within_keeps s seat.ok _ (sent_low s a k seat _ _ _ h) _ _ within)
       ∙ rw (slot_is _ _ f)
   step_does _ seat (NEW h g room) = does _ _ h refl g ∙ choose_true _ _ _ (lt-ltb _ _ room)
   step_does _ seat (FORK h f) = does _ _ h refl refl ∙ rw (slot_is _ _ f)
-  step_does _ seat (OUT-ALL {g = g} h d used may room) =
+  step_does _ seat (OUT_ALL {g = g} h d used may room) =
       does _ _ h (choose_true _ _ _ d) (members_all g _ may)
       ∙ choose_true _ _ _ (members_all g _ (λ l m. lt-ltb _ _ (room l m)))
 
@@ -266,7 +266,7 @@ module _ (s : Net) (a : Locality) (k : ℕ) where
   stands_busy _ (EVAL h p g within f) = h.busy
   stands_busy _ (NEW h g room) = h.busy
   stands_busy _ (FORK h f) = h.busy
-  stands_busy _ (OUT-ALL h d used may room) = h.busy
+  stands_busy _ (OUT_ALL h d used may room) = h.busy
 
   stop_busy : (after : Net) → Ends s a k after → (process_in s a k).busy ≡ true
   stop_busy _ (NIL h) = h.busy
@@ -293,11 +293,11 @@ stands_at :
 unfolding process_in
 stands_at s a k busy = record { busy = busy; acts = refl }
 
-pub picked-step :
+pub picked_step :
     (s : Net) (b : ℕ) (after : Net) → Gave Answer.Performed after (pick_of s b)
     → Reduces s (host_of b) (slot_of b) after
 unfolding process_in instruction_in template_in process_step request_of
-picked-step s b after h =
+picked_step s b after h =
     let p = seated final_0 s b h in
     let seat = seat_of_law s b p.sound p.used in
     let stands = stands_at s (host_of b) (slot_of b) p.busy in
@@ -309,19 +309,19 @@ step_is_pick s sound b after = (
   λ e.
       let h : Gave Answer.Performed after (pick_of s b) = record { is = e } in
       let p = seated final_0 s b h in
-      (p.spare, p.used, picked-step s b after h),
+      (p.spare, p.used, picked_step s b after h),
   λ h.
       let step = h.2 in
       pick_is s b sound h.0 h.1 (stands_busy s _ _ after step)
       ∙ step_does s _ _ after (seat_of_law s b sound h.1) step,
 )
 
-pub picked-stop :
+pub picked_stop :
     (s : Net) (b : ℕ) (after : Net) → Gave Answer.Ended after (pick_of s b) → Ends s (host_of b) (slot_of b) after
 unfolding process_in instruction_in template_in process_step request_of
-picked-stop s b after h =
+picked_stop s b after h =
     let p = seated final_1 s b h in
-    stop-by s (host_of b) (slot_of b) after _ _ (outcome s (host_of b) (slot_of b) _ _ _)
+    stop_by s (host_of b) (slot_of b) after _ _ (outcome s (host_of b) (slot_of b) _ _ _)
     (stands_at s (host_of b) (slot_of b) p.busy) p.acts
 
 pub stop_is_pick : StopIsPick
@@ -330,6 +330,6 @@ stop_is_pick s sound b after = (
   λ e.
       let h : Gave Answer.Ended after (pick_of s b) = record { is = e } in
       let p = seated final_1 s b h in
-      (p.spare, p.used, picked-stop s b after h),
+      (p.spare, p.used, picked_stop s b after h),
   λ h. pick_is s b sound h.0 h.1 (stop_busy s _ _ after h.2) ∙ stop_does s _ _ after h.2,
 )

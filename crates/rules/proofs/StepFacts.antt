@@ -66,13 +66,13 @@ held_exists n Value.Unset l h e = let z : ◌≡◌ {A = ℕ} 0 1 = cc in absurd
 held_exists n (Value.Reading x) l h e = let z : ◌≡◌ {A = ℕ} 0 1 = cc in absurd (omega arith)
 held_exists n (Value.Address m) l h e = let same : m ≡ l = cc in rw (← same) (ltb-true _ _ h)
 
-pub target-exists :
+pub target_exists :
     (n k : ℕ) (a : Locality) (p : Process) (t : Target) (l : Locality)
     → a.0 < n → Runs n k p → target_sound n t ≡ true → target_of a p t ≡ Aim.At l → l.0 < n
 unfolding target_sound target_of
-target-exists n k a p (Target.Written m) l h r g e = let same : m ≡ l = cc in rw (← same) (ltb-true _ _ g)
-target-exists n k a p Target.Own l h r g e = let same : a ≡ l = cc in rw (← same) h
-target-exists n k a p (Target.Held v) l h r g e = held_exists n (variable_at p v) l (r.values v (ltb-true _ _ g)) e
+target_exists n k a p (Target.Written m) l h r g e = let same : m ≡ l = cc in rw (← same) (ltb-true _ _ g)
+target_exists n k a p Target.Own l h r g e = let same : a ≡ l = cc in rw (← same) h
+target_exists n k a p (Target.Held v) l h r g e = held_exists n (variable_at p v) l (r.values v (ltb-true _ _ g)) e
 
 pub follow_low : (f n k : ℕ) (q : Place) (x : Action) → Follows q x → action_sound f n k x ≡ true → q.0 < k
 unfolding action_sound

@@ -15,7 +15,7 @@ use Rattle.rules.specs.Types.{Aim}
 -- the row holds the right of an action of the process p hosted at a: at the address that its target points to o for an
 -- out, i for an in, r or i for a read and e for an eval, o at each member of an out's set, and n for a new. A fork needs none, and a stop is no action.
 pub data Held (row : Row) (a : Locality) (p : Process) : Action → Type 0 where
-  out-held :
+  out_held :
       {t : Target} {q : Place} {l : Locality}
       → target_of a p t ≡ Aim.At l
       → may_put row l ≡ true
@@ -30,14 +30,14 @@ pub data Held (row : Row) (a : Locality) (p : Process) : Action → Type 0 where
       → target_of a p t ≡ Aim.At l
       → may_read row l ≡ true
       → Held row a p (Action.Read t q)
-  eval-held :
+  eval_held :
       {t : Target} {sent q : Place} {l : Locality}
       → target_of a p t ≡ Aim.At l
       → may_send row l ≡ true
       → Held row a p (Action.Eval t sent q)
   new_held : {v : ℕ} {q : Place} → may_create row ≡ true → Held row a p (Action.New v q)
   fork_held : {q r : Place} → Held row a p (Action.Fork q r)
-  out-all-held :
+  out_all_held :
       {g : Group} {q : Place}
       → ((l : Locality) → member g l ≡ true → may_put row l ≡ true)
       → Held row a p (Action.OutAll g q)

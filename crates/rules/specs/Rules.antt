@@ -126,7 +126,7 @@ pub data Reduces (s : Net) (a : Locality) (k : ℕ) : Net → Type 0 where
       (with_host (with_host s a k (moved_to (process_in s a k) q)) a j (copied_to (process_in s a k) r))
   -- an out to a set (document 02, slip 11), which document 004 does not have: OUT at each member at once. Each member exists, and
   -- has room for the tuple
-  OUT-ALL :
+  OUT_ALL :
       {g : Group} {q : Place}
       → Stands s a k (Action.OutAll g q)
       → (template_in s a k).defined ≡ true

@@ -130,20 +130,20 @@ module _ (s : Net) (picks xs : List ℕ) where
   room_for_law = ap (λ (n : ℕ). leb n (length xs)) (sym (engine_length s picks))
 
   module _ (room : Bool) (judged : room ≡ room_for picks xs) where
-    pub made-finish :
+    pub made_finish :
         (last after : Net) → room ≡ true → last ≡ after → after ≡ net_after s picks xs
         → record { finish = Finish.Complete; net = last } ≡ finished_of (ran (lean_ran_from s picks)) (length xs)
     unfolding finished_of finished net_after
-    made-finish last after h d e =
+    made_finish last after h d e =
         ap {B = Finished} (λ (z : Net). record { finish = Finish.Complete; net = z })
         (d ∙ e ∙ choose_true _ _ _ (sym judged ∙ h))
         ∙ sym (choose_true _ _ _ (sym room_for_law ∙ sym judged ∙ h))
 
-    pub short-finish :
+    pub short_finish :
         (r : Finished) → room ≡ false → r ≡ finished Finish.NoRoom empty_net
         → r ≡ finished_of (ran (lean_ran_from s picks)) (length xs)
     unfolding finished_of
-    short-finish r h e = e ∙ sym (choose_false _ _ _ (sym room_for_law ∙ sym judged ∙ h))
+    short_finish r h e = e ∙ sym (choose_false _ _ _ (sym room_for_law ∙ sym judged ∙ h))
 
   pub made_left : (ys : List ℕ) → ys ≡ answers_after s picks xs → ys ≡ answers_in (ran (lean_ran_from s picks)) xs
   unfolding answers_in answers_after numbers

@@ -13,22 +13,22 @@ use Rattle.runs.specs.Types.{Net}
 use Rattle.runs.specs.Run.{ran_from, answered}
 use Rattle.runs.specs.SoundRuns.{SoundRuns}
 
-pub ran-kept :
+pub ran_kept :
     (s : Net) (picks : List ℕ) → Shaped s → sound_of s ≡ true
     → (sound_of (ran_from s picks).net ≡ true) × Shaped (ran_from s picks).net
 unfolding ran_from answered SoundKept
-ran-kept s [] shaped sound = (sound, shaped)
-ran-kept s (b ∷ bs) shaped sound =
+ran_kept s [] shaped sound = (sound, shaped)
+ran_kept s (b ∷ bs) shaped sound =
     let kept = sound_kept s b shaped sound in
-    ran-kept (pick_of s b).net bs kept.1 kept.0
+    ran_kept (pick_of s b).net bs kept.1 kept.0
 
 -- the claim
 pub sound_runs : SoundRuns
 unfolding SoundRuns
-sound_runs = ran-kept
+sound_runs = ran_kept
 
 -- the facts about its records
 pub ran_sound : (s : Net) (picks : List ℕ) → Shaped s → sound_of s ≡ true → NetOk (ran_from s picks).net
 ran_sound s picks shaped sound =
-    let kept = ran-kept s picks shaped sound in
+    let kept = ran_kept s picks shaped sound in
     sound_apart (ran_from s picks).net kept.1 kept.0

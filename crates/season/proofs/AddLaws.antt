@@ -39,53 +39,53 @@ module _ (sums : Sums) (picks buffer : List ℕ) (room : length picks ≤ length
   numbers_length s = length-map (ran_from s picks).answers number_of ∙ answers_length s picks
 
   -- the answers stand at the front of the buffer
-  answers-first :
+  answers_first :
       (s : Net) → over buffer 0 (numbers (ran_from s picks)) ≡ numbers (ran_from s picks) ++ drop (0 + length (numbers (ran_from s picks))) buffer
   unfolding over
-  answers-first s = sets-eq (numbers (ran_from s picks)) buffer 0 (omega (arith, numbers_length s))
+  answers_first s = sets-eq (numbers (ran_from s picks)) buffer 0 (omega (arith, numbers_length s))
 
   enough : (s : Net) → leb (length (ran_from s picks).answers) (length buffer) ≡ true
   enough s = le-leb (length (ran_from s picks).answers) (length buffer) (omega (arith, answers_length s picks))
 
   -- of a net that was read, with its verdict
-  by-verdict :
+  by_verdict :
       (v : Verdict) (s : Net)
       → added_by (finished_of (run_in v s picks) (length buffer)).finish sums
       (with_counted sums (counted no_counts picks (answers_in (run_in v s picks) buffer)) (finished_of (run_in v s picks) (length buffer)).net)
       ≡ with_each sums (made_in picks (run_in v s picks))
   unfolding run_in finished_of finished answers_in made_in with_each added_by CountedIsMade
-  by-verdict Verdict.Accepted s =
+  by_verdict Verdict.Accepted s =
       let r : Ran = ran_from s picks in
       let m : MadeRun = record { picks = picks; answers = numbers r; net = r.net } in
       let done : finished_of (ran r) (length buffer) ≡ finished Finish.Complete r.net = choose_true _ _ _ (enough s) in
       let left : answers_in (ran r) buffer ≡ numbers r ++ drop (0 + length (numbers r)) buffer =
-      choose_true _ _ _ (enough s) ∙ answers-first s in
+      choose_true _ _ _ (enough s) ∙ answers_first s in
       ap (λ (f : Finished). added_by f.finish sums (with_counted sums (counted no_counts picks (answers_in (ran r) buffer)) f.net)) done
       ∙ ap (λ (xs : List ℕ). with_counted sums (counted no_counts picks xs) r.net) left
       ∙ counted_is_made sums m _ (sym (numbers_length s)) few
-  by-verdict (Verdict.Refused f) s = refl
+  by_verdict (Verdict.Refused f) s = refl
 
   -- of an image, with what the call gives and leaves
-  by-finish :
+  by_finish :
       (image answers : List ℕ) (done : Finished) → done ≡ finished_of (run_of image picks) (length buffer)
       → answers ≡ answers_in (run_of image picks) buffer
       → added_by done.finish sums (with_counted sums (counted no_counts picks answers) done.net)
       ≡ with_each sums (made_in picks (run_of image picks))
   unfolding run_of
-  by-finish image answers done e d =
+  by_finish image answers done e d =
       ap (λ (f : Finished). added_by f.finish sums (with_counted sums (counted no_counts picks answers) f.net)) e
       ∙ ap (λ (xs : List ℕ). added_by (finished_of (run_of image picks) (length buffer)).finish sums (with_counted sums (counted no_counts picks xs) (finished_of (run_of image picks) (length buffer)).net)) d
-      ∙ by-verdict (opened_of image).answer (opened_of image).net
+      ∙ by_verdict (opened_of image).answer (opened_of image).net
 
   -- and with what the arm of a match gives
-  pub added-as :
+  pub added_as :
       (image answers : List ℕ) (done : Finished) (x : Finish) (r : Sums) → done ≡ finished_of (run_of image picks) (length buffer)
       → answers ≡ answers_in (run_of image picks) buffer → done.finish ≡ x
       → r ≡ added_by x sums (with_counted sums (counted no_counts picks answers) done.net)
       → r ≡ with_each sums (made_in picks (run_of image picks))
-  added-as image answers done x r e d f g =
+  added_as image answers done x r e d f g =
       g ∙ ap (λ (z : Finish). added_by z sums (with_counted sums (counted no_counts picks answers) done.net)) (sym f)
-      ∙ by-finish image answers done e d
+      ∙ by_finish image answers done e d
 
 -- ---- a run handed in: the picks that count
 pub first_run :

@@ -56,10 +56,10 @@ module _ (xs : List Fraction) (x : Fraction) where
       ∙ ap (considered (length xs + 1) x)
       (fold_same (length xs) (turn longer) (turn xs) Best.Nobody (λ i l best. ap (λ (y : Fraction). considered (i + 1) y best) (earlier i l)))
 
-pub best-at-more :
+pub best_at_more :
     (l : Locality) (ms : List MadeRun) (m : MadeRun)
     → best_at l (ms ++ m ∷ []) ≡ considered (length ms + 1) (share_at l m) (best_at l ms)
 unfolding best_at shares_at
-best-at-more l ms m =
+best_at_more l ms m =
     ap best_of (map_more (share_at l) ms m) ∙ best_more (map (share_at l) ms) (share_at l m)
     ∙ ap (λ (n : ℕ). considered (n + 1) (share_at l m) (best_of (map (share_at l) ms))) (length-map ms (share_at l))

@@ -49,12 +49,12 @@ module _ (picks answers : List ℕ) where
         ∙ ap (counted held (get_or picks i 0 ∷ drop (suc i) picks)) (drop-cons answers i 0 g)
         ∙ ap (λ (j : ℕ). counted (counted_one held (get_or picks i 0) (get_or answers i 0)) (drop j picks) (drop j answers)) (sym (add-one i))
 
-    pub counting-turn :
+    pub counting_turn :
         (performed-after named-after : List ℕ) → i < length picks → length picks ≤ length answers
         → CountedOne performed named (get_or picks i 0) (get_or answers i 0) performed-after named-after
         → Counting performed-after named-after (i + 1)
     unfolding counted_one
-    counting-turn performed-after named-after l g d =
+    counting_turn performed-after named-after l g d =
         let turned : both_of performed-after named-after ≡ counted_one held (get_or picks i 0) (get_or answers i 0) = cc (d.performed_is, d.picks_is) in
         record {
           some = omega arith;
@@ -77,12 +77,12 @@ module _ (sums : Sums) (c : Counts) (s : Net) (i : ℕ) where
   tallying_begin = record { some = omega arith; tallies_are = fold_none _ _ _ refl }
 
   module _ (held : Sums) (a : ℕ) (h : Tallying held a) where
-    pub tallying-turn :
+    pub tallying_turn :
         (runs left : ℕ) (t : Tally) → a < 16 → left ≡ left_in (address_of a) s
         → t ≡ with_counts i (get_or c.performed a 0) (get_or c.picks a 0) left (tally_at held.tallies a)
         → Tallying (record { runs = runs; tallies = set held.tallies a t }) (a + 1)
     unfolding tally_counted
-    tallying-turn runs left t l e d = record {
+    tallying_turn runs left t l e d = record {
       some = omega arith;
       tallies_are =
           fold_more _ _ a held.tallies _ h.tallies_are
@@ -90,10 +90,10 @@ module _ (sums : Sums) (c : Counts) (s : Net) (i : ℕ) where
           (d ∙ ap (λ (n : ℕ). with_counts i (get_or c.performed a 0) (get_or c.picks a 0) n (tally_at held.tallies a)) e));
     }
 
-    pub tallying-end :
+    pub tallying_end :
         16 ≤ a → i ≡ sums.runs + 1 → sums.runs ≤ 1000 → record { runs = i; tallies = held.tallies } ≡ with_counted sums c s
     unfolding with_counted tallies_counted
-    tallying-end l e few =
+    tallying_end l e few =
         let all : held.tallies ≡ fold 16 (tally_counted i c s) sums.tallies = fold_end _ _ a 16 _ h.tallies_are h.some l in
         ap {B = Sums} (λ (ts : List Tally). record { runs = i; tallies = ts }) all
         ∙ ap {B = Sums} (λ (n : ℕ). record { runs = n; tallies = fold 16 (tally_counted n c s) sums.tallies }) e

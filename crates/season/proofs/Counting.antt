@@ -94,32 +94,32 @@ record CountedAt (a : ℕ) (picks answers : List ℕ) (c d : Counts) : Type 0 wh
   performed_is : get_or d.performed a 0 ≡ get_or c.performed a 0 + tallied (performs (address_of a)) picks answers
   picks_is : get_or d.picks a 0 ≡ get_or c.picks a 0 + tallied (counts (address_of a)) picks answers
 
-counted-at :
+counted_at :
     (a : ℕ) → a < 16 → (picks answers : List ℕ) (c : Counts) → Sized c → get_or c.performed a 0 + length picks ≤ 65536
     → get_or c.picks a 0 + length picks ≤ 65536
     → CountedAt a picks answers c (counted c picks answers)
 unfolding counted tallied
-counted-at a l [] answers c sized few fewer = record { performed_is = omega arith; picks_is = omega arith }
-counted-at a l (b ∷ picks) [] c sized few fewer = record { performed_is = omega arith; picks_is = omega arith }
-counted-at a l (b ∷ picks) (x ∷ answers) c sized few fewer =
+counted_at a l [] answers c sized few fewer = record { performed_is = omega arith; picks_is = omega arith }
+counted_at a l (b ∷ picks) [] c sized few fewer = record { performed_is = omega arith; picks_is = omega arith }
+counted_at a l (b ∷ picks) (x ∷ answers) c sized few fewer =
     let turn = one_turn c b x a sized l (omega arith) (omega arith) in
     let performed-one = most_one (performs (address_of a) b x) in
     let picks-one = most_one (counts (address_of a) b x) in
-    let rest = counted-at a l picks answers _ turn.sized (omega (arith, turn.performed_is, performed-one)) (omega (arith, turn.picks_is, picks-one)) in
+    let rest = counted_at a l picks answers _ turn.sized (omega (arith, turn.performed_is, performed-one)) (omega (arith, turn.picks_is, picks-one)) in
     record {
       performed_is = omega (arith, rest.performed_is, turn.performed_is);
       picks_is = omega (arith, rest.picks_is, turn.picks_is);
     }
 
 -- answers past those of the picks are not looked at
-counted-first :
+counted_first :
     (c : Counts) (picks answers rest : List ℕ) → length picks ≡ length answers
     → counted c picks (answers ++ rest) ≡ counted c picks answers
 unfolding counted
-counted-first c [] [] rest e = refl
-counted-first c [] (x ∷ answers) rest e = refl
-counted-first c (b ∷ picks) [] rest e = absurd (omega arith)
-counted-first c (b ∷ picks) (x ∷ answers) rest e = counted-first (counted_one c b x) picks answers rest (omega arith)
+counted_first c [] [] rest e = refl
+counted_first c [] (x ∷ answers) rest e = refl
+counted_first c (b ∷ picks) [] rest e = absurd (omega arith)
+counted_first c (b ∷ picks) (x ∷ answers) rest e = counted_first (counted_one c b x) picks answers rest (omega arith)
 
 -- ---- the sums
 none_sized : Sized no_counts
@@ -135,7 +135,7 @@ module _ (m : MadeRun) (few : length m.picks ≤ 65536) where
 
   at : (a : ℕ) → a < 16 → CountedAt a m.picks m.answers no_counts all
   unfolding no_counts
-  at a l = counted-at a l m.picks m.answers no_counts none_sized (omega (arith, none_at a l)) (omega (arith, none_at a l))
+  at a l = counted_at a l m.picks m.answers no_counts none_sized (omega (arith, none_at a l)) (omega (arith, none_at a l))
 
   performed_at_law : (a : ℕ) → a < 16 → get_or all.performed a 0 ≡ performed_at (address_of a) m
   unfolding performed_at no_counts
@@ -162,5 +162,5 @@ module _ (m : MadeRun) (few : length m.picks ≤ 65536) where
 pub counted_is_made : CountedIsMade
 unfolding CountedIsMade
 counted_is_made sums m rest e few =
-    ap (λ (c : Counts). with_counted sums c m.net) (counted-first no_counts m.picks m.answers rest e)
+    ap (λ (c : Counts). with_counted sums c m.net) (counted_first no_counts m.picks m.answers rest e)
     ∙ made_is m few sums

@@ -16,7 +16,7 @@ use Rattle.text.specs.Decimal.{decimal}
 use Rattle.text.specs.Writing.{Wrote}
 use Rattle.text.proofs.WritingLaws.{wrote_then, wrote_length}
 use Rattle.lines.specs.Words.{Word, name, number, word_text, spaced}
-use Rattle.lines.proofs.WordLaws.{spaced-word, spaced_none, spaced_both, parts_then}
+use Rattle.lines.proofs.WordLaws.{spaced_word, spaced_none, spaced_both, parts_then}
 use Rattle.season.specs.Fractions.{Fraction, lowest, Best}
 use Rattle.season.specs.Season.{fraction_word, share_word, best_word, Season, no_runs, too_many, figures, season_with}
 use Rattle.season.specs.Sums.{Sums, figures_from, season_from}
@@ -29,32 +29,32 @@ use Rattle.season.proofs.Longest.{longest_figures}
 module _ (xs : List ℕ) (at : ℕ) where
   pub number_word : (n : ℕ) (ys : List ℕ) (r : ℕ) → Wrote xs at (32 ∷ decimal n) ys r → Wrote xs at (spaced (number n ∷ [])) ys r
   unfolding word_text
-  number_word n ys r h = spaced-word xs at (number n) ys r h
+  number_word n ys r h = spaced_word xs at (number n) ys r h
 
-  pub fraction-word :
+  pub fraction_word_law :
       (x : Fraction) (ys zs : List ℕ) (r q : ℕ) → Wrote xs at (32 ∷ decimal x.numerator) ys r
       → Wrote ys r (47 ∷ decimal x.denominator) zs q → Wrote xs at (spaced (fraction_word x ∷ [])) zs q
   unfolding word_text fraction_word
-  fraction-word x ys zs r q h k = spaced-word xs at (fraction_word x) zs q (wrote_then xs at _ _ ys zs r q h k)
+  fraction_word_law x ys zs r q h k = spaced_word xs at (fraction_word x) zs q (wrote_then xs at _ _ ys zs r q h k)
 
-  pub lowest-word :
+  pub lowest_word :
       (n d : ℕ) (x : Fraction) (ys : List ℕ) (r : ℕ) → x ≡ lowest n d → Wrote xs at (spaced (fraction_word x ∷ [])) ys r
       → Wrote xs at (spaced (fraction_word (lowest n d) ∷ [])) ys r
-  lowest-word n d x ys r e h = subst (λ (z : Fraction). Wrote xs at (spaced (fraction_word z ∷ [])) ys r) e h
+  lowest_word n d x ys r e h = subst (λ (z : Fraction). Wrote xs at (spaced (fraction_word z ∷ [])) ys r) e h
 
   module _ (picks : ℕ) (x : Fraction) (ys : List ℕ) (r : ℕ) where
     as_chosen : (w : Word) → share_word picks x ≡ w → Wrote xs at (spaced (w ∷ [])) ys r → Wrote xs at (spaced (share_word picks x ∷ [])) ys r
     as_chosen w e h = subst (λ (v : Word). Wrote xs at (spaced (v ∷ [])) ys r) (sym e) h
 
-    pub share-none :
+    pub share_none :
         picks ≡ 0 → Wrote xs at (spaced (name (bytes "none") ∷ [])) ys r → Wrote xs at (spaced (share_word picks x ∷ [])) ys r
     unfolding share_word
-    share-none e h = as_chosen _ (choose_true _ _ _ (eq-eqb picks 0 e)) h
+    share_none e h = as_chosen _ (choose_true _ _ _ (eq-eqb picks 0 e)) h
 
-    pub share-some :
+    pub share_some :
         (picks ≡ 0 → ⊥) → Wrote xs at (spaced (fraction_word x ∷ [])) ys r → Wrote xs at (spaced (share_word picks x ∷ [])) ys r
     unfolding share_word
-    share-some n h = as_chosen _ (choose_false _ _ _ (ne_eqb picks 0 n)) h
+    share_some n h = as_chosen _ (choose_false _ _ _ (ne_eqb picks 0 n)) h
 
   module _ (best : Best) (ys : List ℕ) (r : ℕ) where
     as_best : (b : Best) → best ≡ b → Wrote xs at (spaced (best_word b ∷ [])) ys r → Wrote xs at (spaced (best_word best ∷ [])) ys r
@@ -65,16 +65,16 @@ module _ (xs : List ℕ) (at : ℕ) where
     unfolding best_word
     best_none e h = as_best _ e h
 
-    pub best-some :
+    pub best_some :
         (i : ℕ) (x : Fraction) → best ≡ Best.Leader i x → Wrote xs at (32 ∷ decimal i) ys r
         → Wrote xs at (spaced (best_word best ∷ [])) ys r
     unfolding best_word
-    best-some i x e h = as_best _ e (number_word i ys r h)
+    best_some i x e h = as_best _ e (number_word i ys r h)
 
-  pub three-words :
+  pub three_words :
       (u v w : Word) (ys zs us : List ℕ) (r q k : ℕ) → Wrote xs at (spaced (u ∷ [])) ys r → Wrote ys r (spaced (v ∷ [])) zs q
       → Wrote zs q (spaced (w ∷ [])) us k → Wrote xs at (spaced (u ∷ v ∷ w ∷ [])) us k
-  three-words u v w ys zs us r q k h i j =
+  three_words u v w ys zs us r q k h i j =
       parts_then spaced spaced_none spaced_both xs at (u ∷ []) (v ∷ w ∷ []) ys us r k h
       (parts_then spaced spaced_none spaced_both ys r (v ∷ []) (w ∷ []) zs us q k i j)
 
@@ -97,10 +97,10 @@ module _ (sums : Sums) (xs ys : List ℕ) (n : ℕ) where
       ap (take n) (w.is ∙ sets-eq all xs 0 (omega (arith, longest_figures sums.runs sums.tallies)))
       ∙ take_at all _ n (sym (figures_end e w))
 
-  pub figures-gave :
+  pub figures_gave :
       (out after : List ℕ) (r : Figured) → 2112 ≡ length xs → Wrote xs 0 all ys n → Gave (figures (take n ys)) out after r
       → Gave (figures all) out after r
-  figures-gave out after r e w g = subst (λ (text : List ℕ). Gave (figures text) out after r) (figures_first e w) g
+  figures_gave out after r e w g = subst (λ (text : List ℕ). Gave (figures text) out after r) (figures_first e w) g
 
 -- ---- copied where there is room
 module _ (text out after : List ℕ) where
@@ -132,11 +132,11 @@ module _ (sums : Sums) (out after : List ℕ) where
   gave_many n h d =
       as_season too_many _ (sym (choose_false _ _ _ (ne_eqb _ 0 n) ∙ choose_true _ _ _ (lt-ltb 1000 _ h))) (record { is = refl; left = d })
 
-  pub gave-figures :
+  pub gave_figures :
       (r : Figured) → (sums.runs ≡ 0 → ⊥) → sums.runs ≤ 1000 → Gave (figures (figures_from sums.runs sums.tallies)) out after r
       → Gave (season_from sums) out after r
   unfolding season_from season_with
-  gave-figures r n h g =
+  gave_figures r n h g =
       as_season _ r (sym (choose_false _ _ _ (ne_eqb _ 0 n) ∙ choose_false _ _ _ (le-ltb 1000 _ h))) g
 
 -- ---- the paper's number

@@ -43,15 +43,15 @@ one_less true false h = let z : ◌≡◌ {A = ℕ} 0 1 = cc (h refl) in omega a
 one_less false true h = omega arith
 one_less false false h = omega arith
 
-tallied-less :
+tallied_less :
     (p q : ℕ → ℕ → Bool) (picks answers : List ℕ) → ((b x : ℕ) → p b x ≡ true → q b x ≡ true)
     → tallied p picks answers ≤ tallied q picks answers
 unfolding tallied
-tallied-less p q [] answers h = omega arith
-tallied-less p q (b ∷ picks) [] h = omega arith
-tallied-less p q (b ∷ picks) (x ∷ answers) h =
+tallied_less p q [] answers h = omega arith
+tallied_less p q (b ∷ picks) [] h = omega arith
+tallied_less p q (b ∷ picks) (x ∷ answers) h =
     let first = one_less (p b x) (q b x) (h b x) in
-    let rest = tallied-less p q picks answers h in
+    let rest = tallied_less p q picks answers h in
     omega (arith, first, rest)
 
 -- ---- at most 16 tuples stand at an address of a sound net
@@ -65,24 +65,24 @@ counts_fit : (m : MadeRun) → length m.picks ≤ 65536 → NetOk m.net → Coun
 unfolding picks_at performed_at performs
 counts_fit m few ok = record {
   picks_most = λ l. let most = tallied_most (counts l) m.picks m.answers in omega (arith, most);
-  performed_most = λ l. tallied-less _ _ m.picks m.answers (λ b x. both_l (counts l b x) _);
+  performed_most = λ l. tallied_less _ _ m.picks m.answers (λ b x. both_l (counts l b x) _);
   left_most = λ l. left_fits l m ok;
 }
 
-in-fits :
+in_fits :
     (image picks : List ℕ) (v : Verdict) → (opened_of image).answer ≡ v → length picks ≤ 65536 → (m : MadeRun)
     → Memᴰ m (made_in picks (run_in v (opened_of image).net picks)) → CountsFit m
 unfolding made_in run_in
-in-fits image picks Verdict.Accepted e few m h =
+in_fits image picks Verdict.Accepted e few m h =
     subst CountsFit (sym (Memᴰ.eq_of_singleton h))
     (counts_fit _ few (ran_sound (opened_of image).net picks (opened_shaped image) (opened_sound image (opened_of image) refl e)))
-in-fits image picks (Verdict.Refused f) e few m h = absurd (Memᴰ.not-nil h)
+in_fits image picks (Verdict.Refused f) e few m h = absurd (Memᴰ.not-nil h)
 
 pub made_fits : (run : Run) (m : MadeRun) → Memᴰ m (made_of run) → CountsFit m
 unfolding made_of run_of
 made_fits run m h =
     let few : length (take 65536 run.picks) ≤ 65536 = omega (arith, length-take 65536 run.picks) in
-    in-fits run.image (take 65536 run.picks) _ refl few m h
+    in_fits run.image (take 65536 run.picks) _ refl few m h
 
 pub each_fits : (runs : List Run) (m : MadeRun) → Memᴰ m (made_runs runs) → CountsFit m
 unfolding made_runs
@@ -95,32 +95,32 @@ each_fits (run ∷ runs) m h = go (made_fits run m) (each_fits runs m) (Memᴰ.a
 
 -- ---- sums
 module _ (f : MadeRun → ℕ) where
-  summed-most :
+  summed_most :
       (k : ℕ) (ms : List MadeRun) → ((m : MadeRun) → Memᴰ m ms → f m ≤ k) → summed (map f ms) ≤ k * length ms
   unfolding summed
-  summed-most k [] h = omega arith
-  summed-most k (m ∷ ms) h =
+  summed_most k [] h = omega arith
+  summed_most k (m ∷ ms) h =
       let first = h m (Memᴰ.head refl) in
-      let rest = summed-most k ms (λ n e. h n (Memᴰ.tail e)) in
+      let rest = summed_most k ms (λ n e. h n (Memᴰ.tail e)) in
       omega (arith, first, rest, mul-suc k (length ms))
 
-  summed-less :
+  summed_less :
       (g : MadeRun → ℕ) (ms : List MadeRun) → ((m : MadeRun) → Memᴰ m ms → f m ≤ g m)
       → summed (map f ms) ≤ summed (map g ms)
   unfolding summed
-  summed-less g [] h = omega arith
-  summed-less g (m ∷ ms) h =
+  summed_less g [] h = omega arith
+  summed_less g (m ∷ ms) h =
       let first = h m (Memᴰ.head refl) in
-      let rest = summed-less g ms (λ n e. h n (Memᴰ.tail e)) in
+      let rest = summed_less g ms (λ n e. h n (Memᴰ.tail e)) in
       omega (arith, first, rest)
 
-sums-fit :
+sums_fit :
     (ms : List MadeRun) → ((m : MadeRun) → Memᴰ m ms → CountsFit m) → length ms ≤ 1000 → SumsFit ms
 unfolding all_picks all_performed all_left
-sums-fit ms h few = record {
-  picks_most = λ l. let most = summed-most (picks_at l) 65536 ms (λ m e. (h m e).picks_most l) in omega (arith, most);
-  performed_most = λ l. summed-less (performed_at l) (picks_at l) ms (λ m e. (h m e).performed_most l);
-  left_most = λ l. let most = summed-most (left_at l) 16 ms (λ m e. (h m e).left_most l) in omega (arith, most);
+sums_fit ms h few = record {
+  picks_most = λ l. let most = summed_most (picks_at l) 65536 ms (λ m e. (h m e).picks_most l) in omega (arith, most);
+  performed_most = λ l. summed_less (performed_at l) (picks_at l) ms (λ m e. (h m e).performed_most l);
+  left_most = λ l. let most = summed_most (left_at l) 16 ms (λ m e. (h m e).left_most l) in omega (arith, most);
 }
 
 crossed : (l : Locality) (m n : MadeRun) → CountsFit m → CountsFit n → performed_at l m * picks_at l n ≤ 4294967296
@@ -132,5 +132,5 @@ pub season_fits : SeasonFits
 season_fits = record {
   each = each_fits;
   cross = λ runs m n e d l. crossed l m n (each_fits runs m e) (each_fits runs n d);
-  all = λ runs few. sums-fit (made_runs runs) (each_fits runs) few;
+  all = λ runs few. sums_fit (made_runs runs) (each_fits runs) few;
 }

@@ -11,7 +11,7 @@ use Rattle.net.specs.Choice.{choose, fold}
 use Rattle.net.specs.Records.{address_of}
 use Rattle.net.proofs.Laws.{choose_true, choose_false}
 use Rattle.net.proofs.Every.{Every, every_replicate, every_set, every_weaken}
-use Rattle.net.proofs.FoldLaws.{fold-keeps}
+use Rattle.net.proofs.FoldLaws.{fold_keeps}
 use Rattle.text.proofs.WritingLaws.{joined_same}
 use Rattle.lines.specs.Words.{Word, printed}
 use Rattle.season.specs.Types.{Locality}
@@ -23,7 +23,7 @@ use Rattle.season.specs.Sums.{Tally, Sums, no_tally, empty_sums, tally_at, plus,
 use Rattle.season.specs.Sums.{with_each, with_run, after_runs, tally_words, tally_line, figures_from, season_from}
 use Rattle.season.specs.SeasonClaims.{CountsFit, SumsGiveSeason}
 use Rattle.season.proofs.Fitting.{made_fits}
-use Rattle.season.proofs.Appended.{length_more, summed_more, best-at-more}
+use Rattle.season.proofs.Appended.{length_more, summed_more, best_at_more}
 
 -- ---- what the tally of an address holds after made runs
 unfoldable tally_of : List MadeRun → Locality → Tally
@@ -75,7 +75,7 @@ module _ (ms : List MadeRun) (m : MadeRun) (fits : CountsFit m) where
 
     tally_more : (l : Locality) → tally_with (length ms + 1) m l (tally_of ms l) ≡ tally_of more l
     unfolding tally_with with_counts tally_of share_at
-    tally_more l = cc (performed_is l, picks_is l, left_is l, best-at-more l ms m)
+    tally_more l = cc (performed_is l, picks_is l, left_is l, best_at_more l ms m)
 
     -- the tallies, of which those before i have the run
     record Turned (i a : ℕ) (t : Tally) : Type 0 where
@@ -95,12 +95,12 @@ module _ (ms : List MadeRun) (m : MadeRun) (fits : CountsFit m) where
               ap (tally_with (length ms + 1) m (address_of i)) ((e.holds i h).before (omega arith)) ∙ tally_more (address_of i);
         })
 
-    tallies-more :
+    tallies_more :
         (ts : List Tally) → Every (λ a t. t ≡ tally_of ms (address_of a)) no_tally 16 ts
         → Every (λ a t. t ≡ tally_of more (address_of a)) no_tally 16 (tallies_with (length ms + 1) m ts)
     unfolding tallies_with
-    tallies-more ts e =
-        let all = fold-keeps (λ i. Every (Turned i) no_tally 16) _ ts 16
+    tallies_more ts e =
+        let all = fold_keeps (λ i. Every (Turned i) no_tally 16) _ ts 16
         (every_weaken e (λ a t p. record { before = λ _. p; after = λ l. absurd (omega arith) })) turned in
         record { size_is = all.size_is; holds = λ a l. (all.holds a l).after l }
 
@@ -139,21 +139,21 @@ module _ (ms : List MadeRun) (m : MadeRun) (fits : CountsFit m) where
         small = λ a. small_more ms m fits a (h.small a);
         runs_are = omega (arith, length_more ms m, h.runs_are);
         tallies_are =
-            rw h.runs_are (tallies-more ms m fits h.few h.small s.tallies h.tallies_are);
+            rw h.runs_are (tallies_more ms m fits h.few h.small s.tallies h.tallies_are);
       })
       go (no l) = many (omega (arith, length_more ms m)) (omega (arith, h.few, h.runs_are))
   held_made s (many h e) =
       subst (Held (ms ++ m ∷ [])) (sym (choose_true _ _ _ (lt-ltb 1000 s.runs (omega arith))))
       (many (omega (arith, length_more ms m)) e)
 
-held-each :
+held_each :
     (ms ns : List MadeRun) (s : Sums) → ((m : MadeRun) → Memᴰ m ns → CountsFit m) → Held ms s
     → Held (ms ++ ns) (with_each s ns)
 unfolding with_each
-held-each ms [] s fits h = rw append-nil h
-held-each ms (n ∷ ns) s fits h =
+held_each ms [] s fits h = rw append-nil h
+held_each ms (n ∷ ns) s fits h =
     subst (λ (ks : List MadeRun). Held ks (with_each (with_made s n) ns)) (append_assoc ms (n ∷ []) ns)
-    (held-each (ms ++ n ∷ []) ns (with_made s n) (λ m e. fits m (Memᴰ.tail e))
+    (held_each (ms ++ n ∷ []) ns (with_made s n) (λ m e. fits m (Memᴰ.tail e))
     (held_made ms n (fits n (Memᴰ.head refl)) s h))
 
 held_runs : (ms : List MadeRun) (runs : List Run) (s : Sums) → Held ms s → Held (ms ++ made_runs runs) (after_runs s runs)
@@ -161,7 +161,7 @@ unfolding made_runs after_runs with_run
 held_runs ms [] s h = rw append-nil h
 held_runs ms (run ∷ runs) s h =
     subst (λ (ks : List MadeRun). Held ks (after_runs (with_each s (made_of run)) runs)) (append_assoc ms (made_of run) (made_runs runs))
-    (held_runs (ms ++ made_of run) runs (with_each s (made_of run)) (held-each ms (made_of run) s (made_fits run) h))
+    (held_runs (ms ++ made_of run) runs (with_each s (made_of run)) (held_each ms (made_of run) s (made_fits run) h))
 
 -- ---- the figures
 line_is : (l : Locality) (ms : List MadeRun) → tally_line (length ms) l (tally_of ms l) ≡ share_line l ms

@@ -16,7 +16,7 @@ use Rattle.sound.specs.Soundness.{is_actual, actuals_only, binds_anew, formals_a
 use Rattle.sound.specs.Soundness.{group_sound, action_sound, template_for, instruction_sound}
 use Rattle.net.proofs.Laws.{both_i, both_l, both_r, implies_i, implies_e, all_i, all_e}
 use Rattle.net.proofs.Laws.{in_range_law, in_range_low, in_range_high}
-use Rattle.net.proofs.Every.{Every, Filled, filled_all, all-filled}
+use Rattle.net.proofs.Every.{Every, Filled, filled_all, all_filled}
 use Rattle.net.proofs.Past.{past_template}
 use Rattle.sound.proofs.ZeroClaims.{zero_is_zero, no_template_passes}
 use Rattle.sound.proofs.NodeFacts.{of_zero}
@@ -59,7 +59,7 @@ module _ (n : ℕ) (c : Instruction) where
     least = in_range_low 1 c.count 4 (both_l _ _ h);
     most = in_range_high 1 c.count 4 (both_l _ _ h);
     patterns_ok =
-        all-filled (λ f. pattern_sound n f.pattern) (λ f. is_zero_pattern f.pattern) shape.template_is
+        all_filled (λ f. pattern_sound n f.pattern) (λ f. is_zero_pattern f.pattern) shape.template_is
         (both_r (in_range 1 c.count 4) _ h) (λ j l e. e) (λ j l. (zero_is_zero.templateField _).0);
   }
 
@@ -71,11 +71,11 @@ module _ (n : ℕ) (c : Instruction) where
       (λ f. (zero_is_zero.templateField f).1))
 
   module _ (test : ℕ → Pattern → Bool) where
-    tested-apart :
+    tested_apart :
         ShapedInstruction c
         → both (template_sound n c) (all 4 (λ i. implies (ltb i c.count) (test i (pattern_at c i)))) ≡ true
         → Tested test n c
-    tested-apart shape h =
+    tested_apart shape h =
         let ok = template_apart shape (both_l _ _ h) in
         record {
           template_ok = ok;
@@ -84,10 +84,10 @@ module _ (n : ℕ) (c : Instruction) where
               (lt-ltb i c.count l);
         }
 
-    tested-sound :
+    tested_sound :
         Tested test n c
         → both (template_sound n c) (all 4 (λ i. implies (ltb i c.count) (test i (pattern_at c i)))) ≡ true
-    tested-sound ok =
+    tested_sound ok =
         both_i _ _ (template_sound_law ok.template_ok)
         (all_i 4 _ (λ i h. implies_i (ltb i c.count) _ (λ e. ok.each i (ltb-true i c.count e))))
 
@@ -106,33 +106,33 @@ abbrev pub InstructionOk : ℕ → ℕ → ℕ → Instruction → Type 0
 InstructionOk f n k c = Acts f n k c.action c
 
 module _ (f n k : ℕ) (c : Instruction) where
-  acts-apart :
+  acts_apart :
       (a : Action) → ShapedInstruction c → action_sound f n k a ≡ true → template_for n a c ≡ true → Acts f n k a c
   unfolding action_sound template_for actuals_only formals_apart Acts
-  acts-apart Action.Stop shape h t = (zero_is_zero.template c shape).0 t
-  acts-apart (Action.Out to p) shape h t =
-      (both_l _ _ h, ltb-true _ _ (both_r (target_sound n to) _ h), tested-apart n c (λ i. is_actual) shape t)
-  acts-apart (Action.In to p) shape h t =
-      (both_l _ _ h, ltb-true _ _ (both_r (target_sound n to) _ h), tested-apart n c (binds_anew c) shape t)
-  acts-apart (Action.Read to p) shape h t =
-      (both_l _ _ h, ltb-true _ _ (both_r (target_sound n to) _ h), tested-apart n c (binds_anew c) shape t)
-  acts-apart (Action.Eval to sent p) shape h t =
+  acts_apart Action.Stop shape h t = (zero_is_zero.template c shape).0 t
+  acts_apart (Action.Out to p) shape h t =
+      (both_l _ _ h, ltb-true _ _ (both_r (target_sound n to) _ h), tested_apart n c (λ i. is_actual) shape t)
+  acts_apart (Action.In to p) shape h t =
+      (both_l _ _ h, ltb-true _ _ (both_r (target_sound n to) _ h), tested_apart n c (binds_anew c) shape t)
+  acts_apart (Action.Read to p) shape h t =
+      (both_l _ _ h, ltb-true _ _ (both_r (target_sound n to) _ h), tested_apart n c (binds_anew c) shape t)
+  acts_apart (Action.Eval to sent p) shape h t =
       let g = both_r (target_sound n to) _ h in (
         both_l _ _ h,
         ltb-true _ _ (both_l _ _ g),
         ltb-true _ _ (both_r (ltb sent.0 k) _ g),
         (zero_is_zero.template c shape).0 t,
       )
-  acts-apart (Action.New v p) shape h t =
+  acts_apart (Action.New v p) shape h t =
       (ltb-true _ _ (both_l _ _ h), ltb-true _ _ (both_r (ltb v 8) _ h), (zero_is_zero.template c shape).0 t)
-  acts-apart (Action.Fork p q) shape h t =
+  acts_apart (Action.Fork p q) shape h t =
       (ltb-true _ _ (both_l _ _ h), ltb-true _ _ (both_r (ltb p.0 k) _ h), (zero_is_zero.template c shape).0 t)
-  acts-apart (Action.OutAll g p) shape h t =
+  acts_apart (Action.OutAll g p) shape h t =
       let later = both_r (not (eqb f 1)) _ h in (
         not-true (eqb f 1) (both_l _ _ h),
         both_l _ _ later,
         ltb-true _ _ (both_r (group_sound n g) _ later),
-        tested-apart n c (λ i. is_actual) shape t,
+        tested_apart n c (λ i. is_actual) shape t,
       )
 
   bare_sound : Bare c → no_template c ≡ true
@@ -141,15 +141,15 @@ module _ (f n k : ℕ) (c : Instruction) where
   acts_sound : (a : Action) → Acts f n k a c → both (action_sound f n k a) (template_for n a c) ≡ true
   unfolding action_sound template_for actuals_only formals_apart Acts
   acts_sound Action.Stop b = both_i _ _ refl (bare_sound b)
-  acts_sound (Action.Out to p) (t, h, ok) = both_i _ _ (both_i _ _ t (lt-ltb _ _ h)) (tested-sound n c (λ i. is_actual) ok)
-  acts_sound (Action.In to p) (t, h, ok) = both_i _ _ (both_i _ _ t (lt-ltb _ _ h)) (tested-sound n c (binds_anew c) ok)
-  acts_sound (Action.Read to p) (t, h, ok) = both_i _ _ (both_i _ _ t (lt-ltb _ _ h)) (tested-sound n c (binds_anew c) ok)
+  acts_sound (Action.Out to p) (t, h, ok) = both_i _ _ (both_i _ _ t (lt-ltb _ _ h)) (tested_sound n c (λ i. is_actual) ok)
+  acts_sound (Action.In to p) (t, h, ok) = both_i _ _ (both_i _ _ t (lt-ltb _ _ h)) (tested_sound n c (binds_anew c) ok)
+  acts_sound (Action.Read to p) (t, h, ok) = both_i _ _ (both_i _ _ t (lt-ltb _ _ h)) (tested_sound n c (binds_anew c) ok)
   acts_sound (Action.Eval to sent p) (t, g, h, b) =
       both_i _ _ (both_i _ _ t (both_i _ _ (lt-ltb _ _ g) (lt-ltb _ _ h))) (bare_sound b)
   acts_sound (Action.New v p) (g, h, b) = both_i _ _ (both_i _ _ (lt-ltb _ _ g) (lt-ltb _ _ h)) (bare_sound b)
   acts_sound (Action.Fork p q) (g, h, b) = both_i _ _ (both_i _ _ (lt-ltb _ _ g) (lt-ltb _ _ h)) (bare_sound b)
   acts_sound (Action.OutAll g p) (e, m, h, ok) =
-      both_i _ _ (both_i _ _ (ap not e) (both_i _ _ m (lt-ltb _ _ h))) (tested-sound n c (λ i. is_actual) ok)
+      both_i _ _ (both_i _ _ (ap not e) (both_i _ _ m (lt-ltb _ _ h))) (tested_sound n c (λ i. is_actual) ok)
 
   -- what the template of every action has
   module _
@@ -172,7 +172,7 @@ module _ (f n k : ℕ) (c : Instruction) where
   pub instruction_apart : ShapedInstruction c → instruction_sound f n k c ≡ true → InstructionOk f n k c
   unfolding instruction_sound
   instruction_apart shape h =
-      acts-apart c.action shape (both_l _ _ h) (both_r (action_sound f n k c.action) _ h)
+      acts_apart c.action shape (both_l _ _ h) (both_r (action_sound f n k c.action) _ h)
 
   pub instruction_sound_law : InstructionOk f n k c → instruction_sound f n k c ≡ true
   unfolding instruction_sound

@@ -12,9 +12,9 @@ use Rattle.net.specs.Records.{zero_template_field, zero_instruction, pattern_at,
 use Rattle.sound.specs.Types.{Place, Target, Pattern, TemplateField, Action, Instruction}
 use Rattle.sound.specs.Soundness.{target_sound, group_sound, pattern_sound, is_actual, unbound_before, binds_anew}
 use Rattle.net.specs.declared.locality.Group.{Group}
-use Rattle.net.proofs.Every.{chosen_lt, every_replicate, filled-add}
+use Rattle.net.proofs.Every.{chosen_lt, every_replicate, filled_add}
 use Rattle.net.proofs.Past.{past_template}
-use Rattle.sound.proofs.FormalLaws.{anew_as, each-put, anew-put}
+use Rattle.sound.proofs.FormalLaws.{anew_as, each_put, anew_put}
 use Rattle.sound.proofs.CodeFacts.{PatternsOk, TemplateOk, AtEach, Acts, InstructionOk}
 
 -- behind the fields of c as rules 26 and 27 ask: an actual, where formals are not allowed, and no variable twice
@@ -61,18 +61,18 @@ no_pattern formals n = record {
 }
 
 module _ (formals : Bool) (n i : ℕ) (c : Instruction) where
-  pub next-pattern :
+  pub next_pattern :
       (f : TemplateField) → i < 4 → Drafted formals n i c → SuitsNext formals n c f.pattern
       → Drafted formals n (suc i) (with_pattern c f)
   unfolding with_pattern
-  next-pattern f h ok s =
+  next_pattern f h ok s =
       chosen_lt (Drafted formals n (suc i)) c.count 4 _ _
       (λ l. let room : c.count < length c.template = omega (arith, ok.patterns_ok.size_is) in record {
         count_is = omega (arith, ok.count_is);
-        patterns_ok = filled-add f s.pattern_sound_law ok.patterns_ok;
+        patterns_ok = filled_add f s.pattern_sound_law ok.patterns_ok;
         actual = λ e j g.
-            each-put c c.count _ f room (λ m x. is_actual x ≡ true) (ok.actual e) (s.actual e) j (omega arith);
-        anew = λ j g. anew-put c c.count _ f room ok.anew s.anew j (omega arith);
+            each_put c c.count _ f room (λ m x. is_actual x ≡ true) (ok.actual e) (s.actual e) j (omega arith);
+        anew = λ j g. anew_put c c.count _ f room ok.anew s.anew j (omega arith);
       })
       (λ l. absurd (omega (arith, ok.count_is)))
 
@@ -121,8 +121,8 @@ module _ (f n k : ℕ) where
   read_ok t p c e h ok = (e, h, record { template_ok = ok.template_ok; each = ok.anew })
 
   -- a set, a place and a template make a sound out to a set, in format 2
-  pub out-all-ok :
+  pub out_all_ok :
       (g : Group) (p : Place) (c : Instruction) → eqb f 1 ≡ false → group_sound n g ≡ true → p.0 < k
       → Whole false n (with_action c (Action.OutAll g p)) → InstructionOk f n k (with_action c (Action.OutAll g p))
   unfolding with_action Acts
-  out-all-ok g p c e m h ok = (e, m, h, record { template_ok = ok.template_ok; each = ok.actual refl })
+  out_all_ok g p c e m h ok = (e, m, h, record { template_ok = ok.template_ok; each = ok.actual refl })

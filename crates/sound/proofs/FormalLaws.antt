@@ -1,5 +1,5 @@
 -- Rules 26 and 27 (`specs/Soundness.antt`) of a template that changes: rule 27 judges a field by the fields before it, so
--- that a field put behind them leaves what holds of them (`each-put`, `anew-put`); and a field that is no formal keeps it.
+-- that a field put behind them leaves what holds of them (`each_put`, `anew_put`); and a field that is no formal keeps it.
 -- Assumes nothing.
 use Prim.Native.Nat.{ℕ, ◌<◌, ◌≤◌}
 use mathlib.Core.Path.{◌≡◌, refl, sym, ap, subst, ◌∙◌}
@@ -63,16 +63,16 @@ module _ (c : Instruction) (i k : ℕ) (f : TemplateField) where
     unfolding pattern_at
     at_put = ap (λ (y : TemplateField). y.pattern) (sym (get_or-set_same c.template i f past_template room))
 
-    pub each-put :
+    pub each_put :
         (P : ℕ → Pattern → Type 0) → ((j : ℕ) → j < i → P j (pattern_at c j)) → P i f.pattern
         → (j : ℕ) → j ≤ i → P j (pattern_at put_at j)
-    each-put P h p j l = go j (split j i (omega arith))
+    each_put P h p j l = go j (split j i (omega arith))
       where
         go : (j : ℕ) → (j < i) ⊎ (j ≡ i) → P j (pattern_at put_at j)
         go j (inl g) = subst (P j) (below_put j g) (h j g)
         go j (inr e) = subst (λ (m : ℕ). P m (pattern_at put_at m)) (sym e) (subst (P i) at_put p)
 
-    pub anew-put :
+    pub anew_put :
         ((j : ℕ) → j < i → binds_anew c j (pattern_at c j) ≡ true) → binds_anew c i f.pattern ≡ true
         → (j : ℕ) → j ≤ i → binds_anew put_at j (pattern_at put_at j) ≡ true
-    anew-put h p j l = anew_below j _ l (each-put (λ m x. binds_anew c m x ≡ true) h p j l)
+    anew_put h p j l = anew_below j _ l (each_put (λ m x. binds_anew c m x ≡ true) h p j l)

@@ -10,8 +10,8 @@ use borrow.Author.Tests.{ltb-true, lt-ltb}
 use Rattle.sound.specs.Types.{Value, Item, Tuple, Row, Process, Node, Target, Pattern, Action, Instruction}
 use Rattle.sound.specs.Soundness.{item_sound, value_sound, target_sound, group_sound, pattern_sound}
 use Rattle.net.specs.declared.locality.Group.{Group}
-use Rattle.net.proofs.GroupLaws.{members-map}
-use Rattle.net.proofs.Every.{every_weaken, filled-map}
+use Rattle.net.proofs.GroupLaws.{members_map}
+use Rattle.net.proofs.Every.{every_weaken, filled_map}
 use Rattle.sound.proofs.NodeFacts.{TupleOk, RowOk, RowsOk, Running, ProcessOk, NodeOk}
 use Rattle.sound.proofs.CodeFacts.{TemplateOk, Tested, Acts, InstructionOk}
 
@@ -30,7 +30,7 @@ module _ (m n : ℕ) (l : m ≤ n) where
     mark_ok = omega (arith, ok.mark_ok);
     least = ok.least;
     most = ok.most;
-    fields_ok = filled-map (λ f. item_more f.item) (λ f e. e) ok.fields_ok;
+    fields_ok = filled_map (λ f. item_more f.item) (λ f e. e) ok.fields_ok;
   }
 
   value_more : (x : Value) → value_sound m x ≡ true → value_sound n x ≡ true
@@ -65,7 +65,7 @@ module _ (m n : ℕ) (l : m ≤ n) where
     rows_ok = rows_more f x.rows ok.rows_ok;
     processes_ok = every_weaken ok.processes_ok (λ i. process_more k);
     room = ok.room;
-    tuples_ok = filled-map tuple_more (λ t e. e) ok.tuples_ok;
+    tuples_ok = filled_map tuple_more (λ t e. e) ok.tuples_ok;
   }
 
   -- ---- instructions
@@ -77,7 +77,7 @@ module _ (m n : ℕ) (l : m ≤ n) where
 
   group_more : (g : Group) → group_sound m g ≡ true → group_sound n g ≡ true
   unfolding group_sound
-  group_more g h = members-map g _ _ (λ l. below_more l.0) h
+  group_more g h = members_map g _ _ (λ l. below_more l.0) h
 
   pattern_more : (x : Pattern) → pattern_sound m x ≡ true → pattern_sound n x ≡ true
   unfolding pattern_sound
@@ -92,7 +92,7 @@ module _ (m n : ℕ) (l : m ≤ n) where
   template_more c ok = record {
     least = ok.least;
     most = ok.most;
-    patterns_ok = filled-map (λ f. pattern_more f.pattern) (λ f e. e) ok.patterns_ok;
+    patterns_ok = filled_map (λ f. pattern_more f.pattern) (λ f e. e) ok.patterns_ok;
   }
 
   tested_more : (test : ℕ → Pattern → Bool) (c : Instruction) → Tested test m c → Tested test n c

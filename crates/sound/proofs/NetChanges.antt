@@ -9,7 +9,7 @@ use Rattle.net.specs.Shape.{Shaped}
 use Rattle.net.specs.declared.locality.Locality.{Locality}
 use Rattle.net.specs.declared.locality.Place.{Place}
 use Rattle.sound.specs.Types.{Node, Instruction, Net}
-use Rattle.net.proofs.Every.{every_replicate, filled-set}
+use Rattle.net.proofs.Every.{every_replicate, filled_set}
 use Rattle.net.proofs.Past.{past_node, past_instruction}
 use Rattle.sound.proofs.NodeFacts.{NodeOk}
 use Rattle.sound.proofs.NodeChanges.{zero_node_law}
@@ -21,11 +21,11 @@ unfolding Acts zero_instruction with_action
 zero_instruction_law f n k = refl
 
 -- the records of the empty net, whatever the format and the counts that stand before them
-pub empty-net :
+pub empty_net_law :
     (g m j f n k : ℕ) → 1 ≤ f → f ≤ 2 → 1 ≤ n → n ≤ 16 → 1 ≤ k → k ≤ 512
     → NetWith f n k (with_counts (with_format empty_net g) m j)
 unfolding with_counts with_format empty_net
-empty-net g m j f n k f₁ f₂ n₁ n₂ k₁ k₂ = record {
+empty_net_law g m j f n k f₁ f₂ n₁ n₂ k₁ k₂ = record {
   format_least = f₁;
   format_most = f₂;
   addresses_least = n₁;
@@ -42,7 +42,7 @@ pub empty_shaped : Shaped empty_net
 unfolding with_counts with_format empty_net
 empty_shaped =
     net_shaped 1 1 1 _
-    (empty-net 0 0 0 1 1 1 (omega arith) (omega arith) (omega arith) (omega arith) (omega arith) (omega arith))
+    (empty_net_law 0 0 0 1 1 1 (omega arith) (omega arith) (omega arith) (omega arith) (omega arith) (omega arith))
 
 module _ {f n k : ℕ} (s : Net) (ok : NetWith f n k s) where
   pub node_at_law : (a : Locality) → a.0 < n → NodeOk f n k (node_at s a)
@@ -62,14 +62,14 @@ module _ {f n k : ℕ} (s : Net) (ok : NetWith f n k s) where
     addresses_most = ok.addresses_most;
     length_least = ok.length_least;
     length_most = ok.length_most;
-    nodes_ok = filled-set a.0 x h g ok.nodes_ok;
+    nodes_ok = filled_set a.0 x h g ok.nodes_ok;
     code_ok = ok.code_ok;
   }
 
-  pub with-instruction :
+  pub with_instruction_law :
       (p : Place) (c : Instruction) → p.0 < k → InstructionOk f n k c → NetWith f n k (with_instruction s p c)
   unfolding with_instruction
-  with-instruction p c h g = record {
+  with_instruction_law p c h g = record {
     format_least = ok.format_least;
     format_most = ok.format_most;
     addresses_least = ok.addresses_least;
@@ -77,5 +77,5 @@ module _ {f n k : ℕ} (s : Net) (ok : NetWith f n k s) where
     length_least = ok.length_least;
     length_most = ok.length_most;
     nodes_ok = ok.nodes_ok;
-    code_ok = filled-set p.0 c h g ok.code_ok;
+    code_ok = filled_set p.0 c h g ok.code_ok;
   }

@@ -11,7 +11,7 @@ use Rattle.sound.specs.Types.{Net}
 use Rattle.sound.specs.Soundness.{node_sound, is_zero_node, instruction_sound, is_zero_instruction}
 use Rattle.sound.specs.Soundness.{nodes_sound, code_sound, sound_of}
 use Rattle.net.proofs.Laws.{both_i, both_l, both_r, in_range_law, in_range_low, in_range_high}
-use Rattle.net.proofs.Every.{Every, Filled, filled-each, filled_all, all-filled}
+use Rattle.net.proofs.Every.{Every, Filled, filled_each, filled_all, all_filled}
 use Rattle.net.proofs.Past.{past_node, past_instruction}
 use Rattle.sound.proofs.ZeroClaims.{zero_is_zero, node_passes, instruction_passes}
 use Rattle.sound.proofs.NodeFacts.{of_zero, NodeOk, node_apart, node_sound_law, node_shaped}
@@ -49,11 +49,11 @@ sound_apart s shape h =
       length_least = in_range_low 1 k 512 (both_r (in_range 1 n 16) _ counts);
       length_most = in_range_high 1 k 512 (both_r (in_range 1 n 16) _ counts);
       nodes_ok =
-          all-filled (node_sound f n k) is_zero_node shape.nodes_are (both_l _ _ records)
+          all_filled (node_sound f n k) is_zero_node shape.nodes_are (both_l _ _ records)
           (λ a l. node_apart f n k _ (shape.each_node (address_of a) l))
           (λ a l. (zero_is_zero.node _ (shape.each_node (address_of a) l)).0);
       code_ok =
-          all-filled (instruction_sound f n k) is_zero_instruction shape.code_is (both_r (nodes_sound s) _ records)
+          all_filled (instruction_sound f n k) is_zero_instruction shape.code_is (both_r (nodes_sound s) _ records)
           (λ p l. instruction_apart f n k _ (shape.each_instruction (place_of p) l))
           (λ p l. (zero_is_zero.instruction _ (shape.each_instruction (place_of p) l)).0);
     }
@@ -82,7 +82,7 @@ unfolding node_at instruction_at
 net_shaped f n k s ok = record {
   nodes_are = ok.nodes_ok.size_is;
   code_is = ok.code_ok.size_is;
-  each_node = λ a. filled-each ok.nodes_ok (node_shaped f n k) (of_zero ShapedNode zero_node_shaped) a.0;
+  each_node = λ a. filled_each ok.nodes_ok (node_shaped f n k) (of_zero ShapedNode zero_node_shaped) a.0;
   each_instruction = λ p.
-      filled-each ok.code_ok (instruction_shaped f n k) (of_zero ShapedInstruction zero_instruction_shaped) p.0;
+      filled_each ok.code_ok (instruction_shaped f n k) (of_zero ShapedInstruction zero_instruction_shaped) p.0;
 }

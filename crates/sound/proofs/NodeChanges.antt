@@ -16,7 +16,7 @@ use Rattle.sound.specs.Types.{Field, Tuple, Row, Process, Node}
 use Rattle.net.specs.declared.locality.Locality.{Locality}
 use Rattle.net.specs.declared.locality.Place.{Place}
 use Rattle.sound.specs.Soundness.{item_sound, value_sound}
-use Rattle.net.proofs.Every.{chosen_lt, every_replicate, every_set, filled-add}
+use Rattle.net.proofs.Every.{chosen_lt, every_replicate, every_set, filled_add}
 use Rattle.net.proofs.Past.{past_field, past_variable, past_rights, past_row, past_process, past_tuple}
 use Rattle.net.proofs.ReadingLaws.{never}
 use Rattle.sound.proofs.NodeFacts.{FieldsOk, TupleOk, RowOk, RowsOk, Running, ProcessOk, NodeOk, node_shaped}
@@ -41,7 +41,7 @@ module _ (n : ℕ) where
   unfolding with_field
   next_field i t f h ok s =
       chosen_lt (Filling n (suc i)) t.count 4 _ _
-      (λ l. record { count_is = omega (arith, ok.count_is); fields_ok = filled-add f s ok.fields_ok })
+      (λ l. record { count_is = omega (arith, ok.count_is); fields_ok = filled_add f s ok.fields_ok })
       (λ l. absurd (omega (arith, ok.count_is)))
 
   pub all_fields : (i : ℕ) (t : Tuple) (a : Locality) → 1 ≤ i → i ≤ 4 → a.0 < n → Filling n i t → TupleOk n (marked a t)
@@ -133,7 +133,7 @@ module _ (f n k : ℕ) where
           rows_ok = ok.rows_ok;
           processes_ok = ok.processes_ok;
           room = omega arith;
-          tuples_ok = filled-add t h ok.tuples_ok;
+          tuples_ok = filled_add t h ok.tuples_ok;
         })
         (λ l. ok)
 

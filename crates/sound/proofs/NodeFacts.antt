@@ -21,7 +21,7 @@ use Rattle.sound.specs.Soundness.{is_zero_row, same_bool, same_rights, same_row,
 use Rattle.sound.specs.Soundness.{process_sound, node_sound}
 use Rattle.net.proofs.Laws.{both_i, both_l, both_r, implies_i, implies_e, choose_e, choose_else, all_i, all_e}
 use Rattle.net.proofs.Laws.{in_range_law, in_range_low, in_range_high}
-use Rattle.net.proofs.Every.{chosen, Every, Filled, filled-each, filled_all, all-filled}
+use Rattle.net.proofs.Every.{chosen, Every, Filled, filled_each, filled_all, all_filled}
 use Rattle.net.proofs.Past.{past_field, past_variable, past_rights, past_row, past_process, past_tuple}
 use Rattle.sound.proofs.ZeroClaims.{zero_is_zero, tuple_passes, row_passes, process_passes}
 
@@ -46,7 +46,7 @@ tuple_apart n t shape h = let g = both_r (ltb t.mark.0 n) _ h in record {
   least = in_range_low 1 t.count 4 (both_l _ _ g);
   most = in_range_high 1 t.count 4 (both_l _ _ g);
   fields_ok =
-      all-filled (λ f. item_sound n f.item) (λ f. is_zero_item f.item) shape.fields_are
+      all_filled (λ f. item_sound n f.item) (λ f. is_zero_item f.item) shape.fields_are
       (both_r (in_range 1 t.count 4) _ g) (λ j l e. e) (λ j l. (zero_is_zero.field _).0);
 }
 
@@ -227,7 +227,7 @@ module _ (f n k : ℕ) (x : Node) where
         };
         room = leb-true _ _ (both_l _ _ stores);
         tuples_ok =
-            all-filled (tuple_sound n) is_zero_tuple shape.tuples_are (both_r (leb x.stored 16) _ stores)
+            all_filled (tuple_sound n) is_zero_tuple shape.tuples_are (both_r (leb x.stored 16) _ stores)
             (λ j l. tuple_apart n _ (shape.each_tuple j l)) (λ j l. (zero_is_zero.tuple _ (shape.each_tuple j l)).0);
       }
 
@@ -248,5 +248,5 @@ module _ (f n k : ℕ) (x : Node) where
     tuples_are = ok.tuples_ok.size_is;
     each_row = λ o h. record { rights_are = (ok.rows_ok.each_ok.holds o.0 h).size_is };
     each_process = λ i h. process_shaped n k _ (ok.processes_ok.holds i h);
-    each_tuple = filled-each ok.tuples_ok (tuple_shaped n) (of_zero ShapedTuple zero_tuple_shaped);
+    each_tuple = filled_each ok.tuples_ok (tuple_shaped n) (of_zero ShapedTuple zero_tuple_shaped);
   }

@@ -22,8 +22,8 @@ use Rattle.sources.specs.Types.{Group, Target, Instruction, Scope}
 use Rattle.sources.specs.Printed.{template_text, target_text, group_text, process_text, action_text}
 use Rattle.sources.specs.WellFormed.{TemplateFormed, TargetFormed}
 use Rattle.sources.specs.WellFormed.{ProcessFormed, ActionFormed, puts, takes, reads, sends, opens, shares}
-use Rattle.sources.proofs.ReadsPrints.{opens_with_law, Reads, After, Or, Then, Image, reads_as, reads-equal}
-use Rattle.sources.proofs.ReadsPrints.{reads_then, reads_from_word, reads_map, reads-closed, reads-either, reads-choice, reads_last}
+use Rattle.sources.proofs.ReadsPrints.{opens_with_law, Reads, After, Or, Then, Image, reads_as, reads_equal}
+use Rattle.sources.proofs.ReadsPrints.{reads_then, reads_from_word, reads_map, reads_closed, reads_either, reads_choice, reads_last}
 use Rattle.sources.proofs.Numbers.{low_byte, high_byte, NoDigit}
 use Rattle.sources.proofs.Openings.{both_none}
 use Rattle.sources.proofs.Listed.{FieldEnd}
@@ -67,11 +67,11 @@ module _ (scope : Scope) (h : scope.addresses ≤ 16) where
   unfolding bytes
   bracket_closes v u d e = opens_with_law _ u d e
 
-  reads-communication :
+  reads_communication :
       (opening : List ℕ) (make : Instruction → Target → Action)
       → Reads (communication opening make scope) (Communication opening make scope.addresses) NoDigit
   unfolding communication
-  reads-communication opening make =
+  reads_communication opening make =
       reads_from_word opening
       (reads_then (reads_template true scope.addresses h) (λ c u y. reads_at_target (make c))
       (λ c a u v d y z e. subst FieldEnd (sym (bracket_closes _ v d z.1.2)) closes_fields))
@@ -106,7 +106,7 @@ module _ (scope : Scope) (h : scope.addresses ≤ 16) where
     unfolding both look
     reads_receiver true =
         reads_as
-        (reads-either (λ b. both (eqb b 123) true) reads_to_all (reads_last reads_to_one)
+        (reads_either (λ b. both (eqb b 123) true) reads_to_all (reads_last reads_to_one)
         (λ a u d (g, y, is) e. both_i _ _ (eq-eqb _ 123 (group_opens g u d y)) refl)
         (λ a u d (t, y, is) e. ap (λ (b : Bool). both b true) (ne_eqb _ 123 (target_other t u d y)))
         ).looked
@@ -123,7 +123,7 @@ module _ (scope : Scope) (h : scope.addresses ≤ 16) where
         from a u (inr y) = inr y
     reads_receiver false =
         reads_as
-        (reads-equal _ (λ s p. ap (λ (m : Reader Action). m s p) (choose_false _ _ _ (both_none (eqb (byte_at s p) 123) false refl))) reads_to_one)
+        (reads_equal _ (λ s p. ap (λ (m : Reader Action). m s p) (choose_false _ _ _ (both_none (eqb (byte_at s p) 123) false refl))) reads_to_one)
         (λ a u y. inr y) from (λ d e. e)
       where
         from : (a : Action) (u : List ℕ) → Receiving false scope.addresses c a u → Image (out c) (TargetText scope.addresses) a u
@@ -140,7 +140,7 @@ module _ (scope : Scope) (h : scope.addresses ≤ 16) where
 reads_creation : Reads creation Creation NoDigit
 unfolding creation
 reads_creation =
-    reads_as (reads_from_word (bytes "newloc(u") (reads-closed 41 newloc reads_variable (low_byte 41 (omega arith)))) (λ a u x. x) (λ a u x. x) (λ d e. tt)
+    reads_as (reads_from_word (bytes "newloc(u") (reads_closed 41 newloc reads_variable (low_byte 41 (omega arith)))) (λ a u x. x) (λ a u x. x) (λ d e. tt)
 
 abbrev Simple₃ : ℕ → Action → List ℕ → Type 0
 Simple₃ n = Or (Communication (bytes "read(") read n) Creation
@@ -171,9 +171,9 @@ module _ (scope : Scope) where
   reads_simple : scope.addresses ≤ 16 → Reads (simple scope) (Simple₁ scope) NoDigit
   unfolding simple bytes
   reads_simple h =
-      (reads-choice 111 (reads_putting scope h)
-      (reads-choice 105 (reads-communication scope h (bytes "in(") input)
-      (reads-choice 114 (reads-communication scope h (bytes "read(") read) (reads_last reads_creation)
+      (reads_choice 111 (reads_putting scope h)
+      (reads_choice 105 (reads_communication scope h (bytes "in(") input)
+      (reads_choice 114 (reads_communication scope h (bytes "read(") read) (reads_last reads_creation)
       (λ a u d y e. opens_with_law _ u d y.2) (λ a u d y e f. let g = opens_with_law _ u d y.2 in omega arith))
       (λ a u d y e. opens_with_law _ u d y.2) (λ a u d y e. other₃ scope.addresses 105 (λ f. omega arith) (λ f. omega arith) a u d y))
       (λ a u d y e. opens_with_law _ u d y.2) (λ a u d y e. other₂ scope.addresses 111 (λ f. omega arith) (λ f. omega arith) (λ f. omega arith) a u d y)
@@ -204,12 +204,12 @@ spoken opening c to v w x y u e f g i j =
     ∙ j
 
 module _ (scope : Scope) where
-  communication-to :
+  communication_to :
       (opening : List ℕ) (make : Instruction → Target → Action) (d : ℕ) (a : Action) (u : List ℕ)
       → ((c : Instruction) (t : Target) → opening ++ (template_text c ++ (bytes ")@" ++ target_text t)) ≡ action_text (make c t))
       → ((c : Instruction) (t : Target) → TemplateFormed true scope.addresses c → TargetFormed scope.addresses t → ActionFormed scope d (make c t))
       → Communication opening make scope.addresses a u → ActionText scope d a u
-  communication-to opening make d a u text form (y, z, j) =
+  communication_to opening make d a u text form (y, z, j) =
       let (t, (w, f, g), is) = z.goes_on in
       let c = z.one in
       subst (λ (b : Action). ActionText scope d b u) is (record {
@@ -217,11 +217,11 @@ module _ (scope : Scope) where
         prints = sym (text c t) ∙ spoken opening c (target_text t) _ w _ y u z.prints.prints f.prints g z.is j;
       })
 
-  communication-from :
+  communication_from :
       (opening : List ℕ) (make : Instruction → Target → Action) (c : Instruction) (t : Target) (u : List ℕ)
       → TemplateFormed true scope.addresses c → TargetFormed scope.addresses t → opening ++ (template_text c ++ (bytes ")@" ++ target_text t)) ≡ u
       → Communication opening make scope.addresses (make c t) u
-  communication-from opening make c t u y z e = (
+  communication_from opening make c t u y z e = (
     template_text c ++ (bytes ")@" ++ target_text t),
     record {
       one = c;
@@ -285,8 +285,8 @@ module _ (scope : Scope) where
             ∙ j;
       })
   action_to d a u (inr (inl y)) = putting_to d a u y
-  action_to d a u (inr (inr (inl y))) = communication-to (bytes "in(") input d a u (λ c t. refl) (λ c t e f. takes e f) y
-  action_to d a u (inr (inr (inr (inl y)))) = communication-to (bytes "read(") read d a u (λ c t. refl) (λ c t e f. reads e f) y
+  action_to d a u (inr (inr (inl y))) = communication_to (bytes "in(") input d a u (λ c t. refl) (λ c t e f. takes e f) y
+  action_to d a u (inr (inr (inr (inl y)))) = communication_to (bytes "read(") read d a u (λ c t. refl) (λ c t e f. reads e f) y
   action_to d a u (inr (inr (inr (inr (y, (k, (w, f, g), is), j))))) =
       subst (λ (b : Action). ActionText scope d b u) is (record {
         formed = opens f.in_range_law;
@@ -300,8 +300,8 @@ module _ (scope : Scope) where
       inr (inl (putting_from c a (target_text t) u y (inr (t, record { formed = z; prints = refl }, refl)) e))
   action_from d a u (shares {c = c} {g = g} two y z) e =
       inr (inl (putting_from c a (group_text g) u y (inl (eq-eqb scope.format 2 two, (g, record { formed = z; prints = refl }, refl))) e))
-  action_from d a u (takes {c = c} {t = t} y z) e = inr (inr (inl (communication-from (bytes "in(") input c t u y z e)))
-  action_from d a u (reads {c = c} {t = t} y z) e = inr (inr (inr (inl (communication-from (bytes "read(") read c t u y z e))))
+  action_from d a u (takes {c = c} {t = t} y z) e = inr (inr (inl (communication_from (bytes "in(") input c t u y z e)))
+  action_from d a u (reads {c = c} {t = t} y z) e = inr (inr (inr (inl (communication_from (bytes "read(") read c t u y z e))))
   action_from d a u (sends {p = p} {t = t} y z) e = inl (
     process_text p ++ (bytes ")@" ++ target_text t),
     record {
@@ -322,7 +322,7 @@ module _ (scope : Scope) where
   unfolding action bytes
   reads_action h d inner r =
       reads_as
-      (reads-choice 101 (reads_evaluation scope h inner (Deeper scope d) r) (reads_last (reads_simple scope h))
+      (reads_choice 101 (reads_evaluation scope h inner (Deeper scope d) r) (reads_last (reads_simple scope h))
       (λ a u e y f. opens_with_law _ u e y.2) (λ a u e y f. other₁ scope a u e y)
       ).looked
       (action_to d) (λ a u y. action_from d a u y.formed y.prints) (λ d e. e)

@@ -19,9 +19,9 @@ use Rattle.sources.specs.Types.{Row, Rights}
 use Rattle.sources.specs.Printed.{row_rest_text, row_text, rows_text}
 use Rattle.sources.specs.WellFormed.{Each, RowFormed}
 use Rattle.sources.proofs.Stands.{Stands, stands_first_law}
-use Rattle.sources.proofs.ReadsBefore.{ReadsBefore, before-as, before_pure, before_require, before-kept}
+use Rattle.sources.proofs.ReadsBefore.{ReadsBefore, before_as, before_pure, before_require, before_kept}
 use Rattle.sources.proofs.ReadsPrints.{before}
-use Rattle.sources.proofs.Elements.{each_as, each-tested, test-each}
+use Rattle.sources.proofs.Elements.{each_as, each_tested, test_each}
 use Rattle.sources.proofs.Rights.{any_some}
 use Rattle.sources.proofs.Openings.{opens_here}
 use Rattle.sources.proofs.Rows.{reads_row}
@@ -45,7 +45,7 @@ row_here i r v s p h st = opens_here i s p h (104 ∷ 97 ∷ 115 ∷ []) (row_re
 
 reads_one : (before : List Row) → length before < 16 → ReadsBefore (row (length before)) (One Whole row_text before) Anything
 reads_one rs h =
-    before-as (before (reads_row (length rs) (omega arith))) (λ r u x. (x.whole, x.prints)) (λ r u x. record { whole = x.0; prints = x.1 }) (λ s q e. e)
+    before_as (before (reads_row (length rs) (omega arith))) (λ r u x. (x.whole, x.prints)) (λ r u x. record { whole = x.0; prints = x.1 }) (λ s q e. e)
 
 reads_rows_after : ReadsBefore (rows_after 16 []) (Later Whole rows_text (λ l. l ≤ 16) []) NoRow
 unfolding rows_after
@@ -67,13 +67,13 @@ within_is n r = all_same 16 _ _ (λ l _. ap (implies (leb n l)) (none_not (right
 
 module _ (n : ℕ) (rs : List Row) where
   pub rows_formed : Each Whole [] rs → ((i : ℕ) → i < length rs → within n (get_or rs i zero_row) ≡ true) → Each (λ _. RowFormed n) [] rs
-  rows_formed = each-tested (within n) zero_row (λ xs r w t. record { whole = w; within = sym (within_is n r) ∙ t }) [] rs
+  rows_formed = each_tested (within n) zero_row (λ xs r w t. record { whole = w; within = sym (within_is n r) ∙ t }) [] rs
 
   pub rows_whole : Each (λ _. RowFormed n) [] rs → Each Whole [] rs
   rows_whole = each_as (λ xs r f. f.whole) [] rs
 
   pub rows_within : Each (λ _. RowFormed n) [] rs → (i : ℕ) → i < length rs → within n (get_or rs i zero_row) ≡ true
-  rows_within = test-each (within n) zero_row (λ xs r f. within_is n r ∙ f.within) [] rs
+  rows_within = test_each (within n) zero_row (λ xs r f. within_is n r ∙ f.within) [] rs
 
 -- ---- all rows
 pub record RowsText (rs : List Row) (u : List ℕ) : Type 0 where
@@ -88,10 +88,10 @@ Judged rs = (leb 1 (length rs) ≡ true) × (all_within rs ≡ true)
 pub reads_rows : ReadsBefore rows RowsText NoRow
 unfolding rows all_within
 reads_rows =
-    before-as
-    (before-kept Judged reads_rows_after
+    before_as
+    (before_kept Judged reads_rows_after
     (λ rs.
-    before-as (before_require _ 31 (before_require _ 23 (before_pure rs))) (λ b u (x, (y, z)). ((x, y), z)) (λ b u ((x, y), z). (x, (y, z)))
+    before_as (before_require _ 31 (before_require _ 23 (before_pure rs))) (λ b u (x, (y, z)). ((x, y), z)) (λ b u ((x, y), z). (x, (y, z)))
     (λ s q e. e)))
     (λ rs u (x, (some, inside)). record {
       some = leb-true 1 (length rs) some;

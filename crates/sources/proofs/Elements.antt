@@ -14,17 +14,17 @@ module _ {A : Type 0} {R Q : List A → A → Type 0} where
 
   -- z stands past the end
   module _ (test : A → Bool) (z : A) where
-    pub each-tested :
+    pub each_tested :
         ((xs : List A) (y : A) → R xs y → test y ≡ true → Q xs y) → (xs ys : List A) → Each R xs ys
         → ((i : ℕ) → i < length ys → test (get_or ys i z) ≡ true) → Each Q xs ys
-    each-tested f xs [] none h = none
-    each-tested f xs (y ∷ ys) (more x e) h =
-        more (f xs y x (h 0 (omega arith))) (each-tested f (xs ++ (y ∷ [])) ys e (λ i l. h (suc i) (omega arith)))
+    each_tested f xs [] none h = none
+    each_tested f xs (y ∷ ys) (more x e) h =
+        more (f xs y x (h 0 (omega arith))) (each_tested f (xs ++ (y ∷ [])) ys e (λ i l. h (suc i) (omega arith)))
 
 module _ {A : Type 0} {R : List A → A → Type 0} (test : A → Bool) (z : A) where
-  pub test-each :
+  pub test_each :
       ((xs : List A) (y : A) → R xs y → test y ≡ true) → (xs ys : List A) → Each R xs ys → (i : ℕ) → i < length ys
       → test (get_or ys i z) ≡ true
-  test-each f xs [] none i h = absurd (omega arith)
-  test-each f xs (y ∷ ys) (more x e) zero h = f xs y x
-  test-each f xs (y ∷ ys) (more x e) (suc i) h = test-each f (xs ++ (y ∷ [])) ys e i (omega arith)
+  test_each f xs [] none i h = absurd (omega arith)
+  test_each f xs (y ∷ ys) (more x e) zero h = f xs y x
+  test_each f xs (y ∷ ys) (more x e) (suc i) h = test_each f (xs ++ (y ∷ [])) ys e i (omega arith)

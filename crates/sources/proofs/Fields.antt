@@ -26,7 +26,7 @@ use Rattle.sources.specs.Types.{Locality, Item, Field, Tuple}
 use Rattle.sources.specs.Printed.{separated, address_text, item_text, tuple_text}
 use Rattle.sources.specs.WellFormed.{ItemFormed, tuple_of, TupleFormed}
 use Rattle.sources.proofs.ReadsPrints.{Reads, Any, After, Or, Image, reads_as, reads_from_byte}
-use Rattle.sources.proofs.ReadsPrints.{reads_map, reads-tested, reads-closed, reads-choice, reads_last}
+use Rattle.sources.proofs.ReadsPrints.{reads_map, reads_tested, reads_closed, reads_choice, reads_last}
 use Rattle.sources.proofs.Listed.{FieldEnd, Parts, reads_fields}
 use Rattle.sources.proofs.Numbers.{low_byte, high_byte, NoDigit, reads_number, decimal_opens, no_other}
 
@@ -38,7 +38,7 @@ pub record AddressText (n : ℕ) (l : Locality) (u : List ℕ) : Type 0 where
 pub reads_address : (n : ℕ) → n ≤ 16 → Reads (address n) (AddressText n) NoDigit
 unfolding address address_text
 reads_address n h =
-    reads_as (reads-tested (λ l. ltb l n) 23 address_of (reads_number 15 (omega arith)))
+    reads_as (reads_tested (λ l. ltb l n) 23 address_of (reads_number 15 (omega arith)))
     (λ l u (a, ((g, e), t), is). record {
       in_range_law = subst (λ (x : Locality). x.0 < n) is (ltb-true a n t);
       prints = ap (λ (x : Locality). decimal x.0) (sym is) ∙ e;
@@ -102,8 +102,8 @@ pub reads_reading : Reads reading ReadingText NoDigit
 unfolding reading negative positive
 reads_reading =
     reads_as
-    (reads-choice 45
-    (reads_from_byte 45 (reads-tested (leb 1) 31 (λ v. ℤ.negsuc (v - 1)) (reads_number 2147483648 (omega arith))))
+    (reads_choice 45
+    (reads_from_byte 45 (reads_tested (leb 1) 31 (λ v. ℤ.negsuc (v - 1)) (reads_number 2147483648 (omega arith))))
     (reads_last (reads_map ℤ.pos (reads_number 2147483647 (omega arith))))
     (λ x u d y e. ap (λ (w : List ℕ). get_or w 0 d) (sym y.2))
     (λ x u d y e. no_other _ 45 (positive_opens x u d y) (low_byte 45 (omega arith)))
@@ -146,7 +146,7 @@ module _ (n : ℕ) (before : List Item) where
   unfolding item address_item reading_item at_address
   reads_item h =
       reads_as
-      (reads-choice 64 (reads_map Item.Address (reads_from_byte 64 (reads_address n h))) (reads_last (reads_map Item.Reading reads_reading))
+      (reads_choice 64 (reads_map Item.Address (reads_from_byte 64 (reads_address n h))) (reads_last (reads_map Item.Reading reads_reading))
       (λ x u d y e. ap (λ (w : List ℕ). get_or w 0 d) (sym y.1.2))
       (λ x u d y e. reading_opens 64 (high_byte 64 (omega arith)) (λ z. omega arith) y.0 u d y.1)
       ).looked
@@ -242,7 +242,7 @@ module _ (n : ℕ) where
   reads_tuple h =
       reads_as
       (reads_from_byte 60
-      (reads-closed 62 (λ t. t)
+      (reads_closed 62 (λ t. t)
       (reads_fields tuple_of item_text (ItemFormed n) (tupleField n) (λ xs. item n) tuple_step (λ xs l. reads_item n xs h))
       bracket))
       tuple_to tuple_from_law (λ d e. e)

@@ -21,7 +21,7 @@ use Rattle.lexemes.specs.Lexemes.{is_digit}
 use Rattle.rows.specs.Rows.{any_right, rights, granted, grants}
 use Rattle.sources.specs.Types.{Rights, Row}
 use Rattle.sources.specs.Printed.{given, rights_text, grant_text, grants_text}
-use Rattle.sources.proofs.ReadsPrints.{Reads, Any, Is, After, Or, Then, reads_as, reads_pure, reads_then, reads_from_byte, reads_require, reads-optional}
+use Rattle.sources.proofs.ReadsPrints.{Reads, Any, Is, After, Or, Then, reads_as, reads_pure, reads_then, reads_from_byte, reads_require, reads_optional}
 use Rattle.sources.proofs.Numbers.{high_byte, NoDigit, reads_number, decimal_digits, digit_is}
 use Rattle.sources.proofs.Rights.{NoLetter, RightsText, reads_rights, any_some, none_is}
 
@@ -300,7 +300,7 @@ reads_grants zero low r₀ h g b =
     empty r u x (z ∷ zs) e = let l = ap length e in let s = x.size in absurd (omega arith)
 reads_grants (suc k) low r₀ h g b =
     reads_as
-    (reads-optional 32 _
+    (reads_optional 32 _
     (reads_then (reads_granted low)
     (λ l u x.
     let from = x.from in

@@ -30,8 +30,8 @@ use Rattle.sources.specs.Types.{Locality, Scope}
 use Rattle.sources.specs.Printed.{newline, address_text, tuple_text, process_text, action_text, line_text, lines_text, policy_text, printed}
 use Rattle.sources.specs.WellFormed.{Each, none, more, LineFormed, defines, runs, holds, PolicyFormed, one_row, each_origin}
 use Rattle.sources.proofs.Stands.{Stands, stands_append, stands_first_law, stands_rest, stands_opens, stands_fits, stands_whole, stands_self}
-use Rattle.sources.proofs.ReadsPrints.{opens_with_law, opens_append, Bears, bears-as, Reads, Any, After, Or, Then, Image, reads_as, reads_pure, reads_then}
-use Rattle.sources.proofs.ReadsPrints.{reads_from_word, reads_require, reads-closed, reads-choice, reads_last}
+use Rattle.sources.proofs.ReadsPrints.{opens_with_law, opens_append, Bears, bears_as, Reads, Any, After, Or, Then, Image, reads_as, reads_pure, reads_then}
+use Rattle.sources.proofs.ReadsPrints.{reads_from_word, reads_require, reads_closed, reads_choice, reads_last}
 use Rattle.sources.proofs.Numbers.{low_byte, high_byte, NoDigit, no_other}
 use Rattle.sources.proofs.Fields.{AddressText, reads_address, address_opens, TupleText, reads_tuple}
 use Rattle.sources.proofs.Actions.{ProcessText}
@@ -151,16 +151,16 @@ module _ (scope : Scope) where
       unfolding definition_line Reading.process bytes
       reads_definition_line =
           reads_then reads_named
-          (λ k u x. reads_from_word (bytes " = ") (reads-closed 10 (definition k) (reads_process scope h 32) (low_byte 10 (omega arith))))
+          (λ k u x. reads_from_word (bytes " = ") (reads_closed 10 (definition k) (reads_process scope h 32) (low_byte 10 (omega arith))))
           (λ k l u v d x y e. subst NoDigit (sym (opens_with_law _ v d y.2)) (low_byte 32 (omega arith)))
 
       reads_tuple_line : (a : Locality) → Reads (tuple_line scope ls a) (Tuples a) Any
       unfolding tuple_line
-      reads_tuple_line a = reads_require _ 22 (reads-closed 10 (tuple a) (reads_tuple scope.addresses h) tt)
+      reads_tuple_line a = reads_require _ 22 (reads_closed 10 (tuple a) (reads_tuple scope.addresses h) tt)
 
       reads_process_line : (a : Locality) → Reads (process_line scope ls a) (Processes a) Any
       unfolding process_line Reading.process
-      reads_process_line a = reads_require _ 22 (reads-closed 10 (process a) (reads_process scope h 32) (low_byte 10 (omega arith)))
+      reads_process_line a = reads_require _ 22 (reads_closed 10 (process a) (reads_process scope h 32) (low_byte 10 (omega arith)))
 
       tuple_opens : (a : Locality) (l : Line) (u : List ℕ) (d : ℕ) → Tuples a l u → get_or u 0 d ≡ 60
       unfolding tuple_text bytes
@@ -176,7 +176,7 @@ module _ (scope : Scope) where
       reads_located_line =
           reads_then (reads_address scope.addresses h)
           (λ a u x. reads_from_word (bytes " :: ")
-          (reads-choice 60 (reads_tuple_line a) (reads_last (reads_process_line a))
+          (reads_choice 60 (reads_tuple_line a) (reads_last (reads_process_line a))
           (λ l u d y e. tuple_opens a l u d y) (λ l u d y e. process_opens a l u d y)
           ).looked)
           (λ a l u v d x y e. subst NoDigit (sym (opens_with_law _ v d y.2)) (low_byte 32 (omega arith)))
@@ -194,7 +194,7 @@ module _ (scope : Scope) where
       unfolding line
       reads_line =
           reads_as
-          (reads-choice 65 reads_definition_line (reads_last reads_located_line)
+          (reads_choice 65 reads_definition_line (reads_last reads_located_line)
           (λ l u d x e. definition_opens l u d x) (λ l u d x e. no_other _ 65 (located_opens l u d x) (high_byte 65 (omega arith)))
           ).looked
           line_to (λ l u x. line_from l u x.formed x.prints) (λ d e. e)
@@ -236,7 +236,7 @@ module _ (scope : Scope) (h : scope.addresses ≤ 16) (s : List ℕ) where
       let x = (reads_pure {E = Any} before).only s p ls q e in
       let l = ap length x.prints.1 in
       let end = x.ends in
-      (bears-as (λ u (is, m). record { later = []; each = none; is = append-nil before ∙ is; prints = m }) x, omega arith)
+      (bears_as (λ u (is, m). record { later = []; each = none; is = append-nil before ∙ is; prints = m }) x, omega arith)
 
   module _ (k : ℕ) (before : List Line)
       (after : (l : Line) (p : ℕ) (ls : List Line) (q : ℕ) → length s ≤ k + p → lines_after k scope (before ++ (l ∷ [])) s p ≡ got ls q

@@ -13,7 +13,7 @@ use Rattle.lexemes.specs.Lexemes.{is_digit, fail, optional}
 use Rattle.fields.specs.Fields.{fields}
 use Rattle.sources.specs.Printed.{separated}
 use Rattle.sources.specs.WellFormed.{Each, none, more}
-use Rattle.sources.proofs.ReadsPrints.{Reads, Is, After, Or, Then, reads_as, reads-equal, reads_pure, reads_fail, reads_then, reads-optional}
+use Rattle.sources.proofs.ReadsPrints.{Reads, Is, After, Or, Then, reads_as, reads_equal, reads_pure, reads_fail, reads_then, reads_optional}
 use Rattle.sources.proofs.Numbers.{low_byte, NoDigit}
 
 -- behind the last field stands neither a digit nor a comma
@@ -134,14 +134,14 @@ module _ {X A : Type 0} (top : ℕ) (make : List X → A) (text : X → List ℕ
     pub reads_list : (k : ℕ) (xs : List X) → k + length xs ≡ top → Reads (read k xs) (Parts xs) FieldEnd
     unfolding choose
     reads_list zero xs e =
-        reads_as (reads-equal _ (at-end xs) (reads_fail fault)) (λ a u x. absurd x)
+        reads_as (reads_equal _ (at-end xs) (reads_fail fault)) (λ a u x. absurd x)
         (λ a u x. let few = x.few in let some = x.some in absurd (omega arith)) (λ d x. x)
     reads_list (suc k) xs e =
         reads_as
-        (reads-equal _ (λ s p. turn k xs s p (omega arith))
+        (reads_equal _ (λ s p. turn k xs s p (omega arith))
         (reads_then (reads xs (omega arith))
         (λ x u h.
-        reads-optional 44 (λ more. choose more (read k (xs ++ (x ∷ []))) (pure (make (xs ++ (x ∷ [])))))
+        reads_optional 44 (λ more. choose more (read k (xs ++ (x ∷ []))) (pure (make (xs ++ (x ∷ [])))))
         (reads_list k (xs ++ (x ∷ [])) (let l = length-append xs (x ∷ []) in omega arith)) (reads_pure (make (xs ++ (x ∷ []))))
         (λ a v d y f g. f.no_comma (ap (λ (w : List ℕ). get_or w 0 d) y.1 ∙ g)))
         (λ x b u v d h y f. opens x b v d y f)))

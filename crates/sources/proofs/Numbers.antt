@@ -20,7 +20,7 @@ use Rattle.text.proofs.DecimalLaws.{decimal_digit, decimal_more}
 use Rattle.lexemes.specs.Lexemes.{byte_at, look, fail, byte, is_digit, digit_of, digit, longer, another, rest, number}
 use Rattle.lexemes.proofs.NumberLaws.{digit_least, digit_most}
 use Rattle.sources.proofs.Stands.{Stands, stands_append, stands_first_law, stands_rest, stands_opens}
-use Rattle.sources.proofs.ReadsPrints.{Bears, Reads, Any, reads_as, reads_pure, reads_then, reads_from_byte, reads_require, reads-tested}
+use Rattle.sources.proofs.ReadsPrints.{Bears, Reads, Any, reads_as, reads_pure, reads_then, reads_from_byte, reads_require, reads_tested}
 
 -- no digit follows
 abbrev pub NoDigit : ℕ → Type 0
@@ -100,7 +100,7 @@ pub record LongerBy (limit v w : ℕ) (u : List ℕ) : Type 0 where
 reads_longer : (limit v : ℕ) → Reads (longer limit v) (LongerBy limit v) Any
 unfolding longer
 reads_longer limit v =
-    reads_as (reads-tested (λ d. both (leb 1 v) (leb (v * 10 + d) limit)) 31 (λ d. v * 10 + d) reads_digit)
+    reads_as (reads_tested (λ d. both (leb 1 v) (leb (v * 10 + d) limit)) 31 (λ d. v * 10 + d) reads_digit)
     (λ w u (d, ((h, e), t), is). record {
       last = d;
       small = h;

@@ -23,14 +23,14 @@ use Rattle.sources.specs.Types.{Row}
 use Rattle.sources.specs.Printed.{row_rest_text, origin_row_text, node_text, nodes_text}
 use Rattle.sources.specs.WellFormed.{Each, more, NodeFormed}
 use Rattle.sources.proofs.Stands.{Stands, stands_first_law, stands_rest, stands_opens}
-use Rattle.sources.proofs.ReadsBefore.{ReadsBefore, Is, Then, Or, Settles, still, before-as, before_equal, before_pure, before_fail, before-then}
-use Rattle.sources.proofs.ReadsBefore.{before_require, before-kept, before-choice}
+use Rattle.sources.proofs.ReadsBefore.{ReadsBefore, Is, Then, Or, Settles, still, before_as, before_equal, before_pure, before_fail, before_then}
+use Rattle.sources.proofs.ReadsBefore.{before_require, before_kept, before_choice}
 use Rattle.sources.proofs.ReadsPrints.{before}
 use Rattle.sources.proofs.Numbers.{low_byte, reads_number}
-use Rattle.sources.proofs.Elements.{each_as, each-tested, test-each}
+use Rattle.sources.proofs.Elements.{each_as, each_tested, test_each}
 use Rattle.sources.proofs.Openings.{both_none, opens_here}
 use Rattle.sources.proofs.Rows.{reads_origin_row}
-use Rattle.sources.proofs.Sequences.{Anything, Sequence, Later, One, Next, next_to, next_from, reads_up_to, exactly-opens, reads_exactly}
+use Rattle.sources.proofs.Sequences.{Anything, Sequence, Later, One, Next, next_to, next_from, reads_up_to, exactly_opens, reads_exactly}
 use Rattle.sources.proofs.AllRows.{Whole, rows_formed, rows_whole, rows_within}
 
 -- ---- the fault n where the test holds of what stands here
@@ -46,7 +46,7 @@ unless_then test n f s p = go (test s p)
 module _ {A : Type 0} {R : A → List ℕ → Type 0} {F : List ℕ → ℕ → Type 0} (test : List ℕ → ℕ → Bool) (n : ℕ) {f : Reader A} where
   before_unless : ReadsBefore f R F → Settles R F test false → ReadsBefore (fault_where test n >> f) R F
   before_unless r other =
-      before-as (before_equal _ (unless_then test n f) (before-choice test (before_fail n) r (λ a u s p x. absurd x) other)) to (λ a u x. inr x) (λ s q e. e)
+      before_as (before_equal _ (unless_then test n f) (before_choice test (before_fail n) r (λ a u s p x. absurd x) other)) to (λ a u x. inr x) (λ s q e. e)
     where
       to : (a : A) (u : List ℕ) → Or (λ b v. ⊥) R a u → R a u
       to a u (inl x) = absurd x
@@ -92,7 +92,7 @@ node_sequence i = record { empty = λ j. refl; first = λ j r rs. refl }
 reads_one : (i : ℕ) (rs : List Row) → i ≤ 15 → length rs < 16
     → ReadsBefore (origin_row i (length rs)) (One Whole (origin_row_text i) rs) Anything
 reads_one i rs h g =
-    before-as (before (reads_origin_row i (length rs) h (omega arith))) (λ r u x. (x.whole, x.prints)) (λ r u x. record { whole = x.0; prints = x.1 })
+    before_as (before (reads_origin_row i (length rs) h (omega arith))) (λ r u x. (x.whole, x.prints)) (λ r u x. record { whole = x.0; prints = x.1 })
     (λ s q e. e)
 
 -- those of node 0, up to the first row that names another
@@ -113,8 +113,8 @@ first_from_law rs u x = go (next_from (node_sequence 0) Whole (λ l. l ≤ 15) S
 reads_first : ReadsBefore first_rows First (Passed 0)
 unfolding first_rows first_after
 reads_first =
-    before-as
-    (before-then (reads_one 0 [] (omega arith) (omega arith))
+    before_as
+    (before_then (reads_one 0 [] (omega arith) (omega arith))
     (λ r u x.
     reads_up_to (node_sequence 0) Whole 16 (names_node 0) (λ rs. origin_row 0 (length rs)) first_after 22
     (λ rs h. reads_one 0 rs (omega arith) h)
@@ -141,12 +141,12 @@ module _ (n : ℕ) (few : n ≤ 16) where
   unfolding node_rows node_rows_after seventeenth
   reads_node rss h =
       let i = length rss in
-      before-as
-      (before-kept (λ rs. Unit {0})
+      before_as
+      (before_kept (λ rs. Unit {0})
       (reads_exactly (node_sequence i) Whole n (λ rs. origin_row i (length rs)) (λ k rs. node_rows_after k i rs) (Passed i) (λ j. Anything)
       (λ rs g. reads_one i rs (omega arith) (omega arith)) (λ j s q e. tt) (λ rs r v s j q g m w st. tt) (λ rs s p. refl) (λ k rs s p. refl) n [] (omega arith))
       (λ rs.
-      before-as
+      before_as
       (before_unless (seventeenth n i) 22 (before_pure rs) (λ a u s p x st e. both_none (eqb n 16) _ (still (Passed i) u s p x.1 e)))
       (λ b u x. (tt, x)) (λ b u x. x.1) (λ s q e. e)))
       (λ rs u (x, _). (
@@ -179,14 +179,14 @@ module _ (n : ℕ) (few : n ≤ 16) where
         → NoOriginRow s (q + length v) → Passed i s q
     unfolding nodes_after
     nodes_open i xss v s q m y st e =
-        exactly-opens nodes_sequence (λ _. NodeWhole n) n (λ xs. node_rows n (length xs)) (λ j xs. nodes_after j n xs)
+        exactly_opens nodes_sequence (λ _. NodeWhole n) n (λ xs. node_rows n (length xs)) (λ j xs. nodes_after j n xs)
         NoOriginRow Passed reads_node names_none follows (λ xs s p. refl) (λ j xs s p. refl) k i rss xss v s q h m y st e
 
 -- ---- no right over an address without rows
 nodes_formed : (n : ℕ) (rss : List (List Row)) → Each (λ _. NodeWhole n) [] rss
     → ((i : ℕ) → i < length rss → all n (λ j. within n (get_or (get_or rss i []) j zero_row)) ≡ true) → Each (λ _. NodeFormed n) [] rss
 nodes_formed n rss =
-    each-tested (λ rs. all n (λ j. within n (get_or rs j zero_row))) []
+    each_tested (λ rs. all n (λ j. within n (get_or rs j zero_row))) []
     (λ xs rs w t. record {
       each_origin = w.each_origin;
       rows = rows_formed n rs w.rows (λ j h. all_e n _ t j (let e = w.each_origin in omega arith));
@@ -199,7 +199,7 @@ nodes_whole n rss = each_as (λ xs rs f. record { each_origin = f.each_origin; r
 nodes_within : (n : ℕ) (rss : List (List Row)) → Each (λ _. NodeFormed n) [] rss → (i : ℕ) → i < length rss
     → all n (λ j. within n (get_or (get_or rss i []) j zero_row)) ≡ true
 nodes_within n rss =
-    test-each (λ rs. all n (λ j. within n (get_or rs j zero_row))) []
+    test_each (λ rs. all n (λ j. within n (get_or rs j zero_row))) []
     (λ xs rs f. all_i n _ (λ j h. rows_within n rs f.rows j (let e = f.each_origin in omega arith))) [] rss
 
 -- ---- all rows
@@ -276,12 +276,12 @@ all_from (rs ∷ rss) u x = go (nodes_whole (suc (length rss)) (rs ∷ rss) x.ea
 pub reads_origin_rows : ReadsBefore origin_rows NodesText NoOriginRow
 unfolding origin_rows
 reads_origin_rows =
-    before-as
-    (before-then reads_first
+    before_as
+    (before_then reads_first
     (λ rs u x.
     let size : length rs ≡ length x.later = ap length (sym x.is) in
     let (some, few) = x.size in
-    before-kept Judged (reads_nodes (length rs) (omega arith) (length rs - 1) (rs ∷ []) (omega arith))
+    before_kept Judged (reads_nodes (length rs) (omega arith) (length rs - 1) (rs ∷ []) (omega arith))
     (λ rss.
     before_unless is_origin_row (number_over (length rs)) (before_require _ 23 (before_pure rss))
     (λ a v s p y st e. still NoOriginRow v s p y.1.1 e)))

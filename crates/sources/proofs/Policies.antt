@@ -15,7 +15,7 @@ use Rattle.sources.specs.Types.{Row}
 use Rattle.sources.specs.Printed.{row_rest_text, row_text, rows_text, origin_row_text, node_text, nodes_text, policy_text}
 use Rattle.sources.specs.WellFormed.{Each, more, NodeFormed, PolicyFormed, one_row, each_origin}
 use Rattle.sources.proofs.Stands.{Stands, stands_first_law}
-use Rattle.sources.proofs.ReadsBefore.{ReadsBefore, Image, Or, before-as, before_map, before-choice}
+use Rattle.sources.proofs.ReadsBefore.{ReadsBefore, Image, Or, before_as, before_map, before_choice}
 use Rattle.sources.proofs.Openings.{opens_other}
 use Rattle.sources.proofs.AllRows.{NoRow, RowsText, reads_rows}
 use Rattle.sources.proofs.OriginRows.{NoOriginRow, origin_here, NodesText, reads_origin_rows}
@@ -69,8 +69,8 @@ policy_from x u (one_row {rs = rs} some few each) e = inr (rs, record { some = s
 pub reads_policy : ReadsBefore policy PolicyText NoPolicy
 unfolding policy plain_rows rows_by_origin
 reads_policy =
-    before-as
-    (before-choice is_origin_row (before_map by_origin (before-as reads_origin_rows (λ a u x. x) (λ a u x. x) (λ s q e. e.no_origin_row)))
-    (before_map plain (before-as reads_rows (λ a u x. x) (λ a u x. x) (λ s q e. e.no_row)))
+    before_as
+    (before_choice is_origin_row (before_map by_origin (before_as reads_origin_rows (λ a u x. x) (λ a u x. x) (λ s q e. e.no_origin_row)))
+    (before_map plain (before_as reads_rows (λ a u x. x) (λ a u x. x) (λ s q e. e.no_row)))
     (λ a u s p (rss, x, is) st e. origin_opens rss u s p x st) (λ a u s p (rs, x, is) st e. plain_opens rs u s p x st))
     policy_to (λ x u y. policy_from x u y.formed y.prints) (λ s q e. e)

@@ -19,9 +19,9 @@ use Rattle.sources.specs.Types.{Scope}
 use Rattle.sources.specs.Printed.{process_text, action_text}
 use Rattle.sources.specs.WellFormed.{ProcessFormed, stops, calls, forks, acts}
 use Rattle.sources.proofs.Stands.{Stands, stands_within}
-use Rattle.sources.proofs.ReadsBefore.{before-choice}
-use Rattle.sources.proofs.ReadsPrints.{opens_with_law, bears-as, Reads, Is, before, by_byte, After, Or, Then, Image, reads_as, reads_pure}
-use Rattle.sources.proofs.ReadsPrints.{reads_fail, reads_then, reads_from_byte, reads_from_word, reads_map, reads-closed, reads-choice, reads_last}
+use Rattle.sources.proofs.ReadsBefore.{before_choice}
+use Rattle.sources.proofs.ReadsPrints.{opens_with_law, bears_as, Reads, Is, before, by_byte, After, Or, Then, Image, reads_as, reads_pure}
+use Rattle.sources.proofs.ReadsPrints.{reads_fail, reads_then, reads_from_byte, reads_from_word, reads_map, reads_closed, reads_choice, reads_last}
 use Rattle.sources.proofs.Numbers.{low_byte, NoDigit, reads_number, decimal_digits}
 use Rattle.sources.proofs.Actions.{ProcessText, ActionText, Deeper, reads_action}
 
@@ -68,7 +68,7 @@ module _ {A : Type 0} {R Q : A → List ℕ → Type 0} {E : ℕ → Type 0} (te
       → Reads (λ s p. choose (test (byte_at s p) (byte_at s (p + 1))) m k s p) (Or R Q) E
   reads_by_two r q left right =
       by_byte E
-      (before-choice (λ s p. test (byte_at s p) (byte_at s (p + 1))) (before r) (before q)
+      (before_choice (λ s p. test (byte_at s p) (byte_at s (p + 1))) (before r) (before q)
       (λ a u s p x st d. two_here test true s p u (left a u x) st) (λ a u s p x st d. two_here test false s p u (right a u x) st))
 
 -- ---- what ends a chain of actions
@@ -147,7 +147,7 @@ module _ (scope : Scope) where
   reads_forked d inner r =
       reads_as
       (reads_from_byte 40
-      (reads_then r (λ p u x. reads_from_word (bytes " | ") (reads-closed 41 (fork p) r (low_byte 41 (omega arith))))
+      (reads_then r (λ p u x. reads_from_word (bytes " | ") (reads_closed 41 (fork p) r (low_byte 41 (omega arith))))
       (λ p a u v e x y f. subst NoDigit (sym (opens_with_law _ v e y.2)) (low_byte 32 (omega arith)))))
       (λ p u x. x) (λ p u x. x) (λ e f. tt)
 
@@ -155,8 +155,8 @@ module _ (scope : Scope) where
   unfolding ended called stopped bytes
   reads_ended d inner r =
       reads_as
-      (reads-choice 65 (reads_map name reads_named)
-      (reads-choice 40 (reads_forked d inner r) (reads_last (reads_from_word (bytes "nil") (reads_pure nil)))
+      (reads_choice 65 (reads_map name reads_named)
+      (reads_choice 40 (reads_forked d inner r) (reads_last (reads_from_word (bytes "nil") (reads_pure nil)))
       (λ p u e x f. opens_with_law _ u e x.2) (λ p u e x f g. let o = opens_with_law _ u e x.2 in omega arith))
       (λ p u e x f. opens_with_law _ u e x.1.prints) (λ p u e x f. ends_other d p u e x)
       ).looked
@@ -257,7 +257,7 @@ module _ (scope : Scope) where
     unfolding process_at Deeper
     reads_level zero = reads_fail 32
     reads_level (suc d) = record {
-      only = λ s p a q e. bears-as (λ u x. x.text) ((reads_chain h d (process_at d scope) (reads_level d) (length s)).only s p a q e);
+      only = λ s p a q e. bears_as (λ u x. x.text) ((reads_chain h d (process_at d scope) (reads_level d) (length s)).only s p a q e);
       back = λ s p a u x st e.
           let l = long a in
           let k : length (process_text a) ≡ length u = ap length x.prints in

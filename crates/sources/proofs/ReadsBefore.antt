@@ -23,10 +23,10 @@ pub record Bears {A : Type 0} (R : A → List ℕ → Type 0) (s : List ℕ) (p 
   pub stands : Stands s p text
   pub ends : q ≡ p + length text
 
-pub bears-as :
+pub bears_as :
     {A : Type 0} {R R' : A → List ℕ → Type 0} {s : List ℕ} {p : ℕ} {a : A} {q : ℕ} → ((u : List ℕ) → R a u → R' a u)
     → Bears R s p a q → Bears R' s p a q
-bears-as f x = record { text = x.text; prints = f x.text x.prints; stands = x.stands; ends = x.ends }
+bears_as f x = record { text = x.text; prints = f x.text x.prints; stands = x.stands; ends = x.ends }
 
 -- m gives exactly the values that R prints, where their bytes stand and the text behind them is as F asks
 pub record ReadsBefore {A : Type 0} (m : Reader A) (R : A → List ℕ → Type 0) (F : List ℕ → ℕ → Type 0) : Type 0 where
@@ -37,11 +37,11 @@ pub record ReadsBefore {A : Type 0} (m : Reader A) (R : A → List ℕ → Type 
 
 -- ---- the same reader, said in other words
 module _ {A : Type 0} {R R' : A → List ℕ → Type 0} {F F' : List ℕ → ℕ → Type 0} {m : Reader A} where
-  pub before-as :
+  pub before_as :
       ReadsBefore m R F → ((a : A) (u : List ℕ) → R a u → R' a u) → ((a : A) (u : List ℕ) → R' a u → R a u)
       → ((s : List ℕ) (q : ℕ) → F' s q → F s q) → ReadsBefore m R' F'
-  before-as r f g e = record {
-    only = λ s p a q h. bears-as (f a) (r.only s p a q h);
+  before_as r f g e = record {
+    only = λ s p a q h. bears_as (f a) (r.only s p a q h);
     back = λ s p a u h st d. r.back s p a u (g a u h) st (e s _ d);
   }
 
@@ -89,12 +89,12 @@ pub record Then {A B : Type 0} (R : A → List ℕ → Type 0) (Q : A → B → 
 
 module _ {A B : Type 0} {R : A → List ℕ → Type 0} {Q : A → B → List ℕ → Type 0} {F G : List ℕ → ℕ → Type 0} {m : Reader A}
     {f : A → Reader B} where
-  pub before-then :
+  pub before_then :
       ReadsBefore m R F → ((a : A) (u : List ℕ) → R a u → ReadsBefore (f a) (Q a) G)
       → ((a : A) (b : B) (u v s : List ℕ) (q : ℕ) → R a u → Q a b v → Stands s q v → G s (q + length v) → F s q)
       → ReadsBefore (m >>= f) (Then R Q) G
   unfolding ◌>>=◌ and_then
-  before-then r g opens = record { only = λ s p b q e. only s p b q (m s p) refl e; back = back }
+  before_then r g opens = record { only = λ s p b q e. only s p b q (m s p) refl e; back = back }
     where
       only : (s : List ℕ) (p : ℕ) (b : B) (q : ℕ) → (o : Parsed A) → m s p ≡ o → and_then o s f ≡ got b q
           → Bears (Then R Q) s p b q
@@ -139,17 +139,17 @@ still F v s q e d =
     let at : q + length v ≡ q = omega arith in subst (F s) at d
 
 -- a part with nothing behind it
-pub nothing-behind :
+pub nothing_behind :
     {A : Type 0} (R : A → List ℕ → Type 0) (a : A) (u v t : List ℕ) → R a u → [] ≡ v → u ++ v ≡ t → R a t
-nothing-behind R a u v t x n e = subst (R a) (sym (append-nil u) ∙ ap (λ (w : List ℕ). u ++ w) n ∙ e) x
+nothing_behind R a u v t x n e = subst (R a) (sym (append-nil u) ∙ ap (λ (w : List ℕ). u ++ w) n ∙ e) x
 
 module _ {A B : Type 0} {m : Reader A} {R : A → List ℕ → Type 0} {F : List ℕ → ℕ → Type 0} where
   pub before_map : (h : A → B) → ReadsBefore m R F → ReadsBefore (m >>= (λ a. pure (h a))) (Image h R) F
   before_map h r =
-      before-as
-      (before-then r (λ a u x. before_pure (h a))
+      before_as
+      (before_then r (λ a u x. before_pure (h a))
       (λ a b u v s q x y st e. still F v s q y.1 e))
-      (λ b t x. (x.one, nothing-behind R x.one x.text x.rest t x.prints x.goes_on.1 x.is, x.goes_on.0))
+      (λ b t x. (x.one, nothing_behind R x.one x.text x.rest t x.prints x.goes_on.1 x.is, x.goes_on.0))
       (λ b t x. record {
         one = x.0;
         text = t;
@@ -167,7 +167,7 @@ module _ {B : Type 0} {f : Reader B} {R : B → List ℕ → Type 0} {F : List �
   pub before_require : (ok : Bool) (n : ℕ) → ReadsBefore f R F → ReadsBefore (require ok n >> f) (λ b u. (ok ≡ true) × R b u) F
   unfolding require require_in ◌>>◌ ◌>>=◌ and_then choose
   before_require true n r =
-      before_equal _ (λ s p. refl) (before-as r (λ b u h. (refl, h)) (λ b u h. h.1) (λ s q e. e))
+      before_equal _ (λ s p. refl) (before_as r (λ b u h. (refl, h)) (λ b u h. h.1) (λ s q e. e))
   before_require false n r = record {
     only = λ s p b q e. no_fault e;
     back = λ s p b u h st d. never h.0;
@@ -175,13 +175,13 @@ module _ {B : Type 0} {f : Reader B} {R : B → List ℕ → Type 0} {F : List �
 
 -- a value that is handed on as it is where T holds of it
 module _ {A : Type 0} {m : Reader A} {f : A → Reader A} {R : A → List ℕ → Type 0} {F : List ℕ → ℕ → Type 0} (T : A → Type 0) where
-  pub before-kept :
+  pub before_kept :
       ReadsBefore m R F → ((a : A) → ReadsBefore (f a) (λ b u. T a × Is a b u) F) → ReadsBefore (m >>= f) (λ a u. R a u × T a) F
-  before-kept r g =
-      before-as (before-then r (λ a u x. g a) (λ a b u v s q x y st e. still F v s q y.1.1 e))
+  before_kept r g =
+      before_as (before_then r (λ a u x. g a) (λ a b u v s q x y st e. still F v s q y.1.1 e))
       (λ b t x.
       subst (λ (a : A). R a t × T a) x.goes_on.1.0
-      (nothing-behind R x.one x.text x.rest t x.prints x.goes_on.1.1 x.is, x.goes_on.0))
+      (nothing_behind R x.one x.text x.rest t x.prints x.goes_on.1.1 x.is, x.goes_on.0))
       (λ b t x. record {
         one = b;
         text = t;
@@ -201,15 +201,15 @@ abbrev pub Settles : {A : Type 0} → (A → List ℕ → Type 0) → (List ℕ 
 Settles {A} R F test b = (a : A) (u s : List ℕ) (p : ℕ) → R a u → Stands s p u → F s (p + length u) → test s p ≡ b
 
 module _ {A : Type 0} {R Q : A → List ℕ → Type 0} {F : List ℕ → ℕ → Type 0} (test : List ℕ → ℕ → Bool) {m k : Reader A} where
-  pub before-choice :
+  pub before_choice :
       ReadsBefore m R F → ReadsBefore k Q F → Settles R F test true → Settles Q F test false
       → ReadsBefore (λ s p. choose (test s p) m k s p) (Or R Q) F
   unfolding choose
-  before-choice r q here other = record { only = λ s p a e. only s p a e (test s p); back = back }
+  before_choice r q here other = record { only = λ s p a e. only s p a e (test s p); back = back }
     where
       only : (s : List ℕ) (p : ℕ) (a : A) (e : ℕ) (b : Bool) → choose b m k s p ≡ got a e → Bears (Or R Q) s p a e
-      only s p a e true d = bears-as (λ u x. inl x) (r.only s p a e d)
-      only s p a e false d = bears-as (λ u x. inr x) (q.only s p a e d)
+      only s p a e true d = bears_as (λ u x. inl x) (r.only s p a e d)
+      only s p a e false d = bears_as (λ u x. inr x) (q.only s p a e d)
 
       back : (s : List ℕ) (p : ℕ) (a : A) (u : List ℕ) → Or R Q a u → Stands s p u → F s (p + length u)
           → choose (test s p) m k s p ≡ got a (p + length u)

@@ -1,8 +1,8 @@
 -- Readers and printings where one byte ahead tells what follows, as that no digit goes on with a number: one law for each
 -- way to make a reader, over the logic of `ReadsBefore.antt`. Assumes nothing.
-pub use Rattle.sources.proofs.ReadsBefore.{Bears, bears-as, Is, Then, Image, Or}
-use Rattle.sources.proofs.ReadsBefore.{ReadsBefore, before-as, before_equal, before_pure, before_fail, before-then}
-use Rattle.sources.proofs.ReadsBefore.{before_map, before_require, before-choice}
+pub use Rattle.sources.proofs.ReadsBefore.{Bears, bears_as, Is, Then, Image, Or}
+use Rattle.sources.proofs.ReadsBefore.{ReadsBefore, before_as, before_equal, before_pure, before_fail, before_then}
+use Rattle.sources.proofs.ReadsBefore.{before_map, before_require, before_choice}
 use Prim.Native.Nat.{ℕ, ◌+◌}
 use mathlib.Core.Path.{◌≡◌, refl, sym, ap, subst, ◌∙◌}
 use mathlib.Core.Bool.{Bool, true, false}
@@ -42,12 +42,12 @@ module _ {A : Type 0} {R R' : A → List ℕ → Type 0} {E E' : ℕ → Type 0}
   pub reads_as :
       Reads m R E → ((a : A) (u : List ℕ) → R a u → R' a u) → ((a : A) (u : List ℕ) → R' a u → R a u)
       → ((d : ℕ) → E' d → E d) → Reads m R' E'
-  reads_as r f g e = by_byte E' (before-as (before r) f g (λ s q. e (byte_at s q)))
+  reads_as r f g e = by_byte E' (before_as (before r) f g (λ s q. e (byte_at s q)))
 
-pub reads-equal :
+pub reads_equal :
     {A : Type 0} {R : A → List ℕ → Type 0} {E : ℕ → Type 0} {m : Reader A} (k : Reader A)
     → ((s : List ℕ) (p : ℕ) → k s p ≡ m s p) → Reads m R E → Reads k R E
-reads-equal {E = E} k e r = by_byte E (before_equal k e (before r))
+reads_equal {E = E} k e r = by_byte E (before_equal k e (before r))
 
 -- ---- a value, with nothing read
 pub reads_pure : {A : Type 0} {E : ℕ → Type 0} (a : A) → Reads (pure a) (Is a) E
@@ -66,7 +66,7 @@ module _ {A B : Type 0} {R : A → List ℕ → Type 0} {Q : A → B → List �
       → Reads (m >>= f) (Then R Q) F
   reads_then r g opens =
       by_byte F
-      (before-then (before r) (λ a u x. before (g a u x))
+      (before_then (before r) (λ a u x. before (g a u x))
       (λ a b u v s q x y st e. subst E (sym (stands_opens s q v st)) (opens a b u v _ x y e)))
 
 -- R prints something that begins with a byte as X says, where what follows is as E asks
@@ -107,10 +107,10 @@ After w R b t = (v : List ℕ) × R b v × (w ++ v ≡ t)
 
 module _ {A B : Type 0} {R : B → List ℕ → Type 0} {D E : ℕ → Type 0} where
   -- a part of which only one text is printed, and a reader behind it
-  pub reads-behind :
+  pub reads_behind :
       (w : List ℕ) {m : Reader A} {f : Reader B} → A → Reads m (λ a u. w ≡ u) D → Reads f R E → Opens R E D → Reads (m >> f) (After w R) E
   unfolding ◌>>◌
-  reads-behind w a r g opens =
+  reads_behind w a r g opens =
       reads_as (reads_then r (λ a u e. g) (λ a b u v d e h x. opens b v d h x))
       (λ b t h. (h.rest, h.goes_on, ap (λ (u : List ℕ). u ++ h.rest) h.prints ∙ h.is))
       (λ b t h. record { one = a; text = w; rest = h.0; prints = refl; goes_on = h.1; is = h.2 }) (λ d e. e)
@@ -119,15 +119,15 @@ pub reads_word : (w : List ℕ) → Reads (word w) (λ a u. w ≡ u) Any
 unfolding word
 reads_word [] = reads_as (reads_pure tt) (λ a u h. h.1) (λ a u h. (refl, h)) (λ d e. e)
 reads_word (c ∷ w) =
-    reads_as (reads-behind (c ∷ []) tt (reads_byte c) (reads_word w) (λ a u d x e. tt))
+    reads_as (reads_behind (c ∷ []) tt (reads_byte c) (reads_word w) (λ a u d x e. tt))
     (λ a u h. ap (λ (v : List ℕ). c ∷ v) h.1 ∙ h.2) (λ a u h. (w, refl, h)) (λ d e. e)
 
 module _ {B : Type 0} {f : Reader B} {R : B → List ℕ → Type 0} {E : ℕ → Type 0} where
   pub reads_from_byte : (c : ℕ) → Reads f R E → Reads (byte c >> f) (After (c ∷ []) R) E
-  reads_from_byte c r = reads-behind (c ∷ []) tt (reads_byte c) r (λ b u d x e. tt)
+  reads_from_byte c r = reads_behind (c ∷ []) tt (reads_byte c) r (λ b u d x e. tt)
 
   pub reads_from_word : (w : List ℕ) → Reads f R E → Reads (word w >> f) (After w R) E
-  reads_from_word w r = reads-behind w tt (reads_word w) r (λ b u d x e. tt)
+  reads_from_word w r = reads_behind w tt (reads_word w) r (λ b u d x e. tt)
 
   -- a test that has to be passed
   pub reads_require : (ok : Bool) (n : ℕ) → Reads f R E → Reads (require ok n >> f) (λ b u. (ok ≡ true) × R b u) E
@@ -139,10 +139,10 @@ module _ {A B : Type 0} {m : Reader A} {R : A → List ℕ → Type 0} {E : ℕ 
   reads_map h r = by_byte E (before_map h (before r))
 
   -- a value that is tested once it is read
-  pub reads-tested :
+  pub reads_tested :
       (test : A → Bool) (n : ℕ) (h : A → B) → Reads m R E
       → Reads (m >>= (λ a. require (test a) n >> pure (h a))) (Image h (λ a u. R a u × (test a ≡ true))) E
-  reads-tested test n h r =
+  reads_tested test n h r =
       reads_as
       (reads_then r (λ a u x. reads_require (test a) n (reads_pure (h a)))
       (λ a b u v d x y e. subst (λ (w : List ℕ). E (get_or w 0 d)) y.1.1 e))
@@ -160,10 +160,10 @@ module _ {A B : Type 0} {m : Reader A} {R : A → List ℕ → Type 0} {E : ℕ 
       (λ d e. e)
 
   -- a value, and a byte that closes it
-  pub reads-closed :
+  pub reads_closed :
       (c : ℕ) (h : A → B) → Reads m R E → E c
       → Reads (m >>= (λ a. byte c >> pure (h a))) (Image h (λ a t. (u : List ℕ) × R a u × (u ++ (c ∷ []) ≡ t))) Any
-  reads-closed c h r ends =
+  reads_closed c h r ends =
       reads_as
       (reads_then r (λ a u x. reads_from_byte {E = Any} c (reads_pure (h a)))
       (λ a b u v d x y e. subst (λ (w : List ℕ). E (get_or w 0 d)) y.2 ends))
@@ -195,16 +195,16 @@ pub record Looks {A : Type 0} (f : ℕ → Reader A) (R : A → List ℕ → Typ
   pub looked : Reads (look f) R E
 
 module _ {A : Type 0} {R Q : A → List ℕ → Type 0} {E : ℕ → Type 0} where
-  pub reads-either :
+  pub reads_either :
       (test : ℕ → Bool) {m : Reader A} {rest : ℕ → Reader A} → Reads m R E → Looks rest Q E
       → Opens R E (λ b. test b ≡ true) → Opens Q E (λ b. test b ≡ false)
       → Looks (λ b. choose (test b) m (rest b)) (Or R Q) E
   unfolding look choose
-  reads-either test {m} {rest} r q here other = record {
+  reads_either test {m} {rest} r q here other = record {
     looked =
-        reads-equal _ (λ s p. chosen s p (test (byte_at s p)))
+        reads_equal _ (λ s p. chosen s p (test (byte_at s p)))
         (by_byte E
-        (before-choice (λ s p. test (byte_at s p)) (before r) (before q.looked)
+        (before_choice (λ s p. test (byte_at s p)) (before r) (before q.looked)
         (λ a u s p x st d. subst (λ (b : ℕ). test b ≡ true) (sym (stands_opens s p u st)) (here a u _ x d))
         (λ a u s p x st d. subst (λ (b : ℕ). test b ≡ false) (sym (stands_opens s p u st)) (other a u _ x d))));
   }
@@ -214,17 +214,17 @@ module _ {A : Type 0} {R Q : A → List ℕ → Type 0} {E : ℕ → Type 0} whe
       chosen s p false = refl
 
   -- by the byte c, or any other
-  pub reads-choice :
+  pub reads_choice :
       (c : ℕ) {m : Reader A} {rest : ℕ → Reader A} → Reads m R E → Looks rest Q E
       → Opens R E (λ b. b ≡ c) → Opens Q E (λ b. b ≡ c → ⊥)
       → Looks (λ b. choose (eqb b c) m (rest b)) (Or R Q) E
-  reads-choice c r q here other =
-      reads-either (λ b. eqb b c) r q (λ a u d x e. eq-eqb _ c (here a u d x e)) (λ a u d x e. ne_eqb _ c (other a u d x e))
+  reads_choice c r q here other =
+      reads_either (λ b. eqb b c) r q (λ a u d x e. eq-eqb _ c (here a u d x e)) (λ a u d x e. ne_eqb _ c (other a u d x e))
 
 -- whatever the byte
 pub reads_last : {A : Type 0} {R : A → List ℕ → Type 0} {E : ℕ → Type 0} {m : Reader A} → Reads m R E → Looks (λ b. m) R E
 unfolding look
-reads_last r = record { looked = reads-equal _ (λ s p. refl) r }
+reads_last r = record { looked = reads_equal _ (λ s p. refl) r }
 
 -- a byte that may stand here
 module _ {A : Type 0} (c : ℕ) (f : Bool → Reader A) where
@@ -247,10 +247,10 @@ module _ {A : Type 0} (c : ℕ) (f : Bool → Reader A) where
   unfolding optional look ◌>>=◌
   optional_is s p = optional_then s p (eqb (byte_at s p) c)
 
-  pub reads-optional :
+  pub reads_optional :
       {R Q : A → List ℕ → Type 0} {E : ℕ → Type 0} → Reads (f true) R E → Reads (f false) Q E → Opens Q E (λ b. b ≡ c → ⊥)
       → Reads (optional c >>= f) (Or (After (c ∷ []) R) Q) E
-  reads-optional r q other =
-      reads-equal _ optional_is
-      (reads-choice c (reads_from_byte c r) (reads_last q)
+  reads_optional r q other =
+      reads_equal _ optional_is
+      (reads_choice c (reads_from_byte c r) (reads_last q)
       (λ a u d x e. ap (λ (w : List ℕ). get_or w 0 d) (sym x.2)) other).looked

@@ -18,7 +18,7 @@ use Rattle.rows.specs.Rows.{any_right, rights}
 use Rattle.sources.specs.Types.{Rights}
 use Rattle.sources.specs.Printed.{given, rights_text}
 use Rattle.sources.proofs.ReadsPrints.{Reads, Is, After, Or, reads_as, reads_pure}
-use Rattle.sources.proofs.ReadsPrints.{reads_require, reads-optional}
+use Rattle.sources.proofs.ReadsPrints.{reads_require, reads_optional}
 
 -- ---- rights: letters that may stand, in their order
 
@@ -32,12 +32,12 @@ pub record NoLetter (d : ℕ) : Type 0 where
 abbrev Lettered : {A : Type 0} → ℕ → (Bool → A → List ℕ → Type 0) → A → List ℕ → Type 0
 Lettered c R a t = (b : Bool) × (v : List ℕ) × R b a v × (given b (c ∷ []) ++ v ≡ t)
 
-reads-lettered :
+reads_lettered :
     {A : Type 0} {E : ℕ → Type 0} (c : ℕ) (f : Bool → Reader A) (R : Bool → A → List ℕ → Type 0) → ((b : Bool) → Reads (f b) (R b) E)
     → ((a : A) (u : List ℕ) (d : ℕ) → R false a u → E d → get_or u 0 d ≡ c → ⊥) → Reads (optional c >>= f) (Lettered c R) E
 unfolding given choose
-reads-lettered {A} {E} c f R r other =
-    reads_as (reads-optional c f (r true) (r false) other) to from (λ d e. e)
+reads_lettered {A} {E} c f R r other =
+    reads_as (reads_optional c f (r true) (r false) other) to from (λ d e. e)
   where
     to : (a : A) (u : List ℕ) → Or (After (c ∷ []) (R true)) (R false) a u → Lettered c R a u
     to a u (inl (v, x, e)) = (true, v, x, e)
@@ -104,10 +104,10 @@ pub reads_rights : Reads rights RightsText NoLetter
 unfolding rights
 reads_rights =
     reads_as
-    (reads-lettered 105 _ FromRead
-    (λ i. reads-lettered 114 _ (FromPut i)
-    (λ r. reads-lettered 111 _ (FromSend i r)
-    (λ o. reads-lettered 101 _ (Whole i r o) (λ e. reads_require _ 31 (reads_pure _))
+    (reads_lettered 105 _ FromRead
+    (λ i. reads_lettered 114 _ (FromPut i)
+    (λ r. reads_lettered 111 _ (FromSend i r)
+    (λ o. reads_lettered 101 _ (Whole i r o) (λ e. reads_require _ 31 (reads_pure _))
     (λ x u d y n f. n.no_send (ap (λ (w : List ℕ). get_or w 0 d) y.1.1 ∙ f)))
     (λ x u d y n. send_other 111 i r false x u d (λ f. omega arith) y n.no_put))
     (λ x u d y n. put_other 114 i false x u d (λ f. omega arith) (λ f. omega arith) y n.no_read))

@@ -22,9 +22,9 @@ use Rattle.rows.specs.OriginRows.{numbered, origin_row}
 use Rattle.sources.specs.Types.{Rights, Row}
 use Rattle.sources.specs.Printed.{newline, given, grants_text, row_rest_text, row_text, origin_row_text}
 use Rattle.sources.proofs.Stands.{Stands, stands_first_law}
-use Rattle.sources.proofs.ReadsBefore.{before-choice}
-use Rattle.sources.proofs.ReadsPrints.{opens_with_law, Reads, Any, After, Or, Image, before, by_byte, reads_as, reads-equal, reads_then, reads-behind}
-use Rattle.sources.proofs.ReadsPrints.{reads_word, reads_from_word, reads_require, reads-tested, reads-closed}
+use Rattle.sources.proofs.ReadsBefore.{before_choice}
+use Rattle.sources.proofs.ReadsPrints.{opens_with_law, Reads, Any, After, Or, Image, before, by_byte, reads_as, reads_equal, reads_then, reads_behind}
+use Rattle.sources.proofs.ReadsPrints.{reads_word, reads_from_word, reads_require, reads_tested, reads_closed}
 use Rattle.sources.proofs.Numbers.{low_byte, high_byte, NoDigit, reads_number, no_other}
 use Rattle.sources.proofs.Fields.{then_same}
 use Rattle.sources.proofs.Openings.{stands_word, stands_no_word, stands_agree}
@@ -61,8 +61,8 @@ reads_numbered : (i : ℕ) → i ≤ 15 → Reads (numbered i) (λ a u. decimal 
 unfolding numbered
 reads_numbered i h =
     reads_as
-    (reads-equal _ (λ s p. then_same (number 15) _ _ s p (λ v q. required (eqb v i) 31 s q))
-    (reads-tested (λ v. eqb v i) 31 (λ v. tt) (reads_number 15 (omega arith))))
+    (reads_equal _ (λ s p. then_same (number 15) _ _ s p (λ v q. required (eqb v i) 31 s q))
+    (reads_tested (λ v. eqb v i) 31 (λ v. tt) (reads_number 15 (omega arith))))
     (λ a u (v, ((l, e), t), is). ap decimal (sym (eqb-true v i t)) ∙ e)
     (λ a u e. (i, ((h, e), eq-eqb i i refl), refl)) (λ d e. e)
 
@@ -103,9 +103,9 @@ module _ {A : Type 0} (f : Bool → Reader A) (R : Bool → A → List ℕ → T
   reads_creates : Reads (creates >>= f) Created Any
   reads_creates =
       reads_as
-      (reads-equal _ creates_then
+      (reads_equal _ creates_then
       (by_byte Any
-      (before-choice (stands_at (bytes " n")) (before (reads_from_word (bytes " n") (r true))) (before (r false))
+      (before_choice (stands_at (bytes " n")) (before (reads_from_word (bytes " n") (r true))) (before (r false))
       (λ a u s p (v, x, e) st d. stands_word (bytes " n") s p (stands_first_law s p (bytes " n") v (subst (Stands s p) (sym e) st)))
       (λ a u s p x st d. stands_no_word (bytes " n") s p (other a u s p x st)))))
       created_to created_from (λ d e. e)
@@ -132,7 +132,7 @@ abbrev Granted : Bool → Row → List ℕ → Type 0
 Granted b = Image (λ r. r) (λ r t. (u : List ℕ) × GrantsText 0 (started b) r u × (u ++ (10 ∷ []) ≡ t))
 
 reads_granted : (b : Bool) → Reads (grants 16 0 (started b) >>= (λ r. byte 10 >> pure r)) (Granted b) Any
-reads_granted b = reads-closed 10 (λ r. r) (reads_grants 16 0 (started b) (omega arith) (omega arith) blank_row) line_end
+reads_granted b = reads_closed 10 (λ r. r) (reads_grants 16 0 (started b) (omega arith) (omega arith) blank_row) line_end
 
 -- what follows ` has` where ` n` is not held does not open with ` n`
 not_held : (r : Row) (v s : List ℕ) (p : ℕ) → Granted false r v → Stands s p v → Stands s p (bytes " n") → ⊥
@@ -213,7 +213,7 @@ pub record RowText (i : ℕ) (r : Row) (u : List ℕ) : Type 0 where
 pub reads_row : (i : ℕ) → i ≤ 15 → Reads (row i) (RowText i) Any
 unfolding row row_text
 reads_row i h =
-    reads_as (reads-behind (decimal i ++ bytes " has") tt (reads_opening i h) reads_rest (λ r u d x e. tt))
+    reads_as (reads_behind (decimal i ++ bytes " has") tt (reads_opening i h) reads_rest (λ r u d x e. tt))
     (λ r u (v, x, e). record {
       whole = x.whole;
       prints =
@@ -236,9 +236,9 @@ pub reads_origin_row : (i j : ℕ) → i ≤ 15 → j ≤ 15 → Reads (origin_r
 unfolding origin_row origin_row_text bytes
 reads_origin_row i j h g =
     reads_as
-    (reads-behind (decimal i) tt (reads_numbered i h)
+    (reads_behind (decimal i) tt (reads_numbered i h)
     (reads_from_word (bytes " from ")
-    (reads-behind (decimal j) tt (reads_numbered j g) (reads_from_word (bytes " has") reads_rest) (λ r u d x e. space_opens _ u d x.2)))
+    (reads_behind (decimal j) tt (reads_numbered j g) (reads_from_word (bytes " has") reads_rest) (λ r u d x e. space_opens _ u d x.2)))
     (λ r u d x e. space_opens _ u d x.2))
     (λ r u (v₁, (v₂, (v₃, (v₄, x, e₄), e₃), e₂), e₁). record {
       whole = x.whole;

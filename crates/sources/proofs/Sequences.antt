@@ -12,7 +12,7 @@ use Rattle.readers.specs.Reader.{Reader, pure, ◌>>=◌}
 use Rattle.lexemes.specs.Lexemes.{fail}
 use Rattle.sources.specs.WellFormed.{Each, none, more}
 use Rattle.sources.proofs.Stands.{Stands}
-use Rattle.sources.proofs.ReadsBefore.{ReadsBefore, Is, Then, Or, still, before-as, before_equal, before_pure, before_fail, before-then, before-choice}
+use Rattle.sources.proofs.ReadsBefore.{ReadsBefore, Is, Then, Or, still, before_as, before_equal, before_pure, before_fail, before_then, before_choice}
 
 -- whatever follows
 abbrev pub Anything : List ℕ → ℕ → Type 0
@@ -104,9 +104,9 @@ module _ {X : Type 0} {text : ℕ → X → List ℕ} {texts : ℕ → List X �
     pub reads_up_to : (k : ℕ) (before : List X) → k + length before ≡ top
         → ReadsBefore (read k before) (Later R texts (λ l. l ≤ k) before) (λ s q. test s q ≡ false)
     reads_up_to zero before h =
-        before-as
+        before_as
         (before_equal _ (at-end before)
-        (before-choice test (before_fail fault) (before_pure before) (λ a u s p x. absurd x)
+        (before_choice test (before_fail fault) (before_pure before) (λ a u s p x. absurd x)
         (λ a u s p x st n. still (λ t q. test t q ≡ false) u s p x.1 n)))
         to from (λ s q e. e)
       where
@@ -121,10 +121,10 @@ module _ {X : Type 0} {text : ℕ → X → List ℕ} {texts : ℕ → List X �
             go (inl y) = inl y.goes_on.size
             go (inr y) = inr y.1
     reads_up_to (suc k) before h =
-        before-as
+        before_as
         (before_equal _ (turn k before)
-        (before-choice test
-        (before-then (reads_one before (omega arith))
+        (before_choice test
+        (before_then (reads_one before (omega arith))
         (λ x u g. reads_up_to k (before ++ (x ∷ [])) (let l = length-append before (x ∷ []) in omega arith)) (λ x xs u v s q g i st e. tt))
         (before_pure before)
         (λ xs u s p x st n.
@@ -155,11 +155,11 @@ module _ {X : Type 0} {text : ℕ → X → List ℕ} {texts : ℕ → List X �
       (at-end : (before : List X) (s : List ℕ) (p : ℕ) → read 0 before s p ≡ pure before s p)
       (turn : (k : ℕ) (before : List X) (s : List ℕ) (p : ℕ) → read (suc k) before s p ≡ (one before >>= (λ x. read k (before ++ (x ∷ [])))) s p) where
     -- what the values behind number i open with, or what follows where there are none
-    pub exactly-opens :
+    pub exactly_opens :
         (k i : ℕ) (before xs : List X) (v s : List ℕ) (q : ℕ) → k + length before ≡ top → length before ≡ suc i
         → Later R texts (λ l. l ≡ k) before xs v → Stands s q v
         → F s (q + length v) → G i s q
-    exactly-opens k i before xs v s q h m y st e = go (next_from (λ l. suc l ≡ k) (λ l. l ≡ k) (λ l g. g) before xs v y)
+    exactly_opens k i before xs v s q h m y st e = go (next_from (λ l. suc l ≡ k) (λ l. l ≡ k) (λ l g. g) before xs v y)
       where
         go : Or (Next R text texts (λ l. suc l ≡ k) before) (λ a w. (0 ≡ k) × Is before a w) xs v → G i s q
         go (inl z) =
@@ -170,7 +170,7 @@ module _ {X : Type 0} {text : ℕ → X → List ℕ} {texts : ℕ → List X �
 
     pub reads_exactly : (k : ℕ) (before : List X) → k + length before ≡ top → ReadsBefore (read k before) (Later R texts (λ l. l ≡ k) before) F
     reads_exactly zero before h =
-        before-as (before_equal _ (at-end before) (before_pure before))
+        before_as (before_equal _ (at-end before) (before_pure before))
         (λ xs u x. none_to (λ l. ⊥) (λ l. l ≡ 0) refl before xs u x) (λ xs u x. from xs u x) (λ s q e. e)
       where
         from : (xs : List X) (u : List ℕ) → Later R texts (λ l. l ≡ 0) before xs u → Is before xs u
@@ -180,12 +180,12 @@ module _ {X : Type 0} {text : ℕ → X → List ℕ} {texts : ℕ → List X �
             go (inl y) = absurd y.goes_on.size
             go (inr y) = y.1
     reads_exactly (suc k) before h =
-        before-as
+        before_as
         (before_equal _ (turn k before)
-        (before-then (reads_one before (omega arith))
+        (before_then (reads_one before (omega arith))
         (λ x u g. reads_exactly k (before ++ (x ∷ [])) (let l = length-append before (x ∷ []) in omega arith))
         (λ x xs u v s q g y st e.
-        let m = next_number before x in exactly-opens k (length before) (before ++ (x ∷ [])) xs v s q (omega arith) m y st e)))
+        let m = next_number before x in exactly_opens k (length before) (before ++ (x ∷ [])) xs v s q (omega arith) m y st e)))
         (λ xs u x. next_to (λ l. l ≡ k) (λ l. l ≡ suc k) (λ l g. omega arith) before xs u x) (λ xs u x. from xs u x) (λ s q e. e)
       where
         from : (xs : List X) (u : List ℕ) → Later R texts (λ l. l ≡ suc k) before xs u → Next R text texts (λ l. l ≡ k) before xs u

@@ -20,7 +20,7 @@ use Rattle.sources.specs.Types.{Group}
 use Rattle.sources.specs.Printed.{separated, address_text, group_text}
 use Rattle.sources.specs.WellFormed.{Each, none, more, GroupFormed}
 use Rattle.sources.proofs.ReadsPrints.{opens_with_law, opens_append, Reads, Any, Is, After, Or, Image, reads_as, reads_pure}
-use Rattle.sources.proofs.ReadsPrints.{reads_from_byte, reads-tested, reads-closed, reads-choice, reads_last}
+use Rattle.sources.proofs.ReadsPrints.{reads_from_byte, reads_tested, reads_closed, reads_choice, reads_last}
 use Rattle.sources.proofs.Numbers.{high_byte, NoDigit, decimal_opens, no_other}
 use Rattle.sources.proofs.Listed.{FieldEnd, Parts, reads_list, parts_from}
 use Rattle.sources.proofs.Fields.{reads_address, then_same}
@@ -79,7 +79,7 @@ module _ (n : ℕ) where
     reads_member : (before : List ℕ) → Reads (member_from n (after 0 before)) (λ x u. MemberFormed before x × (decimal x ≡ u)) NoDigit
     unfolding member_from address_text
     reads_member before =
-        reads_as (reads-tested (λ l. leb (after 0 before) l.0) 31 (λ l. l.0) (reads_address n h))
+        reads_as (reads_tested (λ l. leb (after 0 before) l.0) 31 (λ l. l.0) (reads_address n h))
         (λ x u (l, (a, t), is).
         subst (λ (y : ℕ). MemberFormed before y × (decimal y ≡ u)) is
         (record { ascends = leb-true (after 0 before) l.0 t; in_range_law = a.in_range_law }, a.prints))
@@ -144,7 +144,7 @@ module _ (n : ℕ) where
     unfolding listed
     reads_listed =
         reads_as
-        (reads-choice 125 (reads_pure no_members)
+        (reads_choice 125 (reads_pure no_members)
         (reads_last (reads_as reads_members (λ a u x. x) (λ a u x. x) (λ d e. subst FieldEnd (sym e) brace)))
         (λ a u d x e. opens_with_law [] u d x.1 ∙ e) (λ a u d x e. no_other _ 125 (members_open a u d x) (high_byte 125 (omega arith)))
         ).looked
@@ -176,4 +176,4 @@ module _ (n : ℕ) where
 
     pub reads_group : Reads (group n) (GroupText n) Any
     unfolding group
-    reads_group = reads_as (reads_from_byte 123 (reads-closed 125 group_of reads_listed refl)) group_to group_from (λ d e. e)
+    reads_group = reads_as (reads_from_byte 123 (reads_closed 125 group_of reads_listed refl)) group_to group_from (λ d e. e)

@@ -23,7 +23,7 @@ use Rattle.sources.specs.Types.{Locality, Target, Pattern, TemplateField, Instru
 use Rattle.sources.specs.Printed.{separated, address_text, pattern_text, template_text, target_text}
 use Rattle.sources.specs.WellFormed.{PatternFormed, template_of, TemplateFormed, TargetFormed}
 use Rattle.sources.proofs.ReadsPrints.{opens_with_law, Reads, Is, After, Or, Image, reads_as, reads_pure, reads_from_byte, reads_from_word, reads_require}
-use Rattle.sources.proofs.ReadsPrints.{reads_map, reads-tested, reads-choice, reads_last}
+use Rattle.sources.proofs.ReadsPrints.{reads_map, reads_tested, reads_choice, reads_last}
 use Rattle.sources.proofs.Numbers.{low_byte, high_byte, NoDigit, no_other}
 use Rattle.sources.proofs.Listed.{FieldEnd, Parts, reads_fields}
 use Rattle.sources.proofs.Fields.{AddressText, reads_address, address_opens, VariableText, reads_variable, ReadingText, reads_reading}
@@ -51,7 +51,7 @@ module _ (formals : Bool) (n : ℕ) (before : List Pattern) where
   reads_fresh : Reads (fresh (template_of before)) Fresh NoDigit
   unfolding fresh
   reads_fresh =
-      reads_as (reads-tested (unbound_before (template_of before) (template_of before).count) 27 (λ v. v) reads_variable)
+      reads_as (reads_tested (unbound_before (template_of before) (template_of before).count) 27 (λ v. v) reads_variable)
       (λ v u (a, x, is). subst (λ (y : ℕ). Fresh y u) is x) (λ v u x. (v, x, refl)) (λ d e. e)
 
   abbrev Formal : Pattern → List ℕ → Type 0
@@ -64,7 +64,7 @@ module _ (formals : Bool) (n : ℕ) (before : List Pattern) where
   reads_formal =
       reads_require formals 26
       (reads_from_byte 33
-      (reads-choice 120 (reads_from_byte 120 (reads_map Pattern.FormalReading reads_fresh))
+      (reads_choice 120 (reads_from_byte 120 (reads_map Pattern.FormalReading reads_fresh))
       (reads_last (reads_from_byte 117 (reads_map Pattern.FormalAddress reads_fresh)))
       (λ x u d y e. opens_with_law _ u d y.2)
       (λ x u d y e f. let g = opens_with_law _ u d y.2 in omega arith)
@@ -148,10 +148,10 @@ module _ (formals : Bool) (n : ℕ) (before : List Pattern) where
   unfolding pattern address_pattern own_pattern held_pattern reading_pattern at_address own held bytes
   reads_pattern h =
       reads_as
-      (reads-choice 33 reads_formal
-      (reads-choice 64 (reads_map Pattern.Address (reads_from_byte 64 (reads_address n h)))
-      (reads-choice 115 (reads_from_word (bytes "self") (reads_pure Pattern.Own))
-      (reads-choice 118 (reads_map Pattern.Held (reads_from_byte 118 reads_variable)) (reads_last (reads_map Pattern.Reading reads_reading))
+      (reads_choice 33 reads_formal
+      (reads_choice 64 (reads_map Pattern.Address (reads_from_byte 64 (reads_address n h)))
+      (reads_choice 115 (reads_from_word (bytes "self") (reads_pure Pattern.Own))
+      (reads_choice 118 (reads_map Pattern.Held (reads_from_byte 118 reads_variable)) (reads_last (reads_map Pattern.Reading reads_reading))
       (λ x u d y e. opens_with_law _ u d y.1.2)
       (λ x u d y e. reading_opens 118 (high_byte 118 (omega arith)) (λ f. omega arith) y.0 u d y.1))
       (λ x u d y e. opens_with_law _ u d y.2)
@@ -266,8 +266,8 @@ module _ (n : ℕ) where
     unfolding target own_target held_target written_target own held bytes
     reads_target =
         reads_as
-        (reads-choice 115 (reads_from_word (bytes "self") (reads_pure Target.Own))
-        (reads-choice 118 (reads_map Target.Held (reads_from_byte 118 reads_variable)) (reads_last (reads_map Target.Written (reads_address n h)))
+        (reads_choice 115 (reads_from_word (bytes "self") (reads_pure Target.Own))
+        (reads_choice 118 (reads_map Target.Held (reads_from_byte 118 reads_variable)) (reads_last (reads_map Target.Written (reads_address n h)))
         (λ t u d y e. opens_with_law _ u d y.1.2)
         (λ t u d y e. no_other _ 118 (address_opens n h y.0 u d y.1) (high_byte 118 (omega arith))))
         (λ t u d y e. opens_with_law _ u d y.2) (λ t u d y e. target_other t u d y)

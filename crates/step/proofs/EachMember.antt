@@ -10,7 +10,7 @@ use Rattle.net.specs.Records.{node_at, address_of}
 use Rattle.net.specs.Groups.{member}
 use Rattle.net.proofs.Laws.{same_truth}
 use Rattle.net.proofs.Every.{chosen}
-use Rattle.net.proofs.FoldLaws.{fold-keeps}
+use Rattle.net.proofs.FoldLaws.{fold_keeps}
 use Rattle.net.proofs.GroupLaws.{members_at, members_all}
 use Rattle.step.specs.Types.{Locality, Group, Tuple, Net}
 use Rattle.step.specs.Pick.{added, room_at_all, added_all}
@@ -34,7 +34,7 @@ module _ (g : Group) (t : Tuple) where
       → P (added_all s g t)
   unfolding added_all
   all_kept P s p turn =
-      fold-keeps (λ _. P) _ s 16 p
+      fold_keeps (λ _. P) _ s 16 p
       (λ i s' _ q. chosen P (member g (address_of i)) _ _ (λ m. turn s' (address_of i) m q) (λ _. q))
 
   module _ (h : Net → Net) (turn : (s' : Net) (l : Locality) → member g l ≡ true → h (added s' l t) ≡ added (h s') l t) where
@@ -52,5 +52,5 @@ module _ (g : Group) (t : Tuple) where
     pub all_through : (s : Net) → h (added_all s g t) ≡ added_all (h s) g t
     unfolding added_all fold
     all_through s =
-        fold-keeps (λ i s'. h s' ≡ fold i (λ j u. choose (member g (address_of j)) (added u (address_of j) t) u) (h s)) _ s 16 refl
+        fold_keeps (λ i s'. h s' ≡ fold i (λ j u. choose (member g (address_of j)) (added u (address_of j) t) u) (h s)) _ s 16 refl
         (λ i s' _ e. turned (address_of i) s' _ e)

@@ -217,11 +217,11 @@ module _ (s : Net) (a : Locality) (k : ℕ) (size : length s.nodes ≡ 16) (low 
       unfolding start_plan started_on
       start_back = started_back (free_slot (node_at s l)) refl
 
-    eval-back :
+    eval_back :
         (process_at (node_at s a) k).busy ≡ true → (p : Process) (sent q : Place)
         → back s a k l (eval_plan a p (node_at s l) sent q (keeps_of s.code sent l (row_for (node_at s l) (sent_from a p sent)))) ≡ eval s a k p l sent q
     unfolding eval_plan eval changes
-    eval-back busy p sent q =
+    eval_back busy p sent q =
         chosen (back s a k l) (keeps_of s.code sent l (row_for (node_at s l) (sent_from a p sent))) _ _ _ _
         (start_back busy p (sent_from a p sent) q) (refusing_back l Answer.NotWithin _ refl)
 
@@ -302,7 +302,7 @@ module _ (s : Net) (a : Locality) (k : ℕ) (seat : Standing s a k) (p : Process
       rw (here l (λ r. choose r.take true r.read) refl (sym (keeping.reads _ l) ∙ g)) (read_back_law s a k seat.size seat.low l _ q _)
   granted_back (Request.Eval l sent q) none g =
       rw (here l (λ r. r.send) refl (sym (keeping.sends _ l) ∙ g))
-      (eval-back s a k seat.size seat.low l seat.busy p sent q)
+      (eval_back s a k seat.size seat.low l seat.busy p sent q)
   granted_back (Request.New v q) none g = new_back s a k seat.size seat.low seat.used p v q
   granted_back (Request.Fork q q') none g = start_back s a k seat.size seat.low a seat.busy p (copied_to p q') q
   granted_back (Request.OutAll h q) none g = none_back s a k seat.size seat.low p h q _ none

@@ -15,9 +15,9 @@ use Rattle.net.specs.Records.{with_variable, with_rights, with_rows, with_proces
 use Rattle.net.specs.Records.{moved_to, copied_to, sent_from, after_taking, without_tuple}
 use Rattle.net.specs.Groups.{member}
 use Rattle.sound.specs.Soundness.{value_sound}
-use Rattle.net.proofs.Every.{chosen, chosen_lt, Every, every_set, every_weaken, Filled, filled-set, filled-add, filled-map}
+use Rattle.net.proofs.Every.{chosen, chosen_lt, Every, every_set, every_weaken, Filled, filled_set, filled_add, filled_map}
 use Rattle.net.proofs.Past.{past_tuple}
-use Rattle.net.proofs.FoldLaws.{fold-keeps}
+use Rattle.net.proofs.FoldLaws.{fold_keeps}
 use Rattle.net.proofs.ReadingLaws.{never}
 use Rattle.sound.proofs.NodeFacts.{TupleOk, RowOk, RowsOk, Running, ProcessOk, NodeOk}
 use Rattle.sound.proofs.NodeChanges.{runs, zero_row_law, alike_rows, other_row, zero_node_law, with_rows_law, with_process_law, with_tuple_law}
@@ -29,11 +29,11 @@ use Rattle.step.specs.Pick.{with_host, added, added_all, taken, opened, unused, 
 use Rattle.plans.specs.Additions.{gaining, own_row, opened_rows, creator_rows}
 
 -- an array set anew at each place
-pub set-each :
+pub set_each :
     {A : Type 0} (d : A) (size : ℕ) (f : ℕ → A) (xs : List A) → length xs ≡ size
     → Every (λ j x. x ≡ f j) d size (fold size (λ j ys. set ys j (f j)) xs)
-set-each d size f xs l =
-    let e = fold-keeps (λ i. Every (λ j x. j < i → x ≡ f j) d size) (λ j ys. set ys j (f j)) xs size
+set_each d size f xs l =
+    let e = fold_keeps (λ i. Every (λ j x. j < i → x ≡ f j) d size) (λ j ys. set ys j (f j)) xs size
     (record { size_is = l; holds = λ j h g. absurd (omega arith) })
     (λ i ys h q. every_set i (f i) q (λ j x n g m. g (omega arith)) (λ m. refl)) in
     record { size_is = e.size_is; holds = λ j h. e.holds j h h }
@@ -85,7 +85,7 @@ module _ (f n k : ℕ) (x : Node) (ok : NodeOk f n k x) (i : ℕ) (h : i < x.sto
     rows_ok = ok.rows_ok;
     processes_ok = ok.processes_ok;
     room = omega (arith, ok.room);
-    tuples_ok = every_weaken (set-each past_tuple 16 (after_taking x i) x.tuples ok.tuples_ok.size_is)
+    tuples_ok = every_weaken (set_each past_tuple 16 (after_taking x i) x.tuples ok.tuples_ok.size_is)
         (λ j t e. rw e (after_taking_law j));
   }
 
@@ -126,13 +126,13 @@ module _
     pub added_all_kept : NetOk (added_all s g t)
     unfolding added_all
     added_all_kept =
-        (fold-keeps (λ _. SameCount) _ s 16 (record { count_is = refl; net_ok = ok })
+        (fold_keeps (λ _. SameCount) _ s 16 (record { count_is = refl; net_ok = ok })
         (λ i s' _ h. chosen SameCount (member g (address_of i)) _ _ (added_more s' (address_of i) h) (λ _. h))).net_ok
 
 -- ---- one address more: the rows of the creator, and of the new node
 gaining_ok : (n : ℕ) (r : Row) → RowOk n r → RowOk (n + 1) (gaining r (address_of n))
 unfolding gaining with_rights
-gaining_ok n r e = filled-add all_rights tt e
+gaining_ok n r e = filled_add all_rights tt e
 
 module _ (f n : ℕ) (x : Node) (ok : RowsOk f n x.rows) (p : Process) where
   row_for_ok : RowOk n (row_for x p)
@@ -202,10 +202,10 @@ module _
           length_least = ok.length_least;
           length_most = ok.length_most;
           nodes_ok =
-              filled-add _
+              filled_add _
               (with_rows_law f (n + 1) k zero_node (zero_node_law f (n + 1) k) _
               (opened_rows_ok f n _ (node_at_law s ok a hosted).rows_ok p a hosted))
-              (filled-set a.0 _ hosted creator
-              (filled-map (node_more n (n + 1) more f k) (λ x e. e) ok.nodes_ok));
-          code_ok = filled-map (instruction_more n (n + 1) more f k) (λ c e. e) ok.code_ok;
+              (filled_set a.0 _ hosted creator
+              (filled_map (node_more n (n + 1) more f k) (λ x e. e) ok.nodes_ok));
+          code_ok = filled_map (instruction_more n (n + 1) more f k) (λ c e. e) ok.code_ok;
         }

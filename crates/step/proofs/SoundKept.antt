@@ -48,10 +48,10 @@ module _
     (s : Net) (ok : NetOk s) (a : Locality) (i : ℕ) (hosted : a.0 < s.addresses) (p : Process)
     (running : Running s.addresses s.length p)
   where
-    move-kept :
+    move_kept :
         (r : Process) (q : Place) → Running s.addresses s.length r → q.0 < s.length
         → NetOk (with_host s a i (moved_to r q))
-    move-kept r q g h = with_host_law s ok a i _ hosted (runs _ _ _ (moved _ _ r g q h))
+    move_kept r q g h = with_host_law s ok a i _ hosted (runs _ _ _ (moved _ _ r g q h))
 
     stopped_kept : Kept (stopped s a i)
     unfolding stopped
@@ -62,7 +62,7 @@ module _
         → TupleOk s.addresses t → Kept (out s a i p l q t)
     unfolding out with_host with_node
     out_kept l q t h g u =
-        chosen Kept _ _ _ (λ _. performed_kept _ (added_kept _ (move-kept p q running g) l t h u)) (λ _. same_kept s _ ok)
+        chosen Kept _ _ _ (λ _. performed_kept _ (added_kept _ (move_kept p q running g) l t h u)) (λ _. same_kept s _ ok)
 
     out_all_kept :
         (g : Group) (q : Place) (t : Tuple) → group_sound s.addresses g ≡ true → q.0 < s.length
@@ -71,7 +71,7 @@ module _
     out_all_kept g q t h next u =
         chosen Kept _ _ _
         (λ _. performed_kept _
-        (added_all_kept _ (move-kept p q running next) g t (λ l m. ltb-true _ _ (members_at g _ h l m)) u))
+        (added_all_kept _ (move_kept p q running next) g t (λ l m. ltb-true _ _ (members_at g _ h l m)) u))
         (λ _. same_kept s _ ok)
 
     module _ (l : Locality) (q : Place) (e : Evaluated) (reached : l.0 < s.addresses) (next : q.0 < s.length) where
@@ -95,20 +95,20 @@ module _
       unfolding in_found with_host with_node
       in_kept (Found.At j) h =
           performed_kept _
-          (taken_kept _ (move-kept _ q (bound_at_law j h) next) l j reached (rw (stored_same s a l i) (oldest j h).present))
+          (taken_kept _ (move_kept _ q (bound_at_law j h) next) l j reached (rw (stored_same s a l i) (oldest j h).present))
       in_kept Found.Nothing h = same_kept s _ ok
 
       read_kept :
           (f : Found) → (matched_of p (node_at s l) e).found ≡ f
           → Kept (read_found s a i q f (matched_of p (node_at s l) e).process)
       unfolding read_found
-      read_kept (Found.At j) h = performed_kept _ (move-kept _ q (bound_at_law j h) next)
+      read_kept (Found.At j) h = performed_kept _ (move_kept _ q (bound_at_law j h) next)
       read_kept Found.Nothing h = same_kept s _ ok
 
       started_kept : (copy : Process) → Running s.addresses s.length copy → (j : Slot) → Kept (started_in s a i l p copy q j)
       unfolding started_in with_host with_node
       started_kept copy h (Slot.Number j) =
-          performed_kept _ (with_host_law _ (move-kept p q running next) l j _ reached (runs _ _ _ h))
+          performed_kept _ (with_host_law _ (move_kept p q running next) l j _ reached (runs _ _ _ h))
       started_kept copy h Slot.Full = same_kept s _ ok
 
     create_kept : (v : ℕ) (q : Place) → q.0 < s.length → Kept (create s a i p v q)
@@ -154,20 +154,20 @@ pick_kept s b ok =
     step_kept s ok (host_of b) (slot_of b) hosted _ running _ (instruction_at_law s ok _ running.place))
     (λ _. same_kept s _ ok)) (λ _. same_kept s _ ok)) (λ _. same_kept s _ ok)
 
-pub step-sound-kept :
+pub step_sound_kept :
     (s : Net) (b : ℕ) → Shaped s → sound_of s ≡ true
     → (sound_of (step_of s b).net ≡ true) × Shaped (step_of s b).net
-step-sound-kept s b shaped sound =
+step_sound_kept s b shaped sound =
     let ok = (pick_kept s b (sound_apart s shaped sound)).net_ok in
     (net_sound _ ok, net_shaped _ _ _ _ ok)
 
 pub sound_kept : SoundKept
 unfolding SoundKept pick_of
-sound_kept s b shaped sound = rw choose_true (step-sound-kept s b shaped sound)
+sound_kept s b shaped sound = rw choose_true (step_sound_kept s b shaped sound)
 
 -- what a pick promises of a net that a program holds
-pub pick-keeps :
+pub pick_keeps :
     (s : Net) (b : ℕ) (r : Picked) → Shaped s → r ≡ pick_of s b
     → (r ≡ pick_of s b) × (sound_of s ≡ true → sound_of r.net ≡ true)
 unfolding SoundKept
-pick-keeps s b r shaped e = (e, λ sound. rw e (sound_kept s b shaped sound).0)
+pick_keeps s b r shaped e = (e, λ sound. rw e (sound_kept s b shaped sound).0)

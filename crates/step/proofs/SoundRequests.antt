@@ -10,9 +10,9 @@ use borrow.Author.Tests.{ltb-true}
 use Rattle.net.specs.Records.{marked, zero_field, zero_tuple, field_at, variable_at}
 use Rattle.matching.specs.Matching.{evaluated_of, want_at, fits_of, bound_of}
 use Rattle.sound.specs.Soundness.{item_sound, value_sound, target_sound, group_sound}
-use Rattle.matching.specs.MatchingPromise.{Holds, reading-met, address-met, as_before}
-use Rattle.net.proofs.Every.{chosen, chosen_lt, filled-each}
-use Rattle.net.proofs.FoldLaws.{fold-keeps}
+use Rattle.matching.specs.MatchingPromise.{Holds, reading_met, address_met, as_before}
+use Rattle.net.proofs.Every.{chosen, chosen_lt, filled_each}
+use Rattle.net.proofs.FoldLaws.{fold_keeps}
 use Rattle.matching.proofs.MatchingPromise.{matching_promise as promise}
 use Rattle.sound.proofs.NodeFacts.{TupleOk, Running}
 use Rattle.sound.proofs.NodeChanges.{Filling, no_field, next_field, all_fields}
@@ -30,7 +30,7 @@ zero_item n f e = ap (λ (g : Field). item_sound n g.item) e
 
 field_sound : (n : ℕ) (t : Tuple) → TupleOk n t → (i : ℕ) → i < 4 → item_sound n (field_at t i) ≡ true
 unfolding field_at
-field_sound n t ok = filled-each {Q = λ f. item_sound n f.item ≡ true} ok.fields_ok (λ f e. e) (zero_item n)
+field_sound n t ok = filled_each {Q = λ f. item_sound n f.item ≡ true} ok.fields_ok (λ f e. e) (zero_item n)
 
 value_at : (n k : ℕ) (p : Process) (v : ℕ) → Running n k p → v < 8 → value_sound n (variable_at p v) ≡ true
 unfolding variable_at
@@ -40,8 +40,8 @@ value_at n k p v r h = r.values.holds v h
 module _ (n k : ℕ) (p : Process) (t : Tuple) (e : Evaluated) (r : Running n k p) (ok : TupleOk n t) where
   held_sound : (v : ℕ) (x : Value) → v < 8 → Holds p t e t.count v x → value_sound n x ≡ true
   unfolding value_sound item_sound
-  held_sound v _ l (reading-met m w f) = refl
-  held_sound v _ l (address-met {i = i} m w f) = rw f at (field_sound n t ok i (omega (arith, ok.most)))
+  held_sound v _ l (reading_met m w f) = refl
+  held_sound v _ l (address_met {i = i} m w f) = rw f at (field_sound n t ok i (omega (arith, ok.most)))
   held_sound v _ l (as_before none) = value_at n k p v r l
 
   pub bound : fits_of t e ≡ true → Running n k (bound_of p t e)
@@ -76,7 +76,7 @@ unfolding tuple_of
 tuple_ok n a e l h g w =
     let c : ℕ = e.count in
     all_fields n (min 4 c) _ a (omega arith) (omega arith) l
-    (fold-keeps (λ i. Filling n (min i c)) _ zero_tuple 4 (filling_as n 0 (min 0 c) _ (omega arith) (no_field n))
+    (fold_keeps (λ i. Filling n (min i c)) _ zero_tuple 4 (filling_as n 0 (min 0 c) _ (omega arith) (no_field n))
     (λ i t l b. chosen_lt (Filling n (min (suc i) c)) i c _ _
     (λ u. filling_as n (suc (min i c)) (min (suc i) c) _ (omega arith) (next_field n (min i c) t _ (omega arith) b (w i l)))
     (λ u. filling_as n (min i c) (min (suc i) c) t (omega arith) b)))

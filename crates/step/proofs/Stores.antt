@@ -14,7 +14,7 @@ use Rattle.net.specs.Records.{address_of, node_at, with_node, with_process, with
 use Rattle.net.specs.Groups.{member}
 use Rattle.net.proofs.Laws.{choose_true, choose_false}
 use Rattle.net.proofs.Every.{chosen}
-use Rattle.net.proofs.FoldLaws.{fold-keeps}
+use Rattle.net.proofs.FoldLaws.{fold_keeps}
 use Rattle.net.proofs.GroupLaws.{has_out}
 use Rattle.net.proofs.Past.{past_node}
 use Rattle.step.specs.Types.{Locality, Group, Tuple, Process, Node, Net}
@@ -99,7 +99,7 @@ module _ (s : Net) (g : Group) (t : Tuple) (size : length s.nodes ≡ 16) where
   all_below : AllBelow 16 (added_all s g t)
   unfolding added_all
   all_below =
-      fold-keeps AllBelow _ s 16 (record { size_is = size; done = λ l b. absurd (omega arith); left = λ l b. refl })
+      fold_keeps AllBelow _ s 16 (record { size_is = size; done = λ l b. absurd (omega arith); left = λ l b. refl })
       (λ i s' low h. chosen (AllBelow (suc i)) (member g (address_of i)) _ _ (member_turn i s' low h) (other_turn i s' low h))
 
   pub added_all_at : (l : Locality) → node_at (added_all s g t) l ≡ choose (member g l) (with_tuple (node_at s l) t) (node_at s l)

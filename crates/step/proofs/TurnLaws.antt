@@ -29,25 +29,25 @@ use Rattle.step.proofs.PutBack.{back, Standing, row_length, plan_in, target, sou
 pub refusing_as : (x y : Answer) (z : Node) (plan : Plan) → x ≡ y → plan ≡ refusing x z → plan ≡ refusing y z
 refusing_as x y z plan e h = h ∙ ap (λ (w : Answer). refusing w z) e
 
-pub planned-by :
+pub planned_by :
     (f : ℕ) (h a : Locality) (row : Row) (p : Process) (y : Node) (e : Evaluated) (n : ℕ) (w : Bool) (r : Request) (x : Plan) → h ≡ a
     → x ≡ plan_of f h row p y e n w r → x ≡ plan_of f a row p y e n w r
-planned-by f h a row p y e n w r x d k = k ∙ ap (λ (l : Locality). plan_of f l row p y e n w r) d
+planned_by f h a row p y e n w r x d k = k ∙ ap (λ (l : Locality). plan_of f l row p y e n w r) d
 
 -- no code is sent, so none can go beyond a row
-pub nothing-sent :
+pub nothing_sent :
     (code : List Instruction) (a : Locality) (p : Process) (y : Node) (req : Request) (x : Bool) → x ≡ sends_code req → x ≡ false
     → true ≡ sent_within code a p y req
 unfolding sends_code sent_within
-nothing-sent code a p y Request.Lack x e h = refl
-nothing-sent code a p y Request.Stop x e h = refl
-nothing-sent code a p y (Request.Out l q) x e h = refl
-nothing-sent code a p y (Request.In l q) x e h = refl
-nothing-sent code a p y (Request.Read l q) x e h = refl
-nothing-sent code a p y (Request.Eval l sent q) x e h = never (sym h ∙ e)
-nothing-sent code a p y (Request.New v q) x e h = refl
-nothing-sent code a p y (Request.Fork q q') x e h = refl
-nothing-sent code a p y (Request.OutAll g q) x e h = refl
+nothing_sent code a p y Request.Lack x e h = refl
+nothing_sent code a p y Request.Stop x e h = refl
+nothing_sent code a p y (Request.Out l q) x e h = refl
+nothing_sent code a p y (Request.In l q) x e h = refl
+nothing_sent code a p y (Request.Read l q) x e h = refl
+nothing_sent code a p y (Request.Eval l sent q) x e h = never (sym h ∙ e)
+nothing_sent code a p y (Request.New v q) x e h = refl
+nothing_sent code a p y (Request.Fork q q') x e h = refl
+nothing_sent code a p y (Request.OutAll g q) x e h = refl
 
 -- ---- a plan put back, node by node
 module _ (s : Net) (b : ℕ) (l : Locality) (plan : Plan) (x : Bool) where
@@ -93,25 +93,25 @@ module _ (s : Net) (made : Answer → Picked) (kept : (x : Answer) → changes x
   in_order true false z next e = kept Answer.NotInUse refl
   in_order false w z next e = kept Answer.Malformed refl
 
-refused-back :
+refused_back :
     (s : Net) (b : ℕ) (l : Locality) (y : Node) (x : Answer) → changes x ≡ false
     → back s (host_of b) (slot_of b) l (refusing x y) ≡ unchanged x s
 unfolding refusing unchanged
-refused-back s b l y x e =
+refused_back s b l y x e =
     ap {B = Picked} (λ (z : Net). record { answer = x; net = z })
     (sym (put_nothing s b l (refusing x y) false refl (sym e)))
 
 -- ---- a pick that is ready
-ready-step :
+ready_step :
     (x y z : Bool) (next : Picked) (s : Net) → both x (both y z) ≡ true
     → next
     ≡ choose x (choose y (choose z next (unchanged Answer.FreeSlot s)) (unchanged Answer.NotInUse s))
     (unchanged Answer.Malformed s)
 unfolding choose both
-ready-step true true true next s e = refl
-ready-step true true false next s e = never e
-ready-step true false z next s e = never e
-ready-step false y z next s e = never e
+ready_step true true true next s e = refl
+ready_step true true false next s e = never e
+ready_step true false z next s e = never e
+ready_step false y z next s e = never e
 
 -- ---- the pick
 module _ (s : Net) (b : ℕ) where
@@ -160,7 +160,7 @@ module _ (s : Net) (b : ℕ) where
           ap made (choose_true _ _ _ (sym q))
           ∙ does (sym q)
           ∙ meets s (host_of b) (slot_of b) b s.addresses p shaped.code_is (sym q)
-          ∙ ready-step _ _ _ _ s (sym q)
+          ∙ ready_step _ _ _ _ s (sym q)
       made_if false q shaped does =
           ap made (choose_false _ _ _ (sym q)) ∙ in_order s (λ x. made (refusing x y)) kept _ _ _ _ (sym q)
 
@@ -177,12 +177,12 @@ module _ (s : Net) (b : ℕ) where
       ap {B = Picked} (λ (z : Net). record { answer = plan.answer; net = z }) hn
       ∙ ap (back s (host_of b) (slot_of b) turn.target) hp
       ∙ ap (λ (t : Turn). back s (host_of b) (slot_of b) t.target (plan_at s t)) ht
-      ∙ made_by (back s (host_of b) (slot_of b) (turn_at s b).target) _ _ (refused-back s b _ _) shaped
+      ∙ made_by (back s (host_of b) (slot_of b) (turn_at s b).target) _ _ (refused_back s b _ _) shaped
       (λ r. put_back_is s (host_of b) (slot_of b) (standing shaped r) p (turn_at s b).template (turn_at s b).request
       (sym (ap (λ (t : Turn). t.group.0) ht) ∙ none))
 
 -- ---- straight lines: each value is what its call promises
-pub seat-as :
+pub seat_as :
     (b f n : ℕ) (x : Node) (k : ℕ) (row : Row) (i : ℕ)
     → k ≡ slot_of b
     → row ≡ row_for x (process_at x k)
@@ -190,7 +190,7 @@ pub seat-as :
     → ◌≡◌ {A = Seat} (record { pick = b; format = f; addresses = n; process = process_at x k; row = row; index = i })
     (seat_of b f n x)
 unfolding seat_of seated
-seat-as b f n x k row i h r d = rw (r, d, h)
+seat_as b f n x k row i h r d = rw (r, d, h)
 
 pub turned_as :
     (z : Seat) (c m : Instruction) (host target source : Locality) (req : Request) (e : Evaluated) (x : Bool) (g : Group)
@@ -232,19 +232,19 @@ pub within_as : (code : List Instruction) (a : Locality) (p r : Process) (y : No
 within_as code a p r y l sent row x e b d = d ∙ ap (keeps_of code sent l) (b ∙ ap (row_for y) e)
 
 -- a turn that sends no code has the plan by which none is judged
-pub unsent-as :
+pub unsent_as :
     (s : Net) (b : ℕ) (turn : Turn) (plan : Plan) → turn ≡ turn_at s b → turn.sends ≡ false
     → plan ≡ turn_plan turn (node_at s turn.source) true → plan ≡ plan_at s turn
 unfolding plan_at plan_with turn_at turn_of asking
-unsent-as s b turn plan e h d =
+unsent_as s b turn plan e h d =
     d
     ∙ ap (turn_plan turn (node_at s turn.source))
-    (nothing-sent s.code (host_of turn.seat.pick) turn.seat.process (node_at s turn.source) turn.request turn.sends
+    (nothing_sent s.code (host_of turn.seat.pick) turn.seat.process (node_at s turn.source) turn.request turn.sends
     (rw e refl) h)
 
-pub drawn-as :
+pub drawn_as :
     (code : List Instruction) (turn : Turn) (a : Locality) (y : Node) (within : Bool) (plan : Plan) → a ≡ host_of turn.seat.pick
     → within ≡ sent_within code a turn.seat.process y turn.request → plan ≡ turn_plan turn y within → plan ≡ plan_with code turn y
 unfolding plan_with
-drawn-as code turn a y within plan e w d =
+drawn_as code turn a y within plan e w d =
     d ∙ ap (turn_plan turn y) (w ∙ ap (λ (x : Locality). sent_within code x turn.seat.process y turn.request) e)

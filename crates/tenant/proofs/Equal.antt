@@ -14,7 +14,7 @@ use lib.Dec.{eqb}
 use Rattle.net.specs.Choice.{choose}
 use Rattle.net.specs.Records.{zero_row, free_process, starting_at, zero_template_field, zero_instruction, with_action}
 use Rattle.net.specs.Records.{field_at, rights_at, row_at, process_at, tuple_at, pattern_at, node_at, instruction_at, address_of, place_of}
-use Rattle.net.proofs.Every.{Every, every_replicate, Filled, filled-map}
+use Rattle.net.proofs.Every.{Every, every_replicate, Filled, filled_map}
 use Rattle.net.proofs.Past.{past_row, past_process, past_tuple}
 use Rattle.net.proofs.Past.{past_field, past_rights, past_template, past_node, past_instruction}
 use Rattle.sound.proofs.NodeFacts.{RowOk, RowsOk}
@@ -40,21 +40,21 @@ under {A} i n f g = go (dec_le n i)
     go (no p) = f (omega arith)
 
 -- ---- two arrays of one size are equal where they agree at each place
-every-same :
+every_same :
     {A : Type 0} {P Q : ℕ → A → Type 0} (d : A) (size : ℕ) (xs ys : List A) → Every P d size xs → Every Q d size ys
     → ((j : ℕ) → j < size → P j (get_or xs j d) → Q j (get_or ys j d) → get_or xs j d ≡ get_or ys j d) → xs ≡ ys
-every-same d size xs ys e e' f =
+every_same d size xs ys e e' f =
     let l = e.size_is in
     ext_get_or d xs ys (l ∙ sym e'.size_is)
     (λ j h. let g : j < size = omega arith in f j g (e.holds j g) (e'.holds j g))
 
 -- and, filled up to one count with one record past it, where they agree below the count
-filled-same :
+filled_same :
     {A : Type 0} {U W : A → Type 0} {z : A} (d : A) (size n m : ℕ) (xs ys : List A) → n ≡ m
     → Every (Filled U (λ x. z ≡ x) n) d size xs → Every (Filled W (λ x. z ≡ x) m) d size ys
     → ((j : ℕ) → j < n → U (get_or xs j d) → W (get_or ys j d) → get_or xs j d ≡ get_or ys j d) → xs ≡ ys
-filled-same d size n m xs ys c e e' f =
-    every-same d size xs ys e e'
+filled_same d size n m xs ys c e e' f =
+    every_same d size xs ys e e'
     (λ j h a b. under j n (λ l. f j l (a.used l) (b.used (omega arith)))
     (λ l. sym (a.unused l) ∙ b.unused (omega arith)))
 
@@ -62,8 +62,8 @@ filled-same d size n m xs ys c e e' f =
 row_same : (n : ℕ) (r r' : Row) → RowOk n r → RowOk n r' → SamePolicy n r r' → r ≡ r'
 unfolding rights_at
 row_same n r r' ok ok' same =
-    let rights = filled-same past_rights 16 n n r.rights r'.rights refl (filled-map (λ x u. u) (λ x. sym) ok)
-    (filled-map (λ x u. u) (λ x. sym) ok') (λ l h _ _. same.rights (address_of l) h) in
+    let rights = filled_same past_rights 16 n n r.rights r'.rights refl (filled_map (λ x u. u) (λ x. sym) ok)
+    (filled_map (λ x u. u) (λ x. sym) ok') (λ l h _ _. same.rights (address_of l) h) in
     λ i. record { create = same.creation i; rights = rights i }
 
 -- what the rows for each origin in use have, and rows without rights, the rows for every origin have: in format 1 they are as the
@@ -83,7 +83,7 @@ rows_same :
     → ((o : ℕ) → o < n → SamePolicy n (get_or rs o past_row) (get_or rs' o past_row)) → rs ≡ rs'
 rows_same f n f' n' rs rs' c e count ok ok' same =
     let other : RowsOk f n rs' = subst₂ (λ (g m : ℕ). RowsOk g m rs') (sym c) (sym e) ok' in
-    every-same past_row 16 rs rs' ok.each_ok other.each_ok
+    every_same past_row 16 rs rs' ok.each_ok other.each_ok
     (λ o h _ _. rows_both ◌≡◌ f n rs rs' count.above ok other
     (λ j l. let u : j < 16 = omega (arith, count.below) in
     row_same n _ _ (ok.each_ok.holds j u) (other.each_ok.holds j u) (same j l)) refl o h)
@@ -92,7 +92,7 @@ rows_same f n f' n' rs rs' c e count ok ok' same =
 tuple_same : (a : Locality) (n m : ℕ) (u u' : Tuple) → TupleOk a n u → TupleOk a m u' → SameTuple u u' → u ≡ u'
 unfolding field_at
 tuple_same a n m u u' ok ok' same =
-    let fields = filled-same past_field 4 u.count u'.count u.fields u'.fields same.count ok.fields_ok
+    let fields = filled_same past_field 4 u.count u'.count u.fields u'.fields same.count ok.fields_ok
     ok'.fields_ok (λ j h _ _ i. record { item = same.fields j h i }) in
     let mark : u.mark ≡ u'.mark = sym ok.mark_is ∙ ok'.mark_is in
     λ i. record { count = same.count i; fields = fields i; mark = mark i }
@@ -101,7 +101,7 @@ tuples_same :
     (a : Locality) (n m : ℕ) (x x' : Node) → TuplesOk a n x → TuplesOk a m x' → SameTuples x x' → x.tuples ≡ x'.tuples
 unfolding tuple_at
 tuples_same a n m x x' ok ok' same =
-    filled-same past_tuple 16 x.stored x'.stored x.tuples x'.tuples same.count ok.tuples_ok
+    filled_same past_tuple 16 x.stored x'.stored x.tuples x'.tuples same.count ok.tuples_ok
     ok'.tuples_ok (λ j h t u. tuple_same a n m _ _ t u (same.tuples j h))
 
 -- ---- starting processes of the node at address a: a slot is free, or its process stands at its first place with every variable
@@ -109,10 +109,10 @@ tuples_same a n m x x' ok ok' same =
 unfoldable begun : Locality → Process → Process
 begun a p = choose p.busy (starting_at a p.at) free_process
 
-slot-begun :
+slot_begun :
     (a : Locality) (k c j : ℕ) (p : Process) → Filled (Starts a k) (λ y. free_process ≡ y) c j p → begun a p ≡ p
 unfolding begun starting_at free_process choose
-slot-begun a k c j p f =
+slot_begun a k c j p f =
     under j c (λ l. subst (λ (y : Process). begun a y ≡ y) (f.used l).is refl)
     (λ l. subst (λ (y : Process). begun a y ≡ y) (f.unused l) refl)
 
@@ -127,15 +127,15 @@ slots_same :
     → ((j : ℕ) → j < 4 → SameStart (process_at x j) (process_at x' j)) → x.processes ≡ x'.processes
 unfolding process_at
 slots_same a k c k' c' x x' ok ok' same =
-    every-same past_process 4 x.processes x'.processes ok.slots_ok ok'.slots_ok
-    (λ j h f g. sym (slot-begun a k c j _ f) ∙ start_same a _ _ (same j h) ∙ slot-begun a k' c' j _ g)
+    every_same past_process 4 x.processes x'.processes ok.slots_ok ok'.slots_ok
+    (λ j h f g. sym (slot_begun a k c j _ f) ∙ start_same a _ _ (same j h) ∙ slot_begun a k' c' j _ g)
 
 -- ---- nodes
-node-same :
+node_same :
     (a f n k f' m l : ℕ) (x x' : Node) → f ≡ f' → n ≡ m → Ranged 1 17 n → WithTuples a f n k x → WithTuples a f' m l x'
     → SameNode n x x' → x ≡ x'
 unfolding row_at
-node-same a f n k f' m l x x' c e count ok ok' same =
+node_same a f n k f' m l x x' c e count ok ok' same =
     node_is x' _ _ _ _
     (rows_same f n f' m x.rows x'.rows c e count ok.rows_ok ok'.rows_ok (λ o h. same.policy (address_of o) h))
     (slots_same (address_of a) k _ l _ x x' ok.slots_ok.slots ok'.slots_ok.slots same.processes)
@@ -185,7 +185,7 @@ module _ (n k : ℕ) (c : Instruction) where
 instruction_same : (c c' : Instruction) → Templated c → Templated c' → SameInstruction c c' → c ≡ c'
 unfolding pattern_at
 instruction_same c c' ok ok' same =
-    let template = filled-same past_template 4 c.count c'.count c.template c'.template same.count
+    let template = filled_same past_template 4 c.count c'.count c.template c'.template same.count
     ok.template_ok ok'.template_ok (λ j h _ _ i. record { pattern = same.fields j h i }) in
     λ i. record { action = same.action i; count = same.count i; template = template i }
 
@@ -194,20 +194,20 @@ module _ (s t : Net) (ok : NetOk s) (ok' : NetOk t) where
   pub code_same : SameCode s t → s.code ≡ t.code
   unfolding instruction_at
   code_same same =
-      filled-same past_instruction 512 s.length t.length s.code t.code same.length ok.code_ok
+      filled_same past_instruction 512 s.length t.length s.code t.code same.length ok.code_ok
       ok'.code_ok
       (λ p h a b. instruction_same _ _ (templated _ _ _ _ a) (templated _ _ _ _ b) (same.instructions (place_of p) h))
 
-  pub nodes-same :
+  pub nodes_same :
       (tenant : Locality → Bool) → s.format ≡ t.format → s.addresses ≡ t.addresses
       → ((a : Locality) → a.0 < s.addresses → tenant a ≡ false → SameNode s.addresses (node_at s a) (node_at t a))
       → (a : Locality) → tenant a ≡ false → node_at s a ≡ node_at t a
   unfolding node_at
-  nodes-same tenant c e f a o =
+  nodes_same tenant c e f a o =
       under a.0 16
       (λ u. let x = ok.nodes_ok.holds a.0 u in let y = ok'.nodes_ok.holds a.0 u in
       under a.0 s.addresses
-      (λ h. node-same a.0 _ _ _ _ _ _ _ _ c e ok.addresses_ok (x.used h) (y.used (omega arith)) (f a h o))
+      (λ h. node_same a.0 _ _ _ _ _ _ _ _ c e ok.addresses_ok (x.used h) (y.used (omega arith)) (f a h o))
       (λ h. sym (x.unused h) ∙ y.unused (omega arith)))
       (λ u. get_or-eq_default s.nodes past_node (omega (arith, ok.nodes_ok.size_is))
       ∙ sym (get_or-eq_default t.nodes past_node (omega (arith, ok'.nodes_ok.size_is))))

@@ -24,11 +24,11 @@ use Rattle.tenant.proofs.Fence.{Fence, tested, never, choose_both, for_fenced, n
 
 module _ (tenant : Locality → Bool) where
   -- ---- changes outside the tenant
-  host-out :
+  host_out :
       (s : Net) (a : Locality) (k : ℕ) (p : Process) → tenant a ≡ false
       → view tenant (with_host s a k p) ≡ with_host (view tenant s) a k p
   unfolding with_host
-  host-out s a k p h = simp (view_out, view_node)
+  host_out s a k p h = simp (view_out, view_node)
 
   added_out :
       (s : Net) (l : Locality) (t : Tuple) → tenant l ≡ false → view tenant (added s l t) ≡ added (view tenant s) l t
@@ -39,11 +39,11 @@ module _ (tenant : Locality → Bool) where
   unfolding taken
   taken_out s l i h = simp (view_out, view_node)
 
-  created-out :
+  created_out :
       (s : Net) (a : Locality) (k : ℕ) (p : Process) (v : ℕ) (q : Place) → tenant a ≡ false → tenant (unused s) ≡ false
       → view tenant (created s a k p v q) ≡ created (view tenant s) a k p v q
   unfolding created created_at unused
-  created-out s a k p v q h g = simp (view_out, view_node, view_opened, view_format, view_addresses)
+  created_out s a k p v q h g = simp (view_out, view_node, view_opened, view_format, view_addresses)
 
   -- to each member of a set of outside addresses
   module _ (g : Group) (outside : (l : Locality) → member g l ≡ true → tenant l ≡ false) where
@@ -57,10 +57,10 @@ module _ (tenant : Locality → Bool) where
     seen_choose,
     seen_unchanged,
     seen_performed,
-    host-out,
+    host_out,
     added_out,
     taken_out,
-    created-out,
+    created_out,
     view_node,
     view_code,
     view_addresses,
@@ -69,22 +69,22 @@ module _ (tenant : Locality → Bool) where
   -- ---- a pick outside the tenant
   module _ (s : Net) (f : Fence tenant s) (a : Locality) (k : ℕ) (o : tenant a ≡ false) where
     -- the target of a right that an outside row has is outside
-    target-out :
+    target_out :
         (p : Process) (l : Locality) (right : Rights → Bool) → right no_rights ≡ false
         → right (rights_at (row_for (node_at s a) p) l) ≡ true → tenant l ≡ false
-    target-out p l right n h =
+    target_out p l right n h =
         tested (tenant l) (λ t. never _ h (ap right ((for_fenced tenant s a p f).outside l o t) ∙ n)) (λ t. t)
 
     none_reads : choose no_rights.take true no_rights.read ≡ false
     unfolding choose no_rights
     none_reads = refl
 
-    in-out :
+    in_out :
         (l : Locality) (q : Place) (i : Found) (p : Process) → tenant l ≡ false
         → seen tenant (in_found s a k l q i p) ≡ in_found (view tenant s) a k l q i p
     unfolding in_found
-    in-out l q (Found.At i) p h = simp outward
-    in-out l q Found.Nothing p h = simp outward
+    in_out l q (Found.At i) p h = simp outward
+    in_out l q Found.Nothing p h = simp outward
 
     read_out :
         (q : Place) (i : Found) (p : Process)
@@ -93,58 +93,58 @@ module _ (tenant : Locality → Bool) where
     read_out q (Found.At i) p = simp outward
     read_out q Found.Nothing p = simp outward
 
-    started-out :
+    started_out :
         (l : Locality) (p copy : Process) (q : Place) (j : Slot) → tenant l ≡ false
         → seen tenant (started_in s a k l p copy q j) ≡ started_in (view tenant s) a k l p copy q j
     unfolding started_in
-    started-out l p copy q (Slot.Number j) h = simp outward
-    started-out l p copy q Slot.Full h = simp outward
+    started_out l p copy q (Slot.Number j) h = simp outward
+    started_out l p copy q Slot.Full h = simp outward
 
     stopped_out : seen tenant (stopped s a k) ≡ stopped (view tenant s) a k
     unfolding stopped seen
     stopped_out = simp outward
 
-    all-out :
+    all_out :
         (g : Group) (p : Process) (q : Place) (t : Tuple) → ((l : Locality) → member g l ≡ true → tenant l ≡ false)
         → seen tenant (out_all s a k p g q t) ≡ out_all (view tenant s) a k p g q t
     unfolding out_all
-    all-out g p q t outside = simp (outward, room_out g outside, added_all_out g outside)
+    all_out g p q t outside = simp (outward, room_out g outside, added_all_out g outside)
 
-    done-out :
+    done_out :
         (p : Process) (e : Evaluated) (r : Request) → granted (row_for (node_at s a) p) r ≡ true
         → seen tenant (carried_out s a k p e r) ≡ carried_out (view tenant s) a k p e r
     unfolding carried_out granted out input read eval create fork may_take may_read may_put may_put_all may_send no_rights
-    done-out p e Request.Lack h = simp outward
-    done-out p e Request.Stop h = stopped_out
-    done-out p e (Request.Out l q) h =
-        let t : tenant l ≡ false = target-out p l (λ x. x.put) refl h in simp outward
-    done-out p e (Request.In l q) h =
-        let t : tenant l ≡ false = target-out p l (λ x. x.take) refl h in simp (outward, in-out)
-    done-out p e (Request.Read l q) h =
-        let t : tenant l ≡ false = target-out p l (λ x. choose x.take true x.read) none_reads h in simp (outward, read_out)
-    done-out p e (Request.Eval l sent q) h =
-        let t : tenant l ≡ false = target-out p l (λ x. x.send) refl h in simp (outward, started-out)
-    done-out p e (Request.New v q) h = let t = new_outside tenant s f in simp outward
-    done-out p e (Request.Fork q r) h = simp (outward, started-out)
-    done-out p e (Request.OutAll g q) h =
-        all-out g p q _ (λ l m. target-out p l (λ x. x.put) refl (members_at g _ h l m))
+    done_out p e Request.Lack h = simp outward
+    done_out p e Request.Stop h = stopped_out
+    done_out p e (Request.Out l q) h =
+        let t : tenant l ≡ false = target_out p l (λ x. x.put) refl h in simp outward
+    done_out p e (Request.In l q) h =
+        let t : tenant l ≡ false = target_out p l (λ x. x.take) refl h in simp (outward, in_out)
+    done_out p e (Request.Read l q) h =
+        let t : tenant l ≡ false = target_out p l (λ x. choose x.take true x.read) none_reads h in simp (outward, read_out)
+    done_out p e (Request.Eval l sent q) h =
+        let t : tenant l ≡ false = target_out p l (λ x. x.send) refl h in simp (outward, started_out)
+    done_out p e (Request.New v q) h = let t = new_outside tenant s f in simp outward
+    done_out p e (Request.Fork q r) h = simp (outward, started_out)
+    done_out p e (Request.OutAll g q) h =
+        all_out g p q _ (λ l m. target_out p l (λ x. x.put) refl (members_at g _ h l m))
 
-    acting-out :
+    acting_out :
         (p : Process) (e : Evaluated) (r : Request)
         → seen tenant (acting s a k p e r) ≡ acting (view tenant s) a k p e r
     unfolding acting
-    acting-out p e r =
-        simp outward (choose_both _ _ _ _ _ (λ h. done-out p e r h) refl)
+    acting_out p e r =
+        simp outward (choose_both _ _ _ _ _ (λ h. done_out p e r h) refl)
 
     slot_out : seen tenant (slot_step s a k) ≡ slot_step (view tenant s) a k
     unfolding slot_step process_step
-    slot_out = simp (outward, acting-out)
+    slot_out = simp (outward, acting_out)
 
-  pub step-out :
+  pub step_out :
       (s : Net) (b : ℕ) → Fence tenant s → tenant (host_of b) ≡ false
       → seen tenant (step_of s b) ≡ step_of (view tenant s) b
   unfolding step_of
-  step-out s b f o = simp (outward, slot_out s f)
+  step_out s b f o = simp (outward, slot_out s f)
 
   -- ---- a pick of the tenant
   host_in : (s : Net) (a : Locality) (k : ℕ) (p : Process) → tenant a ≡ true → view tenant (with_host s a k p) ≡ view tenant s
@@ -171,18 +171,18 @@ module _ (tenant : Locality → Bool) where
   unseen_performed s t e = record { same = e }
 
   -- to each member of a set of the tenant's addresses
-  added-all-in :
+  added_all_in :
       (s : Net) (g : Group) (t : Tuple) → ((l : Locality) → member g l ≡ true → tenant l ≡ true)
       → view tenant (added_all s g t) ≡ view tenant s
-  added-all-in s g t inside =
+  added_all_in s g t inside =
       all_kept g t (λ s'. view tenant s' ≡ view tenant s) s refl (λ s' l m e. added_in s' l t (inside l m) ∙ e)
 
   ruleset inward = (host_in, added_in, taken_in)
 
   module _ (s : Net) (f : Fence tenant s) (a : Locality) (k : ℕ) (o : tenant a ≡ true) where
-    target-in :
+    target_in_law :
         (l : Locality) (x : Bool) → x ≡ true → (tenant l ≡ false → x ≡ false) → tenant l ≡ true
-    target-in l x h g = tested (tenant l) (λ t. t) (λ t. never x h (g t))
+    target_in_law l x h g = tested (tenant l) (λ t. t) (λ t. never x h (g t))
 
     in_in : (l : Locality) (q : Place) (i : Found) (p : Process) → tenant l ≡ true → Unseen s (in_found s a k l q i p)
     unfolding in_found
@@ -194,32 +194,32 @@ module _ (tenant : Locality → Bool) where
     read_in q (Found.At i) p = unseen_performed s _ (simp inward)
     read_in q Found.Nothing p = unseen_unchanged s _
 
-    started-in :
+    started_in_law :
         (l : Locality) (p copy : Process) (q : Place) (j : Slot) → tenant l ≡ true → Unseen s (started_in s a k l p copy q j)
     unfolding started_in
-    started-in l p copy q (Slot.Number j) h = unseen_performed s _ (simp inward)
-    started-in l p copy q Slot.Full h = unseen_unchanged s _
+    started_in_law l p copy q (Slot.Number j) h = unseen_performed s _ (simp inward)
+    started_in_law l p copy q Slot.Full h = unseen_unchanged s _
 
-    done-in :
+    done_in :
         (p : Process) (e : Evaluated) (r : Request) → granted (row_for (node_at s a) p) r ≡ true → Unseen s (carried_out s a k p e r)
     unfolding carried_out granted stopped out out_all input read eval create fork may_take may_read may_put may_put_all may_send may_create
-    done-in p e Request.Lack h = unseen_unchanged s _
-    done-in p e Request.Stop h = record { same = host_in s a k _ o }
-    done-in p e (Request.Out l q) h =
-        let t : tenant l ≡ true = target-in l _ h ((for_fenced tenant s a p f).no_put l o) in
+    done_in p e Request.Lack h = unseen_unchanged s _
+    done_in p e Request.Stop h = record { same = host_in s a k _ o }
+    done_in p e (Request.Out l q) h =
+        let t : tenant l ≡ true = target_in_law l _ h ((for_fenced tenant s a p f).no_put l o) in
         chosen (Unseen s) _ _ _ (λ _. unseen_performed s _ (simp inward)) (λ _. unseen_unchanged s _)
-    done-in p e (Request.In l q) h = in_in _ q _ _ (target-in l _ h ((for_fenced tenant s a p f).no_take l o))
-    done-in p e (Request.Read l q) h = read_in q _ _
-    done-in p e (Request.Eval l sent q) h =
+    done_in p e (Request.In l q) h = in_in _ q _ _ (target_in_law l _ h ((for_fenced tenant s a p f).no_take l o))
+    done_in p e (Request.Read l q) h = read_in q _ _
+    done_in p e (Request.Eval l sent q) h =
         chosen (Unseen s) _ _ _
-        (λ _. started-in _ p _ q _ (target-in l _ h ((for_fenced tenant s a p f).no_send l o)))
+        (λ _. started_in_law _ p _ q _ (target_in_law l _ h ((for_fenced tenant s a p f).no_send l o)))
         (λ _. unseen_unchanged s _)
-    done-in p e (Request.New v q) h = never _ h ((for_fenced tenant s a p f).no_creation o)
-    done-in p e (Request.Fork q r) h = started-in a p _ q _ o
-    done-in p e (Request.OutAll g q) h =
+    done_in p e (Request.New v q) h = never _ h ((for_fenced tenant s a p f).no_creation o)
+    done_in p e (Request.Fork q r) h = started_in_law a p _ q _ o
+    done_in p e (Request.OutAll g q) h =
         let inside : (l : Locality) → member g l ≡ true → tenant l ≡ true =
-        λ l m. target-in l _ (members_at g _ h l m) ((for_fenced tenant s a p f).no_put l o) in
-        chosen (Unseen s) _ _ _ (λ _. unseen_performed s _ (added-all-in _ g _ inside ∙ host_in s a k _ o)) (λ _. unseen_unchanged s _)
+        λ l m. target_in_law l _ (members_at g _ h l m) ((for_fenced tenant s a p f).no_put l o) in
+        chosen (Unseen s) _ _ _ (λ _. unseen_performed s _ (added_all_in _ g _ inside ∙ host_in s a k _ o)) (λ _. unseen_unchanged s _)
 
   step_unseen : (s : Net) (b : ℕ) → Fence tenant s → tenant (host_of b) ≡ true → Unseen s (step_of s b)
   unfolding step_of slot_step process_step acting
@@ -227,7 +227,7 @@ module _ (tenant : Locality → Bool) where
       chosen (Unseen s) _ _ _
       (λ _. chosen (Unseen s) _ _ _
       (λ _. chosen (Unseen s) _ _ _
-      (λ _. chosen (Unseen s) _ _ _ (λ h. done-in s f _ _ o _ _ _ h) (λ _. unseen_unchanged s _))
+      (λ _. chosen (Unseen s) _ _ _ (λ h. done_in s f _ _ o _ _ _ h) (λ _. unseen_unchanged s _))
       (λ _. unseen_unchanged s _)) (λ _. unseen_unchanged s _)) (λ _. unseen_unchanged s _)
 
   pub step_in :

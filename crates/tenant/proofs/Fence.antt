@@ -71,10 +71,10 @@ pub record Fence (tenant : Locality → Bool) (s : Net) : Type 0 where
 
 module _ (tenant : Locality → Bool) where
   -- ---- rows without rights
-  bare-fenced :
+  bare_fenced :
       (a : Locality) (r : Row) → r.create ≡ false → ((l : Locality) → rights_at r l ≡ no_rights) → FencedRow tenant a r
   unfolding no_rights
-  bare-fenced a r e f = record {
+  bare_fenced a r e f = record {
     outside = λ l _ _. f l;
     no_creation = λ _. e;
     no_take = λ l _ _. ap (λ (x : Rights). x.take) (f l);
@@ -85,36 +85,36 @@ module _ (tenant : Locality → Bool) where
   pub zero_fenced : (a : Locality) → FencedRow tenant a zero_row
   unfolding zero_row rights_at no_rights
   zero_fenced a =
-      bare-fenced a zero_row refl (λ l. at_alike (λ (x : Rights). x ≡ no_rights) 16 l.0 no_rights _ refl refl)
+      bare_fenced a zero_row refl (λ l. at_alike (λ (x : Rights). x ≡ no_rights) 16 l.0 no_rights _ refl refl)
 
   pub past_fenced : (a : Locality) → FencedRow tenant a past_row
   unfolding rights_at no_rights
-  past_fenced a = bare-fenced a past_row refl (λ l. refl)
+  past_fenced a = bare_fenced a past_row refl (λ l. refl)
 
   -- ---- the row that a process is judged by
-  row-fenced :
+  row_fenced :
       (s : Net) (a o : Locality) → Fence tenant s → FencedRow tenant a (choose (ltb o.0 16) (row_at (node_at s a) o) zero_row)
   unfolding row_at
-  row-fenced s a o f = chosen (FencedRow tenant a) _ _ _ (λ _. (f.rows a).each o.0) (λ _. zero_fenced a)
+  row_fenced s a o f = chosen (FencedRow tenant a) _ _ _ (λ _. (f.rows a).each o.0) (λ _. zero_fenced a)
 
   pub for_fenced : (s : Net) (a : Locality) (p : Process) → Fence tenant s → FencedRow tenant a (row_for (node_at s a) p)
   unfolding row_for
-  for_fenced s a p f = row-fenced s a p.origin f
+  for_fenced s a p f = row_fenced s a p.origin f
 
   -- and the one that a new node takes for itself
   own_fenced : (s : Net) (a : Locality) → Fence tenant s → FencedRow tenant a (own_row (node_at s a) a)
   unfolding own_row
-  own_fenced s a f = row-fenced s a a f
+  own_fenced s a f = row_fenced s a a f
 
   -- ---- lists of rows
   pub alike_fenced : (a : Locality) (r : Row) → FencedRow tenant a r → FencedRows tenant a (alike r)
   unfolding alike
   alike_fenced a r g = record { each = λ o. at_alike (FencedRow tenant a) 16 o r past_row g (past_fenced a) }
 
-  set-fenced :
+  set_fenced :
       (a : Locality) (rs : List Row) (o : ℕ) (r : Row) → FencedRows tenant a rs → FencedRow tenant a r
       → FencedRows tenant a (set rs o r)
-  set-fenced a rs o r f g =
+  set_fenced a rs o r f g =
       record { each = λ b. at_set (FencedRow tenant a) rs o b r past_row (λ _. g) (f.each b) }
 
   -- ---- changes that leave rows as they are
@@ -149,10 +149,10 @@ module _ (tenant : Locality → Bool) where
   new_outside s f = tested (tenant (unused s)) (λ e. absurd (omega (arith, f.below _ e))) (λ e. e)
 
   -- no row of an outside address has a right over the tenant
-  outside-fenced :
+  outside_fenced :
       (b : Locality) (r : Row) → tenant b ≡ false → ((l : Locality) → tenant l ≡ true → rights_at r l ≡ no_rights)
       → FencedRow tenant b r
-  outside-fenced b r o g = record {
+  outside_fenced b r o g = record {
     outside = λ l _ t. g l t;
     no_creation = λ e. never _ e o;
     no_take = λ l e. never _ e o;
@@ -163,12 +163,12 @@ module _ (tenant : Locality → Bool) where
   -- a row of the outside address a serves as one of the outside address b, and so does the same that gains the new address
   module _ (s : Net) (f : Fence tenant s) (a b : Locality) (h : tenant a ≡ false) (o : tenant b ≡ false) where
     moved : (r : Row) → FencedRow tenant a r → FencedRow tenant b r
-    moved r g = outside-fenced b r o (λ l. g.outside l h)
+    moved r g = outside_fenced b r o (λ l. g.outside l h)
 
     gaining_kept : (r : Row) → FencedRow tenant a r → FencedRow tenant b (gaining r (unused s))
     unfolding gaining unused with_rights rights_at
     gaining_kept r g =
-        outside-fenced b _ o
+        outside_fenced b _ o
         (λ l t. get_or-set_other r.rights s.addresses l.0 _ _ (λ e. absurd (omega (arith, f.below l t)))
         ∙ g.outside l h t)
 
@@ -181,7 +181,7 @@ module _ (tenant : Locality → Bool) where
     unfolding creator_rows
     creator_fenced =
         let gained = gaining_kept s f a a h h _ (for_fenced s a p f) in
-        chosen (FencedRows tenant a) _ _ _ (λ _. alike_fenced a _ gained) (λ _. set-fenced a _ _ _ (f.rows a) gained)
+        chosen (FencedRows tenant a) _ _ _ (λ _. alike_fenced a _ gained) (λ _. set_fenced a _ _ _ (f.rows a) gained)
 
     opened_fenced : FencedRows tenant (unused s) (opened_rows s.format (node_at s a) a p (unused s))
     unfolding opened_rows
@@ -192,7 +192,7 @@ module _ (tenant : Locality → Bool) where
         let copied : FencedRows tenant l (node_at s a).rows =
         record { each = λ i. moved s f a l h o _ ((f.rows a).each i) } in
         chosen (FencedRows tenant l) _ _ _ (λ _. alike_fenced l _ (gaining_kept s f a l h o _ (for_fenced s a p f)))
-        (λ _. set-fenced l _ _ _ (set-fenced l _ _ _ copied own) own)
+        (λ _. set_fenced l _ _ _ (set_fenced l _ _ _ copied own) own)
 
     created_kept : Fence tenant (created s a k p v q)
     unfolding created created_at with_rows

@@ -25,8 +25,8 @@ use Rattle.runs.specs.Run.{Ran, ran, ran_from, run_in, run_of}
 use Rattle.tenant.specs.TenantRule.{grants, creates, Fenced, Agree, TenantRule}
 use Rattle.written.proofs.OpenedShaped.{opened_shaped}
 use Rattle.tenant.proofs.Fence.{FencedRow, FencedRows, Fence, zero_fenced, past_fenced, alike_fenced}
-use Rattle.tenant.proofs.Equal.{under, rows_both, code_same, nodes-same}
-use Rattle.tenant.proofs.TenantOfNets.{tenant-of-nets}
+use Rattle.tenant.proofs.Equal.{under, rows_both, code_same, nodes_same}
+use Rattle.tenant.proofs.TenantOfNets.{tenant_of_nets}
 
 module _ (s : Net) (ok : NetOk s) (tenant : Locality → Bool) where
   -- ---- the rows of an unused address have no rights
@@ -60,11 +60,11 @@ module _ (s : Net) (ok : NetOk s) (tenant : Locality → Bool) where
             under l.0 16 (λ u. (rights.holds l.0 u).unused past)
             (λ u. get_or-eq_default (row_at (node_at s a) o).rights past_rights (omega (arith, rights.size_is)))
 
-        no-right :
+        no_right :
             (right : Rights → Bool) → right no_rights ≡ false
             → ((l : Locality) → l.0 < s.addresses → tenant l ≡ false → right (grants s a o l) ≡ false)
             → (l : Locality) → tenant l ≡ false → right (grants s a o l) ≡ false
-        no-right right n k l e =
+        no_right right n k l e =
             under l.0 s.addresses (λ u. k l u e) (λ past. ap right (over_unused l past) ∙ n)
 
         row_in_use : FencedRow tenant a (row_at (node_at s a) o)
@@ -72,9 +72,9 @@ module _ (s : Net) (ok : NetOk s) (tenant : Locality → Bool) where
         row_in_use = record {
           outside = λ l e t. f.outside a o l h g e t;
           no_creation = λ t. f.no_creation a o t g;
-          no_take = λ l t. no-right (λ r. r.take) refl (λ m u e. (f.at-most-read a o m t g u e).no_take) l;
-          no_put = λ l t. no-right (λ r. r.put) refl (λ m u e. (f.at-most-read a o m t g u e).no_put) l;
-          no_send = λ l t. no-right (λ r. r.send) refl (λ m u e. (f.at-most-read a o m t g u e).no_send) l;
+          no_take = λ l t. no_right (λ r. r.take) refl (λ m u e. (f.at_most_read a o m t g u e).no_take) l;
+          no_put = λ l t. no_right (λ r. r.put) refl (λ m u e. (f.at_most_read a o m t g u e).no_put) l;
+          no_send = λ l t. no_right (λ r. r.send) refl (λ m u e. (f.at_most_read a o m t g u e).no_send) l;
         }
 
       in_use : FencedRows tenant a (node_at s a).rows
@@ -131,7 +131,7 @@ tenant_rule tenant image image' picks picks' r r' e e' alike same =
     let ok = written image sound in
     let ok' = written image' sound' in
     subst₂ (Agree tenant picks picks') b.ran_is b'.ran_is
-    (tenant-of-nets tenant s t picks picks' sound sound' (opened_shaped image) (opened_shaped image') alike.format alike.addresses
-    (code_same s t ok ok' alike.code) (nodes-same s t ok ok' tenant alike.format alike.addresses alike.nodes)
+    (tenant_of_nets tenant s t picks picks' sound sound' (opened_shaped image) (opened_shaped image') alike.format alike.addresses
+    (code_same s t ok ok' alike.code) (nodes_same s t ok ok' tenant alike.format alike.addresses alike.nodes)
     (fence s ok tenant alike.below alike.fenced)
     (fence t ok' tenant (λ a h. omega (arith, alike.below a h, alike.addresses)) alike.fenced') same)

@@ -23,44 +23,44 @@ unfolding blanked
 length_blanked tenant [] = refl
 length_blanked tenant (x ∷ xs) = ap suc (length_blanked (λ i. tenant (suc i)) xs)
 
-getD-blanked :
+get_d_blanked :
     (tenant : ℕ → Bool) (xs : List Node) (a : ℕ) (d : Node) → tenant a ≡ false
     → get_or (blanked tenant xs) a d ≡ get_or xs a d
 unfolding blanked
-getD-blanked tenant [] a d h = refl
-getD-blanked tenant (x ∷ xs) zero d h = choose_false _ _ _ h
-getD-blanked tenant (x ∷ xs) (suc a) d h = getD-blanked (λ i. tenant (suc i)) xs a d h
+get_d_blanked tenant [] a d h = refl
+get_d_blanked tenant (x ∷ xs) zero d h = choose_false _ _ _ h
+get_d_blanked tenant (x ∷ xs) (suc a) d h = get_d_blanked (λ i. tenant (suc i)) xs a d h
 
-blanked-out :
+blanked_out :
     (tenant : ℕ → Bool) (xs : List Node) (a : ℕ) (y : Node) → tenant a ≡ false
     → blanked tenant (set xs a y) ≡ set (blanked tenant xs) a y
 unfolding blanked
-blanked-out tenant [] a y h = refl
-blanked-out tenant (x ∷ xs) zero y h = ap (λ z. z ∷ blanked (λ i. tenant (suc i)) xs) (choose_false _ _ _ h)
-blanked-out tenant (x ∷ xs) (suc a) y h =
-    ap (λ zs. choose (tenant 0) zero_node x ∷ zs) (blanked-out (λ i. tenant (suc i)) xs a y h)
+blanked_out tenant [] a y h = refl
+blanked_out tenant (x ∷ xs) zero y h = ap (λ z. z ∷ blanked (λ i. tenant (suc i)) xs) (choose_false _ _ _ h)
+blanked_out tenant (x ∷ xs) (suc a) y h =
+    ap (λ zs. choose (tenant 0) zero_node x ∷ zs) (blanked_out (λ i. tenant (suc i)) xs a y h)
 
-blanked-in :
+blanked_in :
     (tenant : ℕ → Bool) (xs : List Node) (a : ℕ) (y : Node) → tenant a ≡ true
     → blanked tenant (set xs a y) ≡ blanked tenant xs
 unfolding blanked
-blanked-in tenant [] a y h = refl
-blanked-in tenant (x ∷ xs) zero y h =
+blanked_in tenant [] a y h = refl
+blanked_in tenant (x ∷ xs) zero y h =
     ap (λ z. z ∷ blanked (λ i. tenant (suc i)) xs) (choose_true _ _ _ h ∙ sym (choose_true _ _ _ h))
-blanked-in tenant (x ∷ xs) (suc a) y h =
-    ap (λ zs. choose (tenant 0) zero_node x ∷ zs) (blanked-in (λ i. tenant (suc i)) xs a y h)
+blanked_in tenant (x ∷ xs) (suc a) y h =
+    ap (λ zs. choose (tenant 0) zero_node x ∷ zs) (blanked_in (λ i. tenant (suc i)) xs a y h)
 
 -- two lists that agree outside the tenant have one view
-pub blanked-same :
+pub blanked_same :
     (tenant : ℕ → Bool) (xs ys : List Node) (d : Node) → length xs ≡ length ys
     → ((a : ℕ) → tenant a ≡ false → get_or xs a d ≡ get_or ys a d) → blanked tenant xs ≡ blanked tenant ys
 unfolding blanked
-blanked-same tenant [] [] d e f = refl
-blanked-same tenant [] (y ∷ ys) d e f = let z : ◌≡◌ {A = ℕ} 0 1 = cc in absurd (omega arith)
-blanked-same tenant (x ∷ xs) [] d e f = let z : ◌≡◌ {A = ℕ} 0 1 = cc in absurd (omega arith)
-blanked-same tenant (x ∷ xs) (y ∷ ys) d e f =
+blanked_same tenant [] [] d e f = refl
+blanked_same tenant [] (y ∷ ys) d e f = let z : ◌≡◌ {A = ℕ} 0 1 = cc in absurd (omega arith)
+blanked_same tenant (x ∷ xs) [] d e f = let z : ◌≡◌ {A = ℕ} 0 1 = cc in absurd (omega arith)
+blanked_same tenant (x ∷ xs) (y ∷ ys) d e f =
     ap₂ (λ z zs. z ∷ zs) (go (tenant 0) (f 0))
-    (blanked-same (λ i. tenant (suc i)) xs ys d (cc) (λ a. f (suc a)))
+    (blanked_same (λ i. tenant (suc i)) xs ys d (cc) (λ a. f (suc a)))
   where
     go : (b : Bool) → (b ≡ false → x ≡ y) → choose b zero_node x ≡ choose b zero_node y
     go true g = choose_true true zero_node x refl ∙ sym (choose_true true zero_node y refl)
@@ -89,18 +89,18 @@ module _ (tenant : Locality → Bool) where
 
   pub view_node : (s : Net) (a : Locality) → tenant a ≡ false → node_at (view s) a ≡ node_at s a
   unfolding view node_at
-  view_node s a h = getD-blanked counted s.nodes a.0 _ h
+  view_node s a h = get_d_blanked counted s.nodes a.0 _ h
 
   pub view_out : (s : Net) (a : Locality) (x : Node) → tenant a ≡ false → view (with_node s a x) ≡ with_node (view s) a x
   unfolding view with_node
   view_out s a x h i =
-      let ns = blanked-out counted s.nodes a.0 x h in
+      let ns = blanked_out counted s.nodes a.0 x h in
       record { format = s.format; addresses = s.addresses; length = 0; nodes = ns i; code = s.code }
 
   pub view_in : (s : Net) (a : Locality) (x : Node) → tenant a ≡ true → view (with_node s a x) ≡ view s
   unfolding view with_node
   view_in s a x h i =
-      let ns = blanked-in counted s.nodes a.0 x h in
+      let ns = blanked_in counted s.nodes a.0 x h in
       record { format = s.format; addresses = s.addresses; length = 0; nodes = ns i; code = s.code }
 
   pub view_opened : (s : Net) → view (opened s) ≡ opened (view s)

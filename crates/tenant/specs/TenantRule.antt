@@ -89,7 +89,7 @@ pub record Fenced (tenant : Locality → Bool) (s : Net) : Type 0 where
       → tenant l ≡ true
       → grants s a o l ≡ no_rights
   pub no_creation : (a o : Locality) → tenant a ≡ true → o.0 < s.addresses → creates s a o ≡ false
-  pub at-most-read :
+  pub at_most_read :
       (a o l : Locality)
       → tenant a ≡ true
       → o.0 < s.addresses

@@ -7,7 +7,7 @@ use lib.ListN.{length, set, length-append}
 use Rattle.net.specs.Records.{zero_instruction}
 use Rattle.text.specs.Buffer.{over}
 use Rattle.text.specs.Joined.{joined}
-use Rattle.text.proofs.WritingLaws.{over-both}
+use Rattle.text.proofs.WritingLaws.{over_both}
 use Rattle.terms.specs.Types.{Instruction}
 use Rattle.terms.specs.Terms.{Process, Action, nil, name, fork, act, out, input, read, eval, newloc, out_all}
 use Rattle.terms.specs.Numbering.{size, size_in, start_of}
@@ -78,25 +78,25 @@ module _ {A : Type 0} where
   over_set xs b (y ∷ ys) a z h =
       over_set (set xs b y) (suc b) ys a z (omega arith) ∙ ap (λ (l : List A). over l (suc b) ys) (sym (set_swap xs a b z y h))
 
-  over-swap :
+  over_swap :
       (xs : List A) (b : ℕ) (ys : List A) (a : ℕ) (zs : List A) → a + length zs ≤ b
       → over (over xs b ys) a zs ≡ over (over xs a zs) b ys
   unfolding over
-  over-swap xs b ys a [] h = refl
-  over-swap xs b ys a (z ∷ zs) h =
-      ap (λ (l : List A). over l (suc a) zs) (over_set xs b ys a z (omega arith)) ∙ over-swap (set xs a z) b ys (suc a) zs (omega arith)
+  over_swap xs b ys a [] h = refl
+  over_swap xs b ys a (z ∷ zs) h =
+      ap (λ (l : List A). over l (suc a) zs) (over_set xs b ys a z (omega arith)) ∙ over_swap (set xs a z) b ys (suc a) zs (omega arith)
 
 module _ (xs : List ℕ) (n : ℕ) where
   -- an instruction stored after those that come behind it
   pub stored_before : (ws ys : List ℕ) (m : ℕ) → length ws ≡ 9 → m ≡ suc n → over (over xs (9 * m) ys) (9 * n) ws ≡ over xs (9 * n) (ws ++ ys)
   stored_before ws ys m l e =
       let place : 9 * m ≡ 9 * n + length ws = omega arith in
-      over-swap xs (9 * m) ys (9 * n) ws (omega arith) ∙ ap (λ (i : ℕ). over (over xs (9 * n) ws) i ys) place
-      ∙ over-both xs (9 * n) ws ys
+      over_swap xs (9 * m) ys (9 * n) ws (omega arith) ∙ ap (λ (i : ℕ). over (over xs (9 * n) ws) i ys) place
+      ∙ over_both xs (9 * n) ws ys
 
   -- instructions stored after others
-  pub stored-after :
+  pub stored_after :
       (ys zs : List ℕ) (m k : ℕ) → length ys ≡ 9 * k → m ≡ n + k → over (over xs (9 * n) ys) (9 * m) zs ≡ over xs (9 * n) (ys ++ zs)
-  stored-after ys zs m k l e =
+  stored_after ys zs m k l e =
       let place : 9 * m ≡ 9 * n + length ys = omega arith in
-      ap (λ (i : ℕ). over (over xs (9 * n) ys) i zs) place ∙ over-both xs (9 * n) ys zs
+      ap (λ (i : ℕ). over (over xs (9 * n) ys) i zs) place ∙ over_both xs (9 * n) ys zs

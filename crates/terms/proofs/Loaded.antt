@@ -65,11 +65,11 @@ fields_back (a ∷ b ∷ c ∷ []) d l h = absurd (omega arith)
 fields_back (a ∷ b ∷ c ∷ e ∷ []) d l h = rw (h 0 (omega arith), h 1 (omega arith), h 2 (omega arith), h 3 (omega arith)) refl
 fields_back (a ∷ b ∷ c ∷ e ∷ f ∷ fs) d l h = absurd (omega arith)
 
-pub instruction-back :
+pub instruction_back :
     (kind target : ℕ) (c : Instruction) (next second : ℕ) (rest : List ℕ) (p q : Place) → FitsTemplate c
     → loaded (λ j. get_or (instruction_words kind target c next second ++ rest) j 0) p q ≡ with_action c (action_of kind target p q)
 unfolding loaded instruction_words template_words joined pattern_at with_action
-instruction-back kind target c next second rest p q f =
+instruction_back kind target c next second rest p q f =
     ap (λ (fs : List TemplateField). record { action = action_of kind target p q; count = c.count; template = fs })
     (fields_back c.template _ f.four (λ i h. pattern_back _ (f.fields i h)))
 
@@ -100,35 +100,35 @@ module _ (resolve : ℕ → Place) (place : Start → Place) (r : Resolves resol
   unfolding loaded_all instruction_words template_words joined
   step_back m kind target c next second rest f =
       ap (λ (i : Instruction). i ∷ loaded_all resolve m rest)
-      (instruction-back kind target c next second rest (resolve next) (resolve second) f)
+      (instruction_back kind target c next second rest (resolve next) (resolve second) f)
 
-  action-back :
+  action_back :
       (m n : ℕ) (a : Action) (w : ℕ) (q : Start) (rest : List ℕ) → fits_in a → suc n ≤ 512 → resolve w ≡ place q
       → loaded_all resolve (suc m) (action_words n a w ++ rest) ≡ instruction_of place n a q ∷ loaded_all resolve m rest
   unfolding action_words instruction_of fits_in action_of choose
-  action-back m n (out c t) w q rest h b e =
+  action_back m n (out c t) w q rest h b e =
       step_back m 1 (target_word t) c w 0 rest h.0 ∙ rw (target_back t h.1, e) refl
-  action-back m n (input c t) w q rest h b e =
+  action_back m n (input c t) w q rest h b e =
       step_back m 2 (target_word t) c w 0 rest h.0 ∙ rw (target_back t h.1, e) refl
-  action-back m n (read c t) w q rest h b e =
+  action_back m n (read c t) w q rest h b e =
       step_back m 3 (target_word t) c w 0 rest h.0 ∙ rw (target_back t h.1, e) refl
-  action-back m n (eval p t) w q rest h b e =
+  action_back m n (eval p t) w q rest h b e =
       step_back m 4 (target_word t) zero_instruction w (start_word (start_of (suc n) p)) rest zero_fits
       ∙ rw (target_back t h.1, e, start_back (suc n) p h.0 b) refl
-  action-back m n (newloc v) w q rest h b e =
+  action_back m n (newloc v) w q rest h b e =
       let low : v % 256 ≡ v = omega arith in step_back m 5 v zero_instruction w 0 rest zero_fits ∙ rw (low, e) refl
-  action-back m n (out_all c g) w q rest h b e = step_back m 7 g.0 c w 0 rest h.0 ∙ rw (group_back g h.1, e) refl
+  action_back m n (out_all c g) w q rest h b e = step_back m 7 g.0 c w 0 rest h.0 ∙ rw (group_back g h.1, e) refl
 
   stop_back : (m : ℕ) (rest : List ℕ) → loaded_all resolve (suc m) (stop_words ++ rest) ≡ zero_instruction ∷ loaded_all resolve m rest
   unfolding stop_words with_action action_of choose zero_instruction
   stop_back m rest = step_back m 0 0 zero_instruction 0 0 rest zero_fits
 
-  fork-back :
+  fork_back :
       (m i j : ℕ) (p q : Process) (rest : List ℕ) → fits p → fits q → i ≤ 512 → j ≤ 512
       → loaded_all resolve (suc m) (instruction_words 6 0 zero_instruction (start_word (start_of i p)) (start_word (start_of j q)) ++ rest)
       ≡ fork_of place (start_of i p) (start_of j q) ∷ loaded_all resolve m rest
   unfolding fork_of action_of choose
-  fork-back m i j p q rest f g a b =
+  fork_back m i j p q rest f g a b =
       step_back m 6 0 zero_instruction (start_word (start_of i p)) (start_word (start_of j q)) rest zero_fits
       ∙ rw (start_back i p f a, start_back j q g b) refl
 
@@ -144,43 +144,43 @@ module _ (resolve : ℕ → Place) (place : Start → Place) (r : Resolves resol
   mutual
     unfolding fits fits_in size size_in words_of words_in stop_words code_of code_in fork_of
 
-    pub code-back :
+    pub code_back :
         (n k : ℕ) (x : Process) (rest : List ℕ) → fits x → n + size x ≤ 512
         → loaded_all resolve (size x + k) (words_of n x ++ rest) ≡ code_of place n x ++ loaded_all resolve k rest
-    code-back n k nil rest h b = ap (λ (m : ℕ). loaded_all resolve m (stop_words ++ rest)) (one_and k) ∙ stop_back k rest
-    code-back n k (name j) rest h b = ap (λ (m : ℕ). loaded_all resolve m rest) (none_and k)
-    code-back n k (fork p q) rest h b =
+    code_back n k nil rest h b = ap (λ (m : ℕ). loaded_all resolve m (stop_words ++ rest)) (one_and k) ∙ stop_back k rest
+    code_back n k (name j) rest h b = ap (λ (m : ℕ). loaded_all resolve m rest) (none_and k)
+    code_back n k (fork p q) rest h b =
         let own = instruction_words 6 0 zero_instruction (start_word (start_of (suc n) p)) (start_word (start_of (suc n + size p) q)) in
         let left = words_of (suc n) p in
         let right = words_of (suc n + size p) q in
         ap (λ (m : ℕ). loaded_all resolve m ((own ++ (left ++ right)) ++ rest)) (both_and (size p) (size q) k)
         ∙ ap (loaded_all resolve (suc (size p + (size q + k))))
         (append_assoc own (left ++ right) rest ∙ ap (λ (l : List ℕ). own ++ l) (append_assoc left right rest))
-        ∙ fork-back (size p + (size q + k)) (suc n) (suc n + size p) p q (left ++ (right ++ rest)) h.0 h.1 (omega arith) (omega arith)
+        ∙ fork_back (size p + (size q + k)) (suc n) (suc n + size p) p q (left ++ (right ++ rest)) h.0 h.1 (omega arith) (omega arith)
         ∙ ap (λ (l : List Instruction). fork_of place (start_of (suc n) p) (start_of (suc n + size p) q) ∷ l)
-        (code-back (suc n) (size q + k) p (right ++ rest) h.0 (omega arith)
-        ∙ ap (λ (l : List Instruction). code_of place (suc n) p ++ l) (code-back (suc n + size p) k q rest h.1 (omega arith))
+        (code_back (suc n) (size q + k) p (right ++ rest) h.0 (omega arith)
+        ∙ ap (λ (l : List Instruction). code_of place (suc n) p ++ l) (code_back (suc n + size p) k q rest h.1 (omega arith))
         ∙ sym (append_assoc (code_of place (suc n) p) (code_of place (suc n + size p) q) (loaded_all resolve k rest)))
-    code-back n k (act a p) rest h b =
+    code_back n k (act a p) rest h b =
         let own = action_words n a (start_word (start_of (suc n + size_in a) p)) in
         let held = words_in (suc n) a in
         let behind = words_of (suc n + size_in a) p in
         ap (λ (m : ℕ). loaded_all resolve m (((own ++ held) ++ behind) ++ rest)) (both_and (size_in a) (size p) k)
         ∙ ap (loaded_all resolve (suc (size_in a + (size p + k))))
         (append_assoc (own ++ held) behind rest ∙ append_assoc own held (behind ++ rest))
-        ∙ action-back (size_in a + (size p + k)) n a (start_word (start_of (suc n + size_in a) p)) (start_of (suc n + size_in a) p)
+        ∙ action_back (size_in a + (size p + k)) n a (start_word (start_of (suc n + size_in a) p)) (start_of (suc n + size_in a) p)
         (held ++ (behind ++ rest)) h.0 (omega arith) (start_back (suc n + size_in a) p h.1 (omega arith))
         ∙ ap (λ (l : List Instruction). instruction_of place n a (start_of (suc n + size_in a) p) ∷ l)
-        (code-in-back (suc n) (size p + k) a (behind ++ rest) h.0 (omega arith)
-        ∙ ap (λ (l : List Instruction). code_in place (suc n) a ++ l) (code-back (suc n + size_in a) k p rest h.1 (omega arith))
+        (code_in_back (suc n) (size p + k) a (behind ++ rest) h.0 (omega arith)
+        ∙ ap (λ (l : List Instruction). code_in place (suc n) a ++ l) (code_back (suc n + size_in a) k p rest h.1 (omega arith))
         ∙ sym (append_assoc (code_in place (suc n) a) (code_of place (suc n + size_in a) p) (loaded_all resolve k rest)))
 
-    pub code-in-back :
+    pub code_in_back :
         (n k : ℕ) (a : Action) (rest : List ℕ) → fits_in a → n + size_in a ≤ 512
         → loaded_all resolve (size_in a + k) (words_in n a ++ rest) ≡ code_in place n a ++ loaded_all resolve k rest
-    code-in-back n k (out c t) rest h b = ap (λ (m : ℕ). loaded_all resolve m rest) (none_and k)
-    code-in-back n k (input c t) rest h b = ap (λ (m : ℕ). loaded_all resolve m rest) (none_and k)
-    code-in-back n k (read c t) rest h b = ap (λ (m : ℕ). loaded_all resolve m rest) (none_and k)
-    code-in-back n k (eval p t) rest h b = code-back n k p rest h.0 b
-    code-in-back n k (newloc v) rest h b = ap (λ (m : ℕ). loaded_all resolve m rest) (none_and k)
-    code-in-back n k (out_all c g) rest h b = ap (λ (m : ℕ). loaded_all resolve m rest) (none_and k)
+    code_in_back n k (out c t) rest h b = ap (λ (m : ℕ). loaded_all resolve m rest) (none_and k)
+    code_in_back n k (input c t) rest h b = ap (λ (m : ℕ). loaded_all resolve m rest) (none_and k)
+    code_in_back n k (read c t) rest h b = ap (λ (m : ℕ). loaded_all resolve m rest) (none_and k)
+    code_in_back n k (eval p t) rest h b = code_back n k p rest h.0 b
+    code_in_back n k (newloc v) rest h b = ap (λ (m : ℕ). loaded_all resolve m rest) (none_and k)
+    code_in_back n k (out_all c g) rest h b = ap (λ (m : ℕ). loaded_all resolve m rest) (none_and k)

@@ -113,24 +113,24 @@ module _ (kind w : ℕ) (p q : Place) where
       rw (ne_eqb kind 1 o.out, ne_eqb kind 2 o.input, ne_eqb kind 3 o.read, ne_eqb kind 4 o.eval, ne_eqb kind 5 e, ne_eqb kind 6 f, ne_eqb kind 7 g)
       refl
 
-pub action-loaded :
+pub action_loaded :
     (xs : List ℕ) (at kind w : ℕ) (p q : Place) (a : Action) → kind ≡ get_or xs at 0 → w ≡ get_or xs (at + 1) 0 → a ≡ action_of kind w p q
     → a ≡ action_of (get_or xs at 0) (get_or xs (at + 1) 0) p q
-action-loaded xs at kind w p q a e d h = h ∙ ap (λ (k : ℕ). action_of k w p q) e ∙ ap (λ (v : ℕ). action_of (get_or xs at 0) v p q) d
+action_loaded xs at kind w p q a e d h = h ∙ ap (λ (k : ℕ). action_of k w p q) e ∙ ap (λ (v : ℕ). action_of (get_or xs at 0) v p q) d
 
 -- ---- instructions
-pub template-loaded :
+pub template_loaded :
     (xs : List ℕ) (at : ℕ) (action : Action) (count : ℕ) (a b c d : TemplateField) → count ≡ get_or xs (at + 2) 0 → a ≡ field_of (get_or xs (at + 3) 0)
     → b ≡ field_of (get_or xs (at + 4) 0) → c ≡ field_of (get_or xs (at + 5) 0) → d ≡ field_of (get_or xs (at + 6) 0)
     → record { action = action; count = count; template = a ∷ b ∷ c ∷ d ∷ [] } ≡ templated xs at action
 unfolding templated
-template-loaded xs at action count a b c d e f g h i = rw (e, f, g, h, i) refl
+template_loaded xs at action count a b c d e f g h i = rw (e, f, g, h, i) refl
 
-pub instruction-loaded :
+pub instruction_loaded :
     (xs : List ℕ) (i : ℕ) (p q : Place) (a : Action) (c : Instruction) → a ≡ action_of (get_or xs (9 * i) 0) (get_or xs (9 * i + 1) 0) p q
     → c ≡ templated xs (9 * i) a → c ≡ loaded_at xs i p q
 unfolding templated loaded_at loaded
-instruction-loaded xs i p q a c e d =
+instruction_loaded xs i p q a c e d =
     let first : 9 * i ≡ 9 * i + 0 = omega arith in
     d ∙ ap (templated xs (9 * i)) e
     ∙ ap (λ (j : ℕ). templated xs (9 * i) (action_of (get_or xs j 0) (get_or xs (9 * i + 1) 0) p q)) first

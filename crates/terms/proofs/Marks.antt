@@ -54,24 +54,24 @@ two_marks false false c m n e f = e ∙ f
 mutual
   unfolding marked marked_in uses uses_in choose
 
-  pub marked-uses :
+  pub marked_uses :
       (x : Process) (k : ℕ) (used : List Bool) → k < length used
       → get_or (marked x used) k false ≡ choose (uses k x) true (get_or used k false)
-  marked-uses nil k used h = refl
-  marked-uses (name j) k used h = entry_set used j k true false h
-  marked-uses (fork p q) k used h =
-      two_marks (uses k p) (uses k q) _ _ _ (marked-uses q k (marked p used) (omega (arith, marked_length p used)))
-      (marked-uses p k used h)
-  marked-uses (act a p) k used h =
-      two_marks (uses_in k a) (uses k p) _ _ _ (marked-uses p k (marked_in a used) (omega (arith, marked_in_length a used)))
-      (marked-in-uses a k used h)
+  marked_uses nil k used h = refl
+  marked_uses (name j) k used h = entry_set used j k true false h
+  marked_uses (fork p q) k used h =
+      two_marks (uses k p) (uses k q) _ _ _ (marked_uses q k (marked p used) (omega (arith, marked_length p used)))
+      (marked_uses p k used h)
+  marked_uses (act a p) k used h =
+      two_marks (uses_in k a) (uses k p) _ _ _ (marked_uses p k (marked_in a used) (omega (arith, marked_in_length a used)))
+      (marked_in_uses a k used h)
 
-  pub marked-in-uses :
+  pub marked_in_uses :
       (a : Action) (k : ℕ) (used : List Bool) → k < length used
       → get_or (marked_in a used) k false ≡ choose (uses_in k a) true (get_or used k false)
-  marked-in-uses (out c t) k used h = refl
-  marked-in-uses (input c t) k used h = refl
-  marked-in-uses (read c t) k used h = refl
-  marked-in-uses (eval p t) k used h = marked-uses p k used h
-  marked-in-uses (newloc v) k used h = refl
-  marked-in-uses (out_all c g) k used h = refl
+  marked_in_uses (out c t) k used h = refl
+  marked_in_uses (input c t) k used h = refl
+  marked_in_uses (read c t) k used h = refl
+  marked_in_uses (eval p t) k used h = marked_uses p k used h
+  marked_in_uses (newloc v) k used h = refl
+  marked_in_uses (out_all c g) k used h = refl

@@ -44,11 +44,11 @@ complement_case x r s d = d ∙ ap complement_of (to_z-of_z s)
 pub wrote_as : (xs : List ℕ) (at v w : ℕ) (ys : List ℕ) (r : ℕ) → v ≡ w → Wrote xs at (v ∷ []) ys r → Wrote xs at (w ∷ []) ys r
 wrote_as xs at v w ys r e u = rw e at u
 
-pub stored-plain :
+pub stored_plain :
     (xs ys : List ℕ) (n kind target next second : ℕ) (c : Instruction) → c ≡ zero_instruction
     → ys ≡ over xs (9 * n) (instruction_words kind target c next second)
     → ys ≡ over xs (9 * n) (instruction_words kind target zero_instruction next second)
-stored-plain xs ys n kind target next second c e d =
+stored_plain xs ys n kind target next second c e d =
     d ∙ ap (λ (x : Instruction). over xs (9 * n) (instruction_words kind target x next second)) e
 
 pub set_past : {A : Type 0} (xs : List A) (i : ℕ) (x : A) → length xs ≤ i → xs ≡ set xs i x

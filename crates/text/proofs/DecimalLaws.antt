@@ -83,10 +83,10 @@ module _ (xs : List ℕ) (at n : ℕ) where
   pub wrote_digit : (ys : List ℕ) (r : ℕ) → n < 10 → Wrote xs at (digit n ∷ []) ys r → Wrote xs at (decimal n) ys r
   wrote_digit ys r h w = subst (λ (t : List ℕ). Wrote xs at t ys r) (decimal_digit n h) w
 
-  pub wrote-digits :
+  pub wrote_digits :
       (ys zs : List ℕ) (r q : ℕ) → 10 ≤ n → Fits w64 n → Wrote xs at (decimal (n / 10)) ys r → Wrote ys r (digit (n % 10) ∷ []) zs q
       → Wrote xs at (decimal n) zs q
-  wrote-digits ys zs r q h f w v =
+  wrote_digits ys zs r q h f w v =
       subst (λ (t : List ℕ). Wrote xs at t zs q) (decimal_more n h f.fits) (wrote_then xs at _ _ _ _ _ _ w v)
 
 -- ---- signed numbers

@@ -51,10 +51,10 @@ module _ (x : ℤ) (s : SFits w32 x) where
   back : (h : le_z (pos 0) (to_z w32 (of_z w32 x)) ≡ false) → to_z w32 (of_z w32 (negsuc 0 -ℤ to_z w32 (of_z w32 x))) ≡ pos (mag x)
   back h = to_z-of_z (above_fits h) ∙ above (to_z w32 (of_z w32 x)) h ∙ ap (λ (y : ℤ). pos (mag y)) (to_z-of_z s)
 
-  pub cast-above :
+  pub cast_above :
       le_z (pos 0) (to_z w32 (of_z w32 x)) ≡ false
       → T (non_neg (to_z w32 (of_z w32 (negsuc 0 -ℤ to_z w32 (of_z w32 x))))) × Fits w32 (nat_abs (to_z w32 (of_z w32 (negsuc 0 -ℤ to_z w32 (of_z w32 x)))))
-  cast-above h = rw (back h) (tt, record { fits = omega (arith, s.sfits) })
+  cast_above h = rw (back h) (tt, record { fits = omega (arith, s.sfits) })
 
   -- its two's complement
   pub above_within :
@@ -64,10 +64,10 @@ module _ (x : ℤ) (s : SFits w32 x) where
   pub complement_up : le_z (pos 0) (to_z w32 (of_z w32 x)) ≡ true → nat_abs (to_z w32 (of_z w32 x)) ≡ complement_of x
   complement_up h = at_least _ h ∙ ap complement_of (to_z-of_z s)
 
-  pub complement-below :
+  pub complement_below :
       le_z (pos 0) (to_z w32 (of_z w32 x)) ≡ false
       → 4294967295 - nat_abs (to_z w32 (of_z w32 (negsuc 0 -ℤ to_z w32 (of_z w32 x)))) ≡ complement_of x
-  complement-below h = rw (back h) (less_than x (rw (to_z-of_z s) at h))
+  complement_below h = rw (back h) (less_than x (rw (to_z-of_z s) at h))
 
   -- how far it is from nought
   pub above_more : le_z (pos 0) (to_z w32 (of_z w32 x)) ≡ false → Fits w32 (nat_abs (to_z w32 (of_z w32 (negsuc 0 -ℤ to_z w32 (of_z w32 x)))) + 1)

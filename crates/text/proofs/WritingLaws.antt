@@ -28,12 +28,12 @@ module _ {A : Type 0} where
   over_past xs at (x ∷ text) h =
       ap (λ (ys : List A). over ys (suc at) text) (set_out xs at x h) ∙ over_past xs (suc at) text (omega arith)
 
-  pub over-both :
+  pub over_both :
       (xs : List A) (at : ℕ) (text more : List A) → over (over xs at text) (at + length text) more ≡ over xs at (text ++ more)
   unfolding over
-  over-both xs at [] more = ap (λ (i : ℕ). over xs i more) (omega arith)
-  over-both xs at (x ∷ text) more =
-      ap (λ (i : ℕ). over (over (set xs at x) (suc at) text) i more) (omega arith) ∙ over-both (set xs at x) (suc at) text more
+  over_both xs at [] more = ap (λ (i : ℕ). over xs i more) (omega arith)
+  over_both xs at (x ∷ text) more =
+      ap (λ (i : ℕ). over (over (set xs at x) (suc at) text) i more) (omega arith) ∙ over_both (set xs at x) (suc at) text more
 
   over_length : (xs : List A) (at : ℕ) (text : List A) → length (over xs at text) ≡ length xs
   unfolding over
@@ -45,17 +45,17 @@ module _ {A : Type 0} (xs : List A) (at : ℕ) where
   unfolding over
   wrote_nothing = record { is = refl; fits = λ h. omega arith; full = λ h. omega arith }
 
-  store-after :
+  store_after :
       (bits more : List A) (r : ℕ) → (at + length bits ≤ length xs → r ≡ at + length bits)
       → (length xs < at + length bits → length xs < r) → Dec (at + length bits ≤ length xs)
       → over (over xs at bits) r more ≡ over xs at (bits ++ more)
-  store-after bits more r fits full (yes h) =
-      ap (λ (i : ℕ). over (over xs at bits) i more) (fits h) ∙ over-both xs at bits more
-  store-after bits more r fits full (no h) =
+  store_after bits more r fits full (yes h) =
+      ap (λ (i : ℕ). over (over xs at bits) i more) (fits h) ∙ over_both xs at bits more
+  store_after bits more r fits full (no h) =
       let long = over_length xs at bits in
       let past = full (omega arith) in
       over_past (over xs at bits) r more (omega (arith, long))
-      ∙ sym (over_past (over xs at bits) (at + length bits) more (omega (arith, long))) ∙ over-both xs at bits more
+      ∙ sym (over_past (over xs at bits) (at + length bits) more (omega (arith, long))) ∙ over_both xs at bits more
 
   pub wrote_then :
       (bits more ys zs : List A) (r q : ℕ) → Wrote xs at bits ys r → Wrote ys r more zs q
@@ -65,7 +65,7 @@ module _ {A : Type 0} (xs : List A) (at : ℕ) where
       let whole : length (bits ++ more) ≡ length bits + length more = length-append bits more in
       record {
         is = v.is ∙ ap (λ (b : List A). over b r more) w.is
-            ∙ store-after bits more r w.fits w.full (dec_le (at + length bits) (length xs));
+            ∙ store_after bits more r w.fits w.full (dec_le (at + length bits) (length xs));
         fits = λ h.
             let here = w.fits (omega arith) in
             let there = v.fits (omega arith) in
@@ -76,10 +76,10 @@ module _ {A : Type 0} (xs : List A) (at : ℕ) where
       }
 
   -- an element, and more after it
-  pub wrote-one-then :
+  pub wrote_one_then :
       (b : A) (more ys zs : List A) (r q : ℕ) → Wrote xs at (b ∷ []) ys r → Wrote ys r more zs q
       → Wrote xs at (b ∷ more) zs q
-  wrote-one-then b more ys zs r q w v = wrote_then (b ∷ []) more ys zs r q w v
+  wrote_one_then b more ys zs r q w v = wrote_then (b ∷ []) more ys zs r q w v
 
 pub wrote_length : {A : Type 0} (xs : List A) (at : ℕ) (bits ys : List A) (r : ℕ) → Wrote xs at bits ys r → length ys ≡ length xs
 wrote_length xs at bits ys r w = ap length w.is ∙ over_length xs at bits
@@ -95,17 +95,17 @@ module _ {A : Type 0} (xs : List A) (at : ℕ) (b : A) where
 
 -- ---- the elements of a list, one after another
 module _ {A : Type 0} (xs : List A) (at : ℕ) (text : List A) (d : A) where
-  pub wrote-more :
+  pub wrote_more :
       (i : ℕ) (ys zs : List A) (r q : ℕ) → Wrote xs at (take i text) ys r → i < length text
       → Wrote ys r (get_or text i d ∷ []) zs q → Wrote xs at (take (i + 1) text) zs q
-  wrote-more i ys zs r q w h v =
+  wrote_more i ys zs r q w h v =
       subst (λ (t : List A). Wrote xs at t zs q) (sym (ap (λ (j : ℕ). take j text) (add-one i) ∙ take-suc text i d h))
       (wrote_then xs at _ _ _ _ _ _ w v)
 
 module _ {A : Type 0} (xs : List A) (at : ℕ) (text : List A) where
-  pub wrote-all :
+  pub wrote_all :
       (i : ℕ) (ys : List A) (r : ℕ) → Wrote xs at (take i text) ys r → length text ≤ i → Wrote xs at text ys r
-  wrote-all i ys r w h = subst (λ (t : List A). Wrote xs at t ys r) (take_all i text h) w
+  wrote_all i ys r w h = subst (λ (t : List A). Wrote xs at t ys r) (take_all i text h) w
 
 -- ---- parts, one after another
 module _ {A : Type 0} (xs : List A) (at : ℕ) (f : ℕ → List A) where
@@ -113,11 +113,11 @@ module _ {A : Type 0} (xs : List A) (at : ℕ) (f : ℕ → List A) where
   unfolding joined
   joined_none = wrote_nothing xs at
 
-  pub joined-more :
+  pub joined_more :
       (i : ℕ) (ys zs : List A) (r q : ℕ) → Wrote xs at (joined i f) ys r → Wrote ys r (f i) zs q
       → Wrote xs at (joined (i + 1) f) zs q
   unfolding joined
-  joined-more i ys zs r q w v =
+  joined_more i ys zs r q w v =
       subst (λ (t : List A). Wrote xs at t zs q) (sym (ap (λ (j : ℕ). joined j f) (add-one i)))
       (wrote_then xs at _ _ _ _ _ _ w v)
 

@@ -32,24 +32,24 @@ behind x (y ∷ ts) t =
     ap (λ (s : List ℕ). x ++ (44 ∷ s)) (behind y ts t) ∙ sym (append_assoc x (44 ∷ separated (y ∷ ts)) (44 ∷ t))
 
 -- one part more: a comma before it, where others stand before
-separated-both :
+separated_both :
     (ts : List (List ℕ)) (t : List ℕ) → separated (ts ++ (t ∷ [])) ≡ separated ts ++ (given (ltb 0 (length ts)) (44 ∷ []) ++ t)
 unfolding separated given
-separated-both [] t = ap (λ (c : List ℕ). c ++ t) (sym (choose_false (ltb 0 0) (44 ∷ []) [] (le-ltb 0 0 (omega arith))))
-separated-both (x ∷ ts) t =
+separated_both [] t = ap (λ (c : List ℕ). c ++ t) (sym (choose_false (ltb 0 0) (44 ∷ []) [] (le-ltb 0 0 (omega arith))))
+separated_both (x ∷ ts) t =
     behind x ts t
     ∙ ap (λ (c : List ℕ). separated (x ∷ ts) ++ (c ++ t))
     (sym (choose_true (ltb 0 (suc (length ts))) (44 ∷ []) [] (lt-ltb 0 (suc (length ts)) (omega arith))))
 
 -- what f prints of each of the first elements
 module _ {A : Type 0} (f : A → List ℕ) (ts : List A) where
-  separated-next :
+  separated_next :
       (d : A) (i : ℕ) → i < length ts
       → separated (map f (take (i + 1) ts)) ≡ separated (map f (take i ts)) ++ (given (ltb 0 i) (44 ∷ []) ++ f (get_or ts i d))
-  separated-next d i h =
+  separated_next d i h =
       ap (λ (l : List A). separated (map f l)) (ap (λ (j : ℕ). take j ts) (add-one i) ∙ take-suc ts i d h)
       ∙ ap separated (map-append f (take i ts) (get_or ts i d ∷ []))
-      ∙ separated-both (map f (take i ts)) (f (get_or ts i d))
+      ∙ separated_both (map f (take i ts)) (f (get_or ts i d))
       ∙ ap (λ (n : ℕ). separated (map f (take i ts)) ++ (given (ltb 0 n) (44 ∷ []) ++ f (get_or ts i d)))
       (length-map (take i ts) f ∙ length-take-le i ts (omega arith))
 
@@ -63,12 +63,12 @@ module _ {A : Type 0} (f : A → List ℕ) (ts : List A) where
         → Wrote ys r (given (ltb 0 i) (44 ∷ []) ++ f (get_or ts i d)) zs q → i < n → n ≤ size → length ts ≡ size
         → Wrote xs at (separated (map f (take (i + 1) ts))) zs q
     separated_more d i n size ys zs r q w v h l e =
-        subst (λ (t : List ℕ). Wrote xs at t zs q) (sym (separated-next d i (omega arith))) (wrote_then xs at _ _ ys zs r q w v)
+        subst (λ (t : List ℕ). Wrote xs at t zs q) (sym (separated_next d i (omega arith))) (wrote_then xs at _ _ ys zs r q w v)
 
-    pub separated-end :
+    pub separated_end :
         (i n : ℕ) (ys : List ℕ) (r : ℕ) → Wrote xs at (separated (map f (take i ts))) ys r → i ≤ n → n ≤ i
         → Wrote xs at (separated (map f (take n ts))) ys r
-    separated-end i n ys r w h l =
+    separated_end i n ys r w h l =
         let e : i ≡ n = omega arith in
         subst (λ (j : ℕ). Wrote xs at (separated (map f (take j ts))) ys r) e w
 
@@ -77,16 +77,16 @@ module _ (g : Group) where
   abbrev members : ℕ → List ℕ
   members i = separated (map address_text (members_below i g))
 
-  member-next :
+  member_next :
       (i : ℕ) (b : Bool) → b ≡ member g (address_of i)
       → members (suc i) ≡ members i ++ given b (given (ltb 0 (length (members_below i g))) (44 ∷ []) ++ decimal i)
   unfolding members_below given choose address_text
-  member-next i true e =
+  member_next i true e =
       ap (λ (ls : List Locality). separated (map address_text (members_below i g ++ ls))) (choose_true _ (address_of i ∷ []) [] (sym e))
       ∙ ap separated (map-append address_text (members_below i g) (address_of i ∷ []))
-      ∙ separated-both (map address_text (members_below i g)) (decimal i)
+      ∙ separated_both (map address_text (members_below i g)) (decimal i)
       ∙ ap (λ (n : ℕ). members i ++ (given (ltb 0 n) (44 ∷ []) ++ decimal i)) (length-map (members_below i g) address_text)
-  member-next i false e =
+  member_next i false e =
       ap (λ (ls : List Locality). separated (map address_text (members_below i g ++ ls))) (choose_false _ (address_of i ∷ []) [] (sym e))
       ∙ ap (λ (ls : List Locality). separated (map address_text ls)) (append-nil (members_below i g))
       ∙ sym (append-nil (members i))
@@ -124,7 +124,7 @@ module _ (g : Group) where
         → Wrote xs at (members i) ys r → Wrote ys r (given has (given some (44 ∷ []) ++ decimal i)) zs q
         → Wrote xs at (members (i + 1)) zs q
     members_more i has some ys zs r q e d w v =
-        subst (λ (t : List ℕ). Wrote xs at t zs q) (sym (ap members (add-one i) ∙ member-next i has e))
+        subst (λ (t : List ℕ). Wrote xs at t zs q) (sym (ap members (add-one i) ∙ member_next i has e))
         (wrote_then xs at _ _ ys zs r q w
         (subst (λ (b : Bool). Wrote ys r (given has (given b (44 ∷ []) ++ decimal i)) zs q) d v))
 
@@ -168,15 +168,15 @@ module _ {A : Type 0} {f : ℕ → A → List ℕ} {g : ℕ → List A → List 
   from_start : (h : ℕ → A) (n : ℕ) → joined n (λ j. f j (h j)) ≡ g 0 (listed n h)
   from_start h n = joined_same n _ _ (λ j l. ap (λ (k : ℕ). f k (h j)) (sym (zero-add j))) ∙ sym (each h n 0)
 
-  pub numbered-end :
+  pub numbered_end :
       (xs : List ℕ) (at : ℕ) (h : ℕ → A) (i n : ℕ) (ys : List ℕ) (r : ℕ) → Wrote xs at (joined i (λ j. f j (h j))) ys r → i ≤ n → n ≤ i
       → Wrote xs at (g 0 (listed n h)) ys r
-  numbered-end xs at h i n ys r w l m =
+  numbered_end xs at h i n ys r w l m =
       subst (λ (t : List ℕ). Wrote xs at t ys r) (from_start h n) (joined_end xs at _ i n ys r w l m)
 
   -- of a whole list
-  pub numbered-all :
+  pub numbered_all :
       (d : A) (xs : List ℕ) (at : ℕ) (ts : List A) (i n : ℕ) (ys : List ℕ) (r : ℕ) → Wrote xs at (joined i (λ j. f j (get_or ts j d))) ys r
       → i ≤ n → n ≤ i → length ts ≡ n → Wrote xs at (g 0 ts) ys r
-  numbered-all d xs at ts i n ys r w l m e =
-      subst (λ (us : List A). Wrote xs at (g 0 us) ys r) (listed_whole d ts n e) (numbered-end xs at (λ j. get_or ts j d) i n ys r w l m)
+  numbered_all d xs at ts i n ys r w l m e =
+      subst (λ (us : List A). Wrote xs at (g 0 us) ys r) (listed_whole d ts n e) (numbered_end xs at (λ j. get_or ts j d) i n ys r w l m)

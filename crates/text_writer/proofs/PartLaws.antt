@@ -21,7 +21,7 @@ use Rattle.text.specs.Joined.{joined}
 use Rattle.text.specs.Writing.{Wrote}
 use Rattle.text.proofs.WritingLaws.{wrote_then}
 use Rattle.text_writer.specs.Types.{Locality, Group, Tuple, Rights, Row, Target, Instruction, Net}
-use Rattle.text_writer.proofs.ListLaws.{Numbered, numbered-end}
+use Rattle.text_writer.proofs.ListLaws.{Numbered, numbered_end}
 
 -- ---- a part that may be left away
 module _ (xs : List ℕ) (at : ℕ) (b : Bool) (part : List ℕ) where
@@ -51,25 +51,25 @@ group_parts g xs₀ xs₁ xs₂ xs₃ r₀ r₁ r₂ r₃ w₁ w₂ w₃ = wrote
 
 -- ---- processes
 module _ (q : Process) (xs₀ xs₁ xs₂ xs₃ : List ℕ) (r₀ r₁ r₂ r₃ : ℕ) where
-  pub fork-parts :
+  pub fork_parts :
       (p : Process) → Wrote xs₀ r₀ (bytes "(" ++ process_text p) xs₁ r₁ → Wrote xs₁ r₁ (bytes " | " ++ process_text q) xs₂ r₂
       → Wrote xs₂ r₂ (bytes ")") xs₃ r₃ → Wrote xs₀ r₀ (process_text (fork p q)) xs₃ r₃
   unfolding process_text
-  fork-parts p w₁ w₂ w₃ =
+  fork_parts p w₁ w₂ w₃ =
       pair_then _ _ _ _ _ _ _ (bytes "(") (process_text p) w₁ (pair_then _ _ _ _ _ _ _ (bytes " | ") (process_text q) w₂ w₃)
 
-  pub eval-parts :
+  pub eval_parts :
       (p : Process) (t : Target) → Wrote xs₀ r₀ (bytes "eval(" ++ process_text p) xs₁ r₁ → Wrote xs₁ r₁ (bytes ")@" ++ target_text t) xs₂ r₂
       → Wrote xs₂ r₂ (bytes "." ++ process_text q) xs₃ r₃ → Wrote xs₀ r₀ (process_text (act (eval p t) q)) xs₃ r₃
   unfolding process_text action_text
-  eval-parts p t w₁ w₂ w₃ = wrote_then _ _ _ _ _ _ _ _ (pair_then _ _ _ _ _ _ _ (bytes "eval(") (process_text p) w₁ w₂) w₃
+  eval_parts p t w₁ w₂ w₃ = wrote_then _ _ _ _ _ _ _ _ (pair_then _ _ _ _ _ _ _ (bytes "eval(") (process_text p) w₁ w₂) w₃
 
-  pub spread-parts :
+  pub spread_parts :
       (c : Instruction) (g : Group) (xs₄ : List ℕ) (r₄ : ℕ) → Wrote xs₀ r₀ (bytes "out(") xs₁ r₁ → Wrote xs₁ r₁ (template_text c) xs₂ r₂
       → Wrote xs₂ r₂ (bytes ")@" ++ group_text g) xs₃ r₃ → Wrote xs₃ r₃ (bytes "." ++ process_text q) xs₄ r₄
       → Wrote xs₀ r₀ (process_text (act (out_all c g) q)) xs₄ r₄
   unfolding process_text action_text
-  spread-parts c g xs₄ r₄ w₁ w₂ w₃ w₄ =
+  spread_parts c g xs₄ r₄ w₁ w₂ w₃ w₄ =
       wrote_then _ _ _ _ _ _ _ _ (wrote_then _ _ _ _ _ _ _ _ w₁ (wrote_then _ _ _ _ _ _ _ _ w₂ w₃)) w₄
 
 -- ---- rights, by a callee's answer
@@ -78,11 +78,11 @@ module _ (xs : List ℕ) (at l : ℕ) (rights : Rights) (none : Bool) (e : none 
   unfolding grant_text
   grant_left p = given_left xs at (not (is_none rights)) _ (ap not (sym e ∙ p))
 
-  pub grant-shown :
+  pub grant_shown :
       (ys : List ℕ) (r : ℕ) → none ≡ false → Wrote xs at (bytes " " ++ (decimal l ++ (bytes ":" ++ rights_text rights))) ys r
       → Wrote xs at (grant_text l rights) ys r
   unfolding grant_text
-  grant-shown ys r p w = given_shown xs at (not (is_none rights)) _ ys r (ap not (sym e ∙ p)) w
+  grant_shown ys r p w = given_shown xs at (not (is_none rights)) _ ys r (ap not (sym e ∙ p)) w
 
 -- ---- rows
 pub grants_numbered : Numbered grant_text grants_text
@@ -97,10 +97,10 @@ origins_numbered : (i : ℕ) → Numbered (origin_row_text i) (node_text i)
 unfolding node_text
 origins_numbered i = record { none = λ j. refl; more = λ j x xs. refl }
 
-pub origins-end :
+pub origins_end :
     (i : ℕ) (xs : List ℕ) (at : ℕ) (h : ℕ → Row) (j n : ℕ) (ys : List ℕ) (r : ℕ)
     → Wrote xs at (joined j (λ k. origin_row_text i k (h k))) ys r → j ≤ n → n ≤ j → Wrote xs at (node_text i 0 (listed n h)) ys r
-origins-end i = numbered-end (origins_numbered i)
+origins_end i = numbered_end (origins_numbered i)
 
 pub nodes_numbered : Numbered (λ i. node_text i 0) nodes_text
 unfolding nodes_text
@@ -135,10 +135,10 @@ lines_both [] ms = refl
 lines_both (l ∷ ls) ms =
     ap (λ (t : List ℕ). line_text l ++ t) (lines_both ls ms) ∙ sym (append_assoc (line_text l) (lines_text ls) (lines_text ms))
 
-pub line-alone :
+pub line_alone :
     (xs : List ℕ) (at : ℕ) (l : Line) (ys : List ℕ) (r : ℕ) → Wrote xs at (line_text l) ys r → Wrote xs at (lines_text (l ∷ [])) ys r
 unfolding lines_text
-line-alone xs at l ys r w = subst (λ (t : List ℕ). Wrote xs at t ys r) (sym (append-nil (line_text l))) w
+line_alone xs at l ys r w = subst (λ (t : List ℕ). Wrote xs at t ys r) (sym (append-nil (line_text l))) w
 
 -- a tuple's line has no mark
 pub unmarked :

@@ -36,9 +36,9 @@ module _
   unfolding over
   text_first = ap (take n) (w.is ∙ sets-eq (text_of net) xs 0 (omega (arith, short))) ∙ take_at (text_of net) _ n (sym text_end)
 
-  pub text-packed :
+  pub text_packed :
       (room : ℕ) (r : Packed) → r ≡ placed_of (length (take n ys)) room → r ≡ placed_of (length (text_of net)) room
-  text-packed room r e = e ∙ ap (λ (t : List ℕ). placed_of (length t) room) text_first
+  text_packed room r e = e ∙ ap (λ (t : List ℕ). placed_of (length t) room) text_first
 
   pub text_placed : (before after : List ℕ) → after ≡ placed_in (take n ys) before → after ≡ placed_in (text_of net) before
   text_placed before after e = e ∙ ap (λ (t : List ℕ). placed_in t before) text_first

@@ -11,7 +11,7 @@ use Rattle.net.specs.Choice.{choose}
 use Rattle.net.specs.Records.{zero_instruction, with_action}
 use Rattle.net.proofs.ReadingLaws.{never}
 use Rattle.sound.proofs.CodeFacts.{Acts}
-use Rattle.sound.proofs.Drafts.{stop_ok, Communicates, out_ok, in_ok, read_ok, out-all-ok}
+use Rattle.sound.proofs.Drafts.{stop_ok, Communicates, out_ok, in_ok, read_ok, out_all_ok}
 use Rattle.fresh.specs.Fresh.{action_fits}
 use Rattle.fresh.proofs.FitLaws.{zero_instruction_fits}
 use Rattle.terms.specs.Terms.{Process, Action, nil, name, fork, act, out, input, read, eval, newloc, out_all}
@@ -74,17 +74,17 @@ module _ (x : Scope) (k : ℕ) (place : Start → Place) (Right : ℕ → Type 0
   start_below m (fork p q) h u = at_here m (omega arith)
   start_below m (act a p) h u = at_here m (omega arith)
 
-  instruction-good :
+  instruction_good :
       (m : ℕ) (a : Action) (q : Start) → suc m + size_in a ≤ k → FitIn x a → UsesIn a → (place q).0 < k
       → InstructionFresh x k (instruction_of place m a q)
   unfolding instruction_of size_in FitIn uses_in Acts with_action zero_instruction Communicates action_fits
-  instruction-good m (out c t) q h f u l = (out_ok x.format x.addresses k t (place q) c f.1 l (f.0.sound _), f.0.fits _ refl)
-  instruction-good m (input c t) q h f u l = (in_ok x.format x.addresses k t (place q) c f.1 l (f.0.sound _), f.0.fits _ refl)
-  instruction-good m (read c t) q h f u l = (read_ok x.format x.addresses k t (place q) c f.1 l (f.0.sound _), f.0.fits _ refl)
-  instruction-good m (eval p t) q h f u l = ((f.1, start_below (suc m) p h u, l, refl), bare_fits _ refl)
-  instruction-good m (newloc v) q h f u l = ((f, l, refl), bare_fits _ refl)
-  instruction-good m (out_all c g) q h (ok, s, two) u l =
-      (out-all-ok x.format x.addresses k g (place q) c two s.sound l (ok.sound _), ok.fits _ (lt-ltb _ 65536 s.fits))
+  instruction_good m (out c t) q h f u l = (out_ok x.format x.addresses k t (place q) c f.1 l (f.0.sound _), f.0.fits _ refl)
+  instruction_good m (input c t) q h f u l = (in_ok x.format x.addresses k t (place q) c f.1 l (f.0.sound _), f.0.fits _ refl)
+  instruction_good m (read c t) q h f u l = (read_ok x.format x.addresses k t (place q) c f.1 l (f.0.sound _), f.0.fits _ refl)
+  instruction_good m (eval p t) q h f u l = ((f.1, start_below (suc m) p h u, l, refl), bare_fits _ refl)
+  instruction_good m (newloc v) q h f u l = ((f, l, refl), bare_fits _ refl)
+  instruction_good m (out_all c g) q h (ok, s, two) u l =
+      (out_all_ok x.format x.addresses k g (place q) c two s.sound l (ok.sound _), ok.fits _ (lt-ltb _ 65536 s.fits))
 
   fork_good : (p q : Start) → (place p).0 < k → (place q).0 < k → InstructionFresh x k (fork_of place p q)
   unfolding fork_of Acts with_action zero_instruction action_fits
@@ -109,7 +109,7 @@ module _ (x : Scope) (k : ℕ) (place : Start → Place) (Right : ℕ → Type 0
     code_good m (act a p) h f u =
         let ua : UsesIn a = λ j e. u j (in_first (uses_in j a) (uses j p) e) in
         let up : Uses p = λ j e. u j (in_second (uses_in j a) (uses j p) e) in
-        more (instruction-good m a (start_of (suc m + size_in a) p) (omega arith) f.0 ua (start_below (suc m + size_in a) p (omega arith) up))
+        more (instruction_good m a (start_of (suc m + size_in a) p) (omega arith) f.0 ua (start_below (suc m + size_in a) p (omega arith) up))
         (each_both _ _ (inner_good (suc m) a (omega arith) f.0 ua) (code_good (suc m + size_in a) p (omega arith) f.1 up))
 
     inner_good : (m : ℕ) (a : Action) → m + size_in a ≤ k → FitIn x a → UsesIn a → Good (code_in place m a)

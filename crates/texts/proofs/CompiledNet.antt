@@ -10,7 +10,7 @@ use lib.Seq.{sets}
 use borrow.Author.Tests.{eqb-true}
 use Rattle.net.specs.Choice.{choose}
 use Rattle.net.specs.Records.{address_of}
-use Rattle.net.proofs.Every.{filled-set}
+use Rattle.net.proofs.Every.{filled_set}
 use Rattle.net.proofs.ReadingLaws.{never}
 use Rattle.sound.proofs.NodeFacts.{RowsOk}
 use Rattle.text.specs.Buffer.{over}
@@ -32,14 +32,14 @@ use Rattle.texts.proofs.FreshParts.{fresh_rows, fresh_process, fresh_tuple, owne
 use Rattle.texts.proofs.Compiled.{in_first, in_second, code_length, code_good, start_below}
 
 -- ---- rows
-ruled-fresh :
+ruled_fresh :
     (x : Scope) (k i : ℕ) (rss : List (List Row)) (s : Net) → x.addresses ≤ 16 → i + length rss ≤ x.addresses
     → Each (RowsOk x.format x.addresses) rss → NetFresh x k s → NetFresh x k (ruled i rss s)
 unfolding ruled
-ruled-fresh x k i [] s few h none ok = ok
-ruled-fresh x k i (rs ∷ rss) s few h (more g e) ok =
+ruled_fresh x k i [] s few h none ok = ok
+ruled_fresh x k i (rs ∷ rss) s few h (more g e) ok =
     let l : i < x.addresses = omega arith in
-    ruled-fresh x k (suc i) rss _ few (omega arith) e
+    ruled_fresh x k (suc i) rss _ few (omega arith) e
     (fresh_with few s ok (address_of i) l _ (fresh_rows x k _ (fresh_at few s ok (address_of i) l) rs g)
     (owned_rows (address_of i) _ (owned_at few s ok (address_of i) l) rs))
 
@@ -59,15 +59,15 @@ module _ (x : Scope) (k : ℕ) (few : x.addresses ≤ 16) (all : List Line) (who
     body_good : Fit x p → Each (InstructionFresh x k) (code_of (place_in all) m p)
     body_good f = code_good x k (place_in all) Right (here_below all k whole) (name_below all k whole) m p h f u
 
-  placed-fresh :
+  placed_fresh :
       (m : ℕ) (l : Line) (s : Net) → m + size_of l ≤ k → LineOk x l → UsedLine l → NetFresh x k s
       → NetFresh x k (placed (place_in all) m l s)
   unfolding placed size_of LineOk uses_line
-  placed-fresh m (definition j p) s h f u ok = ok
-  placed-fresh m (process a p) s h f u ok =
+  placed_fresh m (definition j p) s h f u ok = ok
+  placed_fresh m (process a p) s h f u ok =
       fresh_with few s ok a f.0 _ (fresh_process x k _ (fresh_at few s ok a f.0) a _ _ f.0 (body_below m p h u))
       (owned_process a _ (owned_at few s ok a f.0) _ _)
-  placed-fresh m (tuple a t) s h f u ok =
+  placed_fresh m (tuple a t) s h f u ok =
       fresh_with few s ok a f.0 _ (fresh_tuple x k _ (fresh_at few s ok a f.0) a t f.0 f.1)
       (owned_tuple a _ (owned_at few s ok a f.0) t)
 
@@ -87,14 +87,14 @@ module _ (x : Scope) (k : ℕ) (few : x.addresses ≤ 16) (all : List Line) (who
   abbrev Used : List Line → Type 0
   Used ls = (j : ℕ) → used j ls ≡ true → Right j
 
-  peopled-fresh :
+  peopled_fresh :
       (m : ℕ) (ls : List Line) (s : Net) → m + total ls ≤ k → Each (LineOk x) ls → Used ls → NetFresh x k s
       → NetFresh x k (peopled (place_in all) m ls s)
   unfolding peopled total used
-  peopled-fresh m [] s h none u ok = ok
-  peopled-fresh m (l ∷ ls) s h (more f e) u ok =
-      peopled-fresh (m + size_of l) ls _ (omega arith) e (λ j g. u j (in_second (uses_line j l) (used j ls) g))
-      (placed-fresh m l s (omega arith) f (λ j g. u j (in_first (uses_line j l) (used j ls) g)) ok)
+  peopled_fresh m [] s h none u ok = ok
+  peopled_fresh m (l ∷ ls) s h (more f e) u ok =
+      peopled_fresh (m + size_of l) ls _ (omega arith) e (λ j g. u j (in_second (uses_line j l) (used j ls) g))
+      (placed_fresh m l s (omega arith) f (λ j g. u j (in_first (uses_line j l) (used j ls) g)) ok)
 
   code_from_law : (m : ℕ) (ls : List Line) → m + total ls ≤ k → Each (LineOk x) ls → Used ls → Each (InstructionFresh x k) (code_from (place_in all) m ls)
   unfolding code_from total used
@@ -116,7 +116,7 @@ stored :
     (x : Scope) (k i : ℕ) (cs xs : List Instruction) → i + length cs ≤ k → Each (InstructionFresh x k) cs → CodeFresh x k xs
     → CodeFresh x k (sets xs i cs)
 stored x k i [] xs h none e = e
-stored x k i (c ∷ cs) xs h (more g d) e = stored x k (suc i) cs (set xs i c) (omega arith) d (filled-set i c (omega arith) g e)
+stored x k i (c ∷ cs) xs h (more g d) e = stored x k (suc i) cs (set xs i c) (omega arith) d (filled_set i c (omega arith) g e)
 
 -- ---- a name that is used is below 512
 one_of : {C : Type 0} (a b : Bool) → choose a true b ≡ true → (a ≡ true → C) → (b ≡ true → C) → C
@@ -153,17 +153,17 @@ used_below x j [] none e = never e
 used_below x j (l ∷ ls) (more f d) e = one_of (uses_line j l) (used j ls) e (line_below x j l f) (λ g. used_below x j ls d g)
 
 -- ---- the whole
-pub compiled-parts :
+pub compiled_parts :
     (f : ℕ) (x : Source) → SourceOk f x → names_right x.lines ≡ true → NetFresh (scope_of x.policy) (total x.lines) (compiled x)
 unfolding compiled governed scope_of with_code over
-compiled-parts f x ok right =
+compiled_parts f x ok right =
     let scope : Scope = scope_of x.policy in
     let k : ℕ = total x.lines in
     let u : (j : ℕ) → used j x.lines ≡ true → is_here (settled x.lines (called j)) ≡ true =
     λ j e. used_settles x.lines right j (used_below scope j x.lines ok.lines_ok e) e in
     let few = ok.policy_ok.few in
-    let net = peopled-fresh scope k few x.lines (omega arith) right 0 x.lines _ (omega arith) ok.lines_ok u
-    (ruled-fresh scope k 0 (rows_of x.policy) _ few (omega (arith, length_rows x.policy)) ok.policy_ok.each (empty_fresh scope k)) in
+    let net = peopled_fresh scope k few x.lines (omega arith) right 0 x.lines _ (omega arith) ok.lines_ok u
+    (ruled_fresh scope k 0 (rows_of x.policy) _ few (omega (arith, length_rows x.policy)) ok.policy_ok.each (empty_fresh scope k)) in
     record {
       format_is = net.format_is;
       addresses_are = net.addresses_are;

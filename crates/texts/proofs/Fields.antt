@@ -15,12 +15,12 @@ use Rattle.fields.specs.Fields.{own_target, held_target, written_target, target}
 use Rattle.net.proofs.ReadingLaws.{never}
 use Rattle.sound.proofs.NodeFacts.{TupleOk}
 use Rattle.sound.proofs.NodeChanges.{Filling, no_field, next_field, all_fields}
-use Rattle.sound.proofs.Drafts.{SuitsNext, suited, Fresh, suits_reading, suits_address, Drafted, no_pattern, next-pattern, Whole, whole}
+use Rattle.sound.proofs.Drafts.{SuitsNext, suited, Fresh, suits_reading, suits_address, Drafted, no_pattern, next_pattern, Whole, whole}
 use Rattle.fresh.specs.Fresh.{reading_fits, item_fits, pattern_fits, tuple_fits, action_fits, instruction_fits}
 use Rattle.texts.specs.Types.{Locality, Tuple, Pattern, Action, Instruction}
 use Rattle.texts.specs.TextClaims.{count, formal_in_out, formal_twice, astray}
 use Rattle.texts.specs.TextClaims as Number
-use Rattle.texts.proofs.Gives.{Any, Gives, gives_pure, gives_weaken, gives_then, gives-and, gives_choice, gives_require, gives-tested}
+use Rattle.texts.proofs.Gives.{Any, Gives, gives_pure, gives_weaken, gives_then, gives_and, gives_choice, gives_require, gives_tested}
 use Rattle.texts.proofs.Gives.{gives_look, gives_fail, gives_byte, gives_word, gives_optional, gives_number}
 use Rattle.texts.proofs.Fits as Fits
 use Rattle.texts.proofs.Fits.{ItemsFit, PatternsFit, marked_fits, template_fits}
@@ -29,7 +29,7 @@ use Rattle.texts.proofs.Fits.{ItemsFit, PatternsFit, marked_fits, template_fits}
 pub gives_address : (n : ℕ) → Gives (address n) (λ l. l.0 < n)
 unfolding address
 gives_address n =
-    gives_then (gives_number 15) (λ l _. gives-and (gives_require _ 23 Number.address) (λ _ h. gives_pure _ _ (ltb-true l n h)))
+    gives_then (gives_number 15) (λ l _. gives_and (gives_require _ 23 Number.address) (λ _ h. gives_pure _ _ (ltb-true l n h)))
 
 pub gives_variable : Gives variable (λ v. v < 8)
 unfolding variable
@@ -39,33 +39,33 @@ gives_reading : Gives reading (λ x. reading_fits x ≡ true)
 unfolding reading negative positive reading_fits
 gives_reading =
     gives_look _ _ (λ b. gives_choice _ _ _ _
-    (gives-and (gives_byte 45) (λ _ _. gives_then (gives_number 2147483648) (λ v h. gives-and (gives_require _ 31 astray) (λ _ e.
+    (gives_and (gives_byte 45) (λ _ _. gives_then (gives_number 2147483648) (λ v h. gives_and (gives_require _ 31 astray) (λ _ e.
     gives_pure _ _ (lt-ltb (v - 1) 2147483648 (omega (arith, leb-true 1 v e)))))))
     (gives_then (gives_number 2147483647) (λ v h. gives_pure _ _ (lt-ltb v 2147483648 (omega arith)))))
 
 gives_at_address : (n : ℕ) → Gives (at_address n) (λ l. l.0 < n)
 unfolding at_address
-gives_at_address n = gives-and (gives_byte 64) (λ _ _. gives_address n)
+gives_at_address n = gives_and (gives_byte 64) (λ _ _. gives_address n)
 
 gives_held : Gives held (λ v. v < 8)
 unfolding held
-gives_held = gives-and (gives_byte 118) (λ _ _. gives_variable)
+gives_held = gives_and (gives_byte 118) (λ _ _. gives_variable)
 
 gives_own : Gives own Any
 unfolding own
 gives_own = gives_word _
 
 -- ---- one to four fields, each added to those before it
-gives-fields :
+gives_fields :
     {A : Type 0} (Part : ℕ → A → Type 0) (All : A → Type 0) (field : A → Reader A)
     → ((i : ℕ) (a : A) → i < 4 → Part i a → Gives (field a) (Part (suc i)))
     → ((i : ℕ) (a : A) → 1 ≤ i → i ≤ 4 → Part i a → All a)
     → (k i : ℕ) (a : A) → k + i ≡ 4 → Part i a → Gives (fields k field a) All
 unfolding fields
-gives-fields Part All field turn end zero i a e ok = gives_fail All 22 count
-gives-fields Part All field turn end (suc k) i a e ok =
+gives_fields Part All field turn end zero i a e ok = gives_fail All 22 count
+gives_fields Part All field turn end (suc k) i a e ok =
     gives_then (turn i a (omega arith) ok) (λ b next. gives_then (gives_optional 44) (λ more _. gives_choice All more _ _
-    (gives-fields Part All field turn end k (suc i) b (omega arith) next)
+    (gives_fields Part All field turn end k (suc i) b (omega arith) next)
     (gives_pure All b (end (suc i) b (omega arith) (omega arith) next))))
 
 -- ---- tuples
@@ -84,13 +84,13 @@ pub record TupleRead (n : ℕ) (t : Tuple) : Type 0 where
 pub gives_tuple : (n : ℕ) → Gives (tuple n) (TupleRead n)
 unfolding tuple tupleField
 gives_tuple n =
-    gives-and (gives_byte 60) (λ _ _. gives_then
-    (gives-fields (λ i t. Filling n i t × ItemsFit t) (TupleRead n) (tupleField n)
+    gives_and (gives_byte 60) (λ _ _. gives_then
+    (gives_fields (λ i t. Filling n i t × ItemsFit t) (TupleRead n) (tupleField n)
     (λ i t h ok. gives_then (gives_item n) (λ x e.
     gives_pure _ _ (next_field n i t _ h ok.0 e.0, Fits.next_item t _ ok.1 e.1)))
     (λ i t h g ok. record { sound = λ a l. all_fields n i t a h g l ok.0; fits = λ a. marked_fits a t ok.1 })
     4 0 zero_tuple refl (no_field n, Fits.no_item))
-    (λ t ok. gives-and (gives_byte 62) (λ _ _. gives_pure _ t ok)))
+    (λ t ok. gives_and (gives_byte 62) (λ _ _. gives_pure _ t ok)))
 
 -- ---- templates
 
@@ -101,16 +101,16 @@ module _ (formals : Bool) (n : ℕ) (c : Instruction) where
 
   gives_fresh : Gives (fresh c) (Fresh formals n c)
   unfolding fresh
-  gives_fresh = gives-tested _ 27 formal_twice gives_variable
+  gives_fresh = gives_tested _ 27 formal_twice gives_variable
 
   gives_formal : Gives (formal formals c) Suits
   unfolding formal bound formal_reading formal_address pattern_fits
   gives_formal =
-      gives-and (gives_require formals 26 formal_in_out) (λ _ e. gives-and (gives_byte 33) (λ _ _.
+      gives_and (gives_require formals 26 formal_in_out) (λ _ e. gives_and (gives_byte 33) (λ _ _.
       gives_look _ _ (λ b. gives_choice _ _ _ _
-      (gives-and (gives_byte 120) (λ _ _. gives_then gives_fresh (λ v h.
+      (gives_and (gives_byte 120) (λ _ _. gives_then gives_fresh (λ v h.
       gives_pure _ _ (suits_reading formals n c v h (λ f. never (sym f ∙ e)), refl))))
-      (gives-and (gives_byte 117) (λ _ _. gives_then gives_fresh (λ v h.
+      (gives_and (gives_byte 117) (λ _ _. gives_then gives_fresh (λ v h.
       gives_pure _ _ (suits_address formals n c v h (λ f. never (sym f ∙ e)), refl)))))))
 
   gives_pattern : Gives (pattern formals n c) Suits
@@ -119,7 +119,7 @@ module _ (formals : Bool) (n : ℕ) (c : Instruction) where
       gives_look _ _ (λ b. gives_choice _ _ _ _ gives_formal
       (gives_choice _ _ _ _
       (gives_then (gives_at_address n) (λ l g. gives_pure _ _ (suited formals n c _ (lt-ltb l.0 n g) (λ _. refl) refl, refl)))
-      (gives_choice _ _ _ _ (gives-and gives_own (λ _ _. gives_pure _ _ (suited formals n c _ refl (λ _. refl) refl, refl)))
+      (gives_choice _ _ _ _ (gives_and gives_own (λ _ _. gives_pure _ _ (suited formals n c _ refl (λ _. refl) refl, refl)))
       (gives_choice _ _ _ _
       (gives_then gives_held (λ v g. gives_pure _ _ (suited formals n c _ (lt-ltb v 8 g) (λ _. refl) refl, refl)))
       (gives_then gives_reading (λ x h. gives_pure _ _ (suited formals n c _ refl (λ _. refl) refl, h)))))))
@@ -132,9 +132,9 @@ pub record TemplateRead (formals : Bool) (n : ℕ) (c : Instruction) : Type 0 wh
 pub gives_template : (formals : Bool) (n : ℕ) → Gives (template formals n) (TemplateRead formals n)
 unfolding template templateField
 gives_template formals n =
-    gives-fields (λ i c. Drafted formals n i c × PatternsFit c) (TemplateRead formals n) (templateField formals n)
+    gives_fields (λ i c. Drafted formals n i c × PatternsFit c) (TemplateRead formals n) (templateField formals n)
     (λ i c h ok. gives_then (gives_pattern formals n c) (λ x e.
-    gives_pure _ _ (next-pattern formals n i c _ h ok.0 e.0, Fits.next-pattern c _ ok.1 e.1)))
+    gives_pure _ _ (next_pattern formals n i c _ h ok.0 e.0, Fits.next_pattern c _ ok.1 e.1)))
     (λ i c h g ok. record { sound = λ a. whole formals n i c a h g ok.0; fits = template_fits c ok.1 })
     4 0 zero_instruction refl (no_pattern formals n, Fits.no_pattern)
 
@@ -142,6 +142,6 @@ gives_template formals n =
 pub gives_target : (n : ℕ) → Gives (target n) (λ t. target_sound n t ≡ true)
 unfolding target own_target held_target written_target target_sound
 gives_target n =
-    gives_look _ _ (λ b. gives_choice _ _ _ _ (gives-and gives_own (λ _ _. gives_pure _ _ refl))
+    gives_look _ _ (λ b. gives_choice _ _ _ _ (gives_and gives_own (λ _ _. gives_pure _ _ refl))
     (gives_choice _ _ _ _ (gives_then gives_held (λ v h. gives_pure _ _ (lt-ltb v 8 h)))
     (gives_then (gives_address n) (λ l h. gives_pure _ _ (lt-ltb l.0 n h)))))

@@ -8,7 +8,7 @@ use Rattle.net.proofs.Laws.{both_i}
 use Rattle.net.proofs.Every.{Every, chosen_lt, every_replicate, every_set}
 use Rattle.net.proofs.Past.{past_field, past_template}
 use Rattle.fresh.specs.Fresh.{reading_fits, item_fits, pattern_fits, tuple_fits, action_fits, instruction_fits}
-use Rattle.fresh.proofs.FitLaws.{array-fits}
+use Rattle.fresh.proofs.FitLaws.{array_fits}
 use Rattle.texts.specs.Types.{Locality, Field, Tuple, TemplateField, Action, Instruction}
 
 -- ---- tuples
@@ -26,7 +26,7 @@ next_item t f ok e =
 
 pub tuple_fits_law : (t : Tuple) → ItemsFit t → tuple_fits t ≡ true
 unfolding tuple_fits field_at
-tuple_fits_law t ok = array-fits (λ f. item_fits f.item) ok
+tuple_fits_law t ok = array_fits (λ f. item_fits f.item) ok
 
 pub marked_fits : (a : Locality) (t : Tuple) → ItemsFit t → tuple_fits (marked a t) ≡ true
 unfolding marked
@@ -40,13 +40,13 @@ pub no_pattern : PatternsFit zero_instruction
 unfolding zero_instruction zero_template_field pattern_fits reading_fits
 no_pattern = every_replicate _ past_template 4 zero_template_field (λ i h. refl)
 
-pub next-pattern :
+pub next_pattern :
     (c : Instruction) (f : TemplateField) → PatternsFit c → pattern_fits f.pattern ≡ true → PatternsFit (with_pattern c f)
 unfolding with_pattern
-next-pattern c f ok e =
+next_pattern c f ok e =
     chosen_lt PatternsFit c.count 4 _ _ (λ _. every_set c.count f ok (λ i g d h. h) e) (λ _. ok)
 
 pub template_fits :
     (c : Instruction) → PatternsFit c → (a : Action) → action_fits a ≡ true → instruction_fits (with_action c a) ≡ true
 unfolding instruction_fits pattern_at with_action
-template_fits c ok a e = both_i _ _ e (array-fits (λ f. pattern_fits f.pattern) ok)
+template_fits c ok a e = both_i _ _ e (array_fits (λ f. pattern_fits f.pattern) ok)

@@ -8,7 +8,7 @@ use lib.Dec.{ltb}
 use Rattle.net.specs.Choice.{both, all}
 use Rattle.net.specs.Records.{address_of, process_at, node_at}
 use Rattle.net.proofs.Laws.{both_i, all_i}
-use Rattle.net.proofs.Every.{filled-each, filled-map}
+use Rattle.net.proofs.Every.{filled_each, filled_map}
 use Rattle.sound.specs.Soundness.{all_unset, sound_of}
 use Rattle.sound.proofs.NodeFacts.{of_zero}
 use Rattle.sound.proofs.NetFacts.{net_sound}
@@ -25,7 +25,7 @@ use Rattle.notation.specs.Scopes.{scope_of}
 use Rattle.texts.specs.Types.{Locality}
 use Rattle.texts.proofs.FreshParts.{zero_fresh, node_fits_law, own_origins_law, own_marks_law, NetFresh}
 use Rattle.texts.proofs.Lines.{SourceOk}
-use Rattle.texts.proofs.CompiledNet.{compiled-parts}
+use Rattle.texts.proofs.CompiledNet.{compiled_parts}
 
 format_range : (x : Policy) → (1 ≤ format_of x) × (format_of x ≤ 2)
 unfolding format_of
@@ -34,7 +34,7 @@ format_range (by_origin rss) = omega arith
 
 module _ (f : ℕ) (x : Source) (ok : SourceOk f x) (right : names_right x.lines ≡ true) where
   parts : NetFresh (scope_of x.policy) (total x.lines) (compiled x)
-  parts = compiled-parts f x ok right
+  parts = compiled_parts f x ok right
 
   pub compiled_format : (compiled x).format ≡ f
   unfolding scope_of
@@ -45,11 +45,11 @@ module _ (f : ℕ) (x : Source) (ok : SourceOk f x) (right : names_right x.lines
       net_fits_law (compiled x)
       (record {
         size_is = parts.nodes.size_is;
-        holds = filled-each {Q = λ y. node_fits y ≡ true} parts.nodes (node_fits_law _ _) (of_zero _ zero_node_fits);
+        holds = filled_each {Q = λ y. node_fits y ≡ true} parts.nodes (node_fits_law _ _) (of_zero _ zero_node_fits);
       })
       (record {
         size_is = parts.code.size_is;
-        holds = filled-each {Q = λ c. instruction_fits c ≡ true} parts.code (λ c g. g.1) (of_zero _ zero_instruction_fits);
+        holds = filled_each {Q = λ c. instruction_fits c ≡ true} parts.code (λ c g. g.1) (of_zero _ zero_instruction_fits);
       })
 
   sound : 1 ≤ total x.lines → total x.lines ≤ 512 → sound_of (compiled x) ≡ true
@@ -63,8 +63,8 @@ module _ (f : ℕ) (x : Source) (ok : SourceOk f x) (right : names_right x.lines
         addresses_most = ok.policy_ok.few;
         length_least = some;
         length_most = few;
-        nodes_ok = filled-map (λ y g. g.sound) (λ y e. e) parts.nodes;
-        code_ok = filled-map (λ c g. g.0) (λ c e. e) parts.code;
+        nodes_ok = filled_map (λ y g. g.sound) (λ y e. e) parts.nodes;
+        code_ok = filled_map (λ c g. g.0) (λ c e. e) parts.code;
       }))
 
   -- ---- each node as it starts
@@ -77,7 +77,7 @@ module _ (f : ℕ) (x : Source) (ok : SourceOk f x) (right : names_right x.lines
   unset : (a : Locality) → a.0 < 16 → (i : ℕ) → i < 4 → all_unset (process_at (node_at (compiled x) a) i) ≡ true
   unfolding node_at process_at
   unset a h =
-      filled-each {Q = λ y. (i : ℕ) → i < 4 → all_unset (process_at y i) ≡ true} parts.nodes
+      filled_each {Q = λ y. (i : ℕ) → i < 4 → all_unset (process_at y i) ≡ true} parts.nodes
       (λ y g. g.unset.holds) (of_zero _ (zero_fresh (scope_of x.policy) 1).unset.holds) a.0 h
 
   own : (a : Locality) → a.0 < 16 → both (own_origins a (node_at (compiled x) a)) (own_marks a (node_at (compiled x) a)) ≡ true
@@ -92,7 +92,7 @@ module _ (f : ℕ) (x : Source) (ok : SourceOk f x) (right : names_right x.lines
       let c = counts.at (address_of a) h in
       both_i _ _ (node_starts_law _ (λ i l. c.slots i l ∙ ap (ltb i) (sym c.processes)) (unset (address_of a) h)) (own (address_of a) h))
 
-  pub compiled-fresh :
+  pub compiled_fresh :
       1 ≤ total x.lines → total x.lines ≤ 512 → admits (compiled x) ≡ true → fresh_of (compiled x) ≡ true
   unfolding fresh_of
-  compiled-fresh some few kept = both_i _ _ fits (both_i _ _ (sound some few) (both_i _ _ starts kept))
+  compiled_fresh some few kept = both_i _ _ fits (both_i _ _ (sound some few) (both_i _ _ starts kept))

@@ -10,7 +10,7 @@ use borrow.Author.Tests.{ltb-true, eq-eqb}
 use Rattle.net.specs.Records.{free_process, starting_at, zero_tuple, zero_node, zero_instruction, address_of, row_at, process_at, tuple_at, node_at}
 use Rattle.net.specs.Records.{empty_net, marked, with_rows, with_process, with_tuple, with_node, with_counts, with_format, with_action}
 use Rattle.net.proofs.Laws.{both_i, implies_i, all_i}
-use Rattle.net.proofs.Every.{chosen_lt, Every, Filled, every_replicate, every_set, filled-set}
+use Rattle.net.proofs.Every.{chosen_lt, Every, Filled, every_replicate, every_set, filled_set}
 use Rattle.net.proofs.Past.{past_row, past_process, past_tuple, past_node, past_instruction}
 use Rattle.net.proofs.ReadingLaws.{never}
 use Rattle.sound.specs.Soundness.{all_unset}
@@ -20,7 +20,7 @@ use Rattle.sound.proofs.CodeFacts.{InstructionOk}
 use Rattle.sound.proofs.NetChanges.{zero_instruction_law}
 use Rattle.fresh.specs.Fresh.{tuple_fits, row_fits, process_fits, node_fits, action_fits, instruction_fits}
 use Rattle.fresh.specs.Fresh.{own_origin, own_origins, own_mark, own_marks}
-use Rattle.fresh.proofs.FitLaws.{array-fits, action_fits_law, zero_instruction_fits}
+use Rattle.fresh.proofs.FitLaws.{array_fits, action_fits_law, zero_instruction_fits}
 use Rattle.fresh.proofs.StartLaws.{free_unset, starting_unset}
 use Rattle.linking.specs.Compiled.{unruled}
 use Rattle.texts.specs.Types.{Scope, Locality, Place, Row, Tuple, Node, Action, Instruction, Net}
@@ -90,8 +90,8 @@ module _ (x : Scope) (k : ℕ) where
         record { size_is = shape.rows_are; holds = λ o h. eq-eqb _ _ (shape.each_row (address_of o) h).rights_are } in
         let processes : Every (λ i p. process_fits p ≡ true) past_process 4 y.processes =
         record { size_is = shape.processes_are; holds = λ i h. eq-eqb _ _ (shape.each_process i h).variables_are } in
-        both_i _ _ (array-fits row_fits rows)
-        (both_i _ _ (array-fits process_fits processes) (array-fits tuple_fits ok.fit))
+        both_i _ _ (array_fits row_fits rows)
+        (both_i _ _ (array_fits process_fits processes) (array_fits tuple_fits ok.fit))
 
 -- ---- each process of the node at address m has m as its origin, and each tuple m's mark
 pub record Owned (m : ℕ) (x : Node) : Type 0 where
@@ -172,7 +172,7 @@ module _ {x : Scope} {k : ℕ} (few : x.addresses ≤ 16) (s : Net) (ok : NetFre
     format_is = ok.format_is;
     addresses_are = ok.addresses_are;
     length_is = ok.length_is;
-    nodes = filled-set a.0 y h g ok.nodes;
+    nodes = filled_set a.0 y h g ok.nodes;
     owned = every_set a.0 y ok.owned (λ j z d e. e) o;
     code = ok.code;
   }

@@ -18,7 +18,7 @@ use Rattle.rows.specs.OriginRows.{is_origin_row}
 use Rattle.rows.specs.Policies.{policy}
 use Rattle.texts.specs.Types.{Locality, Scope}
 use Rattle.texts.specs.TextClaims.{count}
-use Rattle.texts.proofs.Gives.{Fine, Gives, gives_pure, gives_then, gives-and, gives_choice, gives_require}
+use Rattle.texts.proofs.Gives.{Fine, Gives, gives_pure, gives_then, gives_and, gives_choice, gives_require}
 use Rattle.texts.proofs.Gives.{gives_look, gives_byte, gives_word}
 use Rattle.texts.proofs.Fields.{gives_address, TupleRead, gives_tuple}
 use Rattle.texts.proofs.Terms.{Fit, gives_named, gives_process}
@@ -41,27 +41,27 @@ module _ (x : Scope) (few : x.addresses ≤ 16) where
     gives_definition_line : Gives (definition_line x) (Next ls)
     unfolding definition_line LineOk HasRoom
     gives_definition_line =
-        gives_then gives_named (λ k h. gives-and (gives_word _) (λ _ _. gives_then (gives_process x) (λ p ok.
-        gives-and (gives_byte 10) (λ _ _. gives_pure _ _ ((h, ok), tt)))))
+        gives_then gives_named (λ k h. gives_and (gives_word _) (λ _ _. gives_then (gives_process x) (λ p ok.
+        gives_and (gives_byte 10) (λ _ _. gives_pure _ _ ((h, ok), tt)))))
 
     module _ (a : Locality) (h : a.0 < x.addresses) where
       gives_process_line : Gives (process_line x ls a) (Next ls)
       unfolding process_line LineOk HasRoom
       gives_process_line =
-          gives-and (gives_require _ 22 count) (λ _ e. gives_then (gives_process x) (λ p ok.
-          gives-and (gives_byte 10) (λ _ _. gives_pure _ _ ((h, ok), (omega arith, ltb-true _ 4 e)))))
+          gives_and (gives_require _ 22 count) (λ _ e. gives_then (gives_process x) (λ p ok.
+          gives_and (gives_byte 10) (λ _ _. gives_pure _ _ ((h, ok), (omega arith, ltb-true _ 4 e)))))
 
       gives_tuple_line : Gives (tuple_line x ls a) (Next ls)
       unfolding tuple_line LineOk HasRoom
       gives_tuple_line =
-          gives-and (gives_require _ 22 count) (λ _ e. gives_then (gives_tuple x.addresses) (λ t ok.
-          gives-and (gives_byte 10) (λ _ _. gives_pure _ _ ((h, ok), (omega arith, ltb-true _ 16 e)))))
+          gives_and (gives_require _ 22 count) (λ _ e. gives_then (gives_tuple x.addresses) (λ t ok.
+          gives_and (gives_byte 10) (λ _ _. gives_pure _ _ ((h, ok), (omega arith, ltb-true _ 16 e)))))
 
     gives_line : Gives (line x ls) (Next ls)
     unfolding line located_line placed_line
     gives_line =
         gives_look _ _ (λ b. gives_choice _ _ _ _ gives_definition_line
-        (gives_then (gives_address x.addresses) (λ a h. gives-and (gives_word _) (λ _ _.
+        (gives_then (gives_address x.addresses) (λ a h. gives_and (gives_word _) (λ _ _.
         gives_look _ _ (λ c. gives_choice _ _ _ _ (gives_tuple_line a h) (gives_process_line a h))))))
 
   -- ---- all lines

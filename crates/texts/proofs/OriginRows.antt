@@ -26,7 +26,7 @@ use Rattle.rows.proofs.RuledLaws.{padded_at}
 use Rattle.texts.specs.Types.{Row}
 use Rattle.texts.specs.TextClaims.{TextNumber, count, astray}
 use Rattle.texts.specs.TextClaims as Number
-use Rattle.texts.proofs.Gives.{Any, Gives, gives_pure, gives_weaken, gives_then, gives-and, gives_choice, gives_require}
+use Rattle.texts.proofs.Gives.{Any, Gives, gives_pure, gives_weaken, gives_then, gives_and, gives_choice, gives_require}
 use Rattle.texts.proofs.Gives.{gives_fail, gives_word, gives_number}
 use Rattle.texts.proofs.Each.{Each, none, more, each_append, each_or, each_at, each_map}
 use Rattle.texts.proofs.Rows.{gives_row_rest, row_within, PolicyOk, Some, next_some, gives_rows}
@@ -39,8 +39,8 @@ gives_numbered i = gives_then (gives_number 15) (λ v _. gives_weaken (gives_req
 gives_origin_row : (i j : ℕ) → Gives (origin_row i j) (RowOk 16)
 unfolding origin_row
 gives_origin_row i j =
-    gives-and (gives_numbered i) (λ _ _. gives-and (gives_word _) (λ _ _.
-    gives-and (gives_numbered j) (λ _ _. gives-and (gives_word _) (λ _ _. gives_row_rest))))
+    gives_and (gives_numbered i) (λ _ _. gives_and (gives_word _) (λ _ _.
+    gives_and (gives_numbered j) (λ _ _. gives_and (gives_word _) (λ _ _. gives_row_rest))))
 
 -- ---- those of node 0
 gives_fault_where : (test : List ℕ → ℕ → Bool) (n : ℕ) → TextNumber n → Gives (fault_where test n) Any
@@ -51,7 +51,7 @@ gives_fault_where test n h = record {
 
 gives_first_after : (k : ℕ) (rs : List Row) → k + length rs ≡ 16 → Some 1 rs → Gives (first_after k rs) (Some 1)
 unfolding first_after
-gives_first_after zero rs e ok = gives-and (gives_fault_where (names_node 0) 22 count) (λ _ _. gives_pure (Some 1) rs ok)
+gives_first_after zero rs e ok = gives_and (gives_fault_where (names_node 0) 22 count) (λ _ _. gives_pure (Some 1) rs ok)
 gives_first_after (suc k) rs e ok = record {
   run = λ s p. (gives_choice (Some 1) (names_node 0 s p) _ _
       (gives_then (gives_origin_row 0 (length rs)) (λ r h.
@@ -69,28 +69,28 @@ gives_first_rows =
 abbrev Counted : {A : Type 0} → (A → Type 0) → ℕ → List A → Type 0
 Counted P n xs = (length xs ≡ n) × Each P xs
 
-gives-nodeRowsAfter :
+gives_node_rows_after :
     (n k i : ℕ) (rs : List Row) → k + length rs ≡ n → Each (RowOk 16) rs → Gives (node_rows_after k i rs) (Counted (RowOk 16) n)
 unfolding node_rows_after
-gives-nodeRowsAfter n zero i rs e ok = gives_pure _ rs (omega arith, ok)
-gives-nodeRowsAfter n (suc k) i rs e ok =
+gives_node_rows_after n zero i rs e ok = gives_pure _ rs (omega arith, ok)
+gives_node_rows_after n (suc k) i rs e ok =
     gives_then (gives_origin_row i (length rs)) (λ r h.
-    gives-nodeRowsAfter n k i (rs ++ (r ∷ [])) (let l = length-append rs (r ∷ []) in omega arith) (each_append rs r ok h))
+    gives_node_rows_after n k i (rs ++ (r ∷ [])) (let l = length-append rs (r ∷ []) in omega arith) (each_append rs r ok h))
 
 gives_node_rows : (n i : ℕ) → Gives (node_rows n i) (Counted (RowOk 16) n)
 unfolding node_rows
 gives_node_rows n i =
-    gives_then (gives-nodeRowsAfter n n i [] (omega arith) none) (λ rs ok.
-    gives-and (gives_fault_where _ 22 count) (λ _ _. gives_pure _ rs ok))
+    gives_then (gives_node_rows_after n n i [] (omega arith) none) (λ rs ok.
+    gives_and (gives_fault_where _ 22 count) (λ _ _. gives_pure _ rs ok))
 
-gives-nodesAfter :
+gives_nodes_after :
     (m k n : ℕ) (rss : List (List Row)) → k + length rss ≡ m → Each (Counted (RowOk 16) n) rss
     → Gives (nodes_after k n rss) (Counted (Counted (RowOk 16) n) m)
 unfolding nodes_after
-gives-nodesAfter m zero n rss e ok = gives_pure _ rss (omega arith, ok)
-gives-nodesAfter m (suc k) n rss e ok =
+gives_nodes_after m zero n rss e ok = gives_pure _ rss (omega arith, ok)
+gives_nodes_after m (suc k) n rss e ok =
     gives_then (gives_node_rows n (length rss)) (λ rs h.
-    gives-nodesAfter m k n (rss ++ (rs ∷ [])) (let l = length-append rss (rs ∷ []) in omega arith) (each_append rss rs ok h))
+    gives_nodes_after m k n (rss ++ (rs ∷ [])) (let l = length-append rss (rs ∷ []) in omega arith) (each_append rss rs ok h))
 
 -- ---- all: a row for each origin in use, and none for the others
 filled_rows : (n : ℕ) (rs : List Row) → n ≤ 16 → length rs ≡ n → Each (RowOk n) rs → RowsOk 2 n (filled rs)
@@ -131,9 +131,9 @@ gives_origin_rows : Gives origin_rows (λ rss. PolicyOk 2 (by_origin rss))
 unfolding origin_rows
 gives_origin_rows =
     gives_then gives_first_rows (λ rs ok. gives_then
-    (gives-nodesAfter (length rs) (length rs - 1) (length rs) (rs ∷ []) (omega (arith, ok.least)) (more (refl, ok.each) none))
-    (λ rss all. gives-and (gives_fault_where is_origin_row _ (over_number (length rs))) (λ _ _.
-    gives-and (gives_require _ 23 Number.address) (λ _ h. gives_pure _ rss (origin_ok (length rs) rss ok.least ok.most all h)))))
+    (gives_nodes_after (length rs) (length rs - 1) (length rs) (rs ∷ []) (omega (arith, ok.least)) (more (refl, ok.each) none))
+    (λ rss all. gives_and (gives_fault_where is_origin_row _ (over_number (length rs))) (λ _ _.
+    gives_and (gives_require _ 23 Number.address) (λ _ h. gives_pure _ rss (origin_ok (length rs) rss ok.least ok.most all h)))))
 
 -- ---- policies: rows by origin where the first line is one
 pub gives_policy : (first : Bool) → Gives (choose first rows_by_origin plain_rows) (PolicyOk (choose first 2 1))

@@ -11,7 +11,7 @@ use borrow.Author.Tests.{leb-true, le-leb, eq-eqb}
 use Rattle.net.specs.Choice.{choose}
 use Rattle.net.specs.Records.{no_rights, zero_row, alike, rights_at, with_rights}
 use Rattle.net.proofs.Laws.{implies_e, all_e}
-use Rattle.net.proofs.Every.{filled-set}
+use Rattle.net.proofs.Every.{filled_set}
 use Rattle.net.proofs.ReadingLaws.{never}
 use Rattle.sound.proofs.NodeFacts.{RowOk, RowsOk}
 use Rattle.sound.proofs.NodeChanges.{zero_row_law, alike_rows}
@@ -21,7 +21,7 @@ use Rattle.rows.specs.Rows.{is_row, any_right, rights, granted, grants, creates,
 use Rattle.texts.specs.Types.{Row}
 use Rattle.texts.specs.TextClaims.{count, astray}
 use Rattle.texts.specs.TextClaims as Number
-use Rattle.texts.proofs.Gives.{Any, Gives, gives_pure, gives_then, gives-and, gives_choice, gives_require}
+use Rattle.texts.proofs.Gives.{Any, Gives, gives_pure, gives_then, gives_and, gives_choice, gives_require}
 use Rattle.texts.proofs.Gives.{gives_fail, gives_byte, gives_word, gives_optional, gives_number}
 use Rattle.texts.proofs.Each.{Each, none, each_append, each_at, each_map}
 
@@ -30,13 +30,13 @@ gives_rights : Gives rights Any
 unfolding rights
 gives_rights =
     gives_then (gives_optional 105) (λ i _. gives_then (gives_optional 114) (λ r _. gives_then (gives_optional 111) (λ o _.
-    gives_then (gives_optional 101) (λ e _. gives-and (gives_require _ 31 astray) (λ _ _. gives_pure Any _ tt)))))
+    gives_then (gives_optional 101) (λ e _. gives_and (gives_require _ 31 astray) (λ _ _. gives_pure Any _ tt)))))
 
 gives_granted : (low : ℕ) → Gives (granted low) (λ l. l < 16)
 unfolding granted
 gives_granted low =
-    gives_then (gives_number 15) (λ l h. gives-and (gives_require _ 31 astray) (λ _ _.
-    gives-and (gives_byte 58) (λ _ _. gives_pure _ l (omega arith))))
+    gives_then (gives_number 15) (λ l h. gives_and (gives_require _ 31 astray) (λ _ _.
+    gives_and (gives_byte 58) (λ _ _. gives_pure _ l (omega arith))))
 
 gives_grants : (k low : ℕ) (r : Row) → RowOk 16 r → Gives (grants k low r) (RowOk 16)
 unfolding grants with_rights
@@ -44,29 +44,29 @@ gives_grants zero low r ok = gives_pure _ r ok
 gives_grants (suc k) low r ok =
     gives_then (gives_optional 32) (λ more _. gives_choice _ more _ _
     (gives_then (gives_granted low) (λ l h. gives_then gives_rights (λ x _.
-    gives_grants k (l + 1) _ (filled-set l x h tt ok))))
+    gives_grants k (l + 1) _ (filled_set l x h tt ok))))
     (gives_pure _ r ok))
 
 gives_creates : Gives creates Any
 unfolding creates
 gives_creates = record {
-  run = λ s p. (gives_choice Any _ _ _ (gives-and (gives_word _) (λ _ _. gives_pure Any _ tt)) (gives_pure Any _ tt)).run s p;
+  run = λ s p. (gives_choice Any _ _ _ (gives_and (gives_word _) (λ _ _. gives_pure Any _ tt)) (gives_pure Any _ tt)).run s p;
 }
 
 gives_opening : (i : ℕ) → Gives (opening i) Any
 unfolding opening
 gives_opening i =
-    gives_then (gives_number 15) (λ l _. gives-and (gives_require _ 31 astray) (λ _ _. gives_word _))
+    gives_then (gives_number 15) (λ l _. gives_and (gives_require _ 31 astray) (λ _ _. gives_word _))
 
 pub gives_row_rest : Gives row_rest (RowOk 16)
 unfolding row_rest
 gives_row_rest =
     gives_then gives_creates (λ c _. gives_then (gives_grants 16 0 _ (zero_row_law 16)) (λ r ok.
-    gives-and (gives_byte 10) (λ _ _. gives_pure _ r ok)))
+    gives_and (gives_byte 10) (λ _ _. gives_pure _ r ok)))
 
 gives_row : (i : ℕ) → Gives (row i) (RowOk 16)
 unfolding row
-gives_row i = gives-and (gives_opening i) (λ _ _. gives_row_rest)
+gives_row i = gives_and (gives_opening i) (λ _ _. gives_row_rest)
 
 -- ---- no right over an address without a row
 no_rights_law : (take read put send : Bool)
@@ -136,5 +136,5 @@ pub gives_rows : Gives rows (λ rs. PolicyOk 1 (plain rs))
 unfolding rows
 gives_rows =
     gives_then (gives_rows_after 16 [] refl (record { least = omega arith; most = omega arith; each = none })) (λ rs ok.
-    gives-and (gives_require _ 31 astray) (λ _ h. gives-and (gives_require _ 23 Number.address) (λ _ g.
+    gives_and (gives_require _ 31 astray) (λ _ h. gives_and (gives_require _ 23 Number.address) (λ _ g.
     gives_pure _ rs (plain_ok rs (leb-true 1 (length rs) h) ok g))))

@@ -17,7 +17,7 @@ use Rattle.fields.specs.Sets.{group_of, no_members, member_from, members, listed
 use Rattle.fields.proofs.SetLaws.{group_low, member_marked}
 use Rattle.texts.specs.Types.{Group}
 use Rattle.texts.specs.TextClaims.{astray}
-use Rattle.texts.proofs.Gives.{Gives, gives_pure, gives_then, gives-and, gives_choice, gives_require}
+use Rattle.texts.proofs.Gives.{Gives, gives_pure, gives_then, gives_and, gives_choice, gives_require}
 use Rattle.texts.proofs.Gives.{gives_look, gives_fail, gives_byte, gives_optional}
 use Rattle.texts.proofs.Fields.{gives_address}
 
@@ -44,7 +44,7 @@ module _ (n : ℕ) where
   gives_member_from : (low : ℕ) → Gives (member_from n low) (λ l. l < n)
   unfolding member_from
   gives_member_from low =
-      gives_then (gives_address n) (λ l h. gives-and (gives_require _ 31 astray) (λ _ _. gives_pure _ l.0 h))
+      gives_then (gives_address n) (λ l h. gives_and (gives_require _ 31 astray) (λ _ _. gives_pure _ l.0 h))
 
   gives_members : (k low : ℕ) (marks : List Bool) → Marked marks → Gives (members k n low marks) Marked
   unfolding members
@@ -62,7 +62,7 @@ module _ (n : ℕ) where
   pub gives_group : Gives (group n) (GroupRead n)
   unfolding group listed
   gives_group =
-      gives-and (gives_byte 123) (λ _ _. gives_then
+      gives_and (gives_byte 123) (λ _ _. gives_then
       (gives_look _ _ (λ b. gives_choice Marked _ _ _ (gives_pure Marked no_members no_mark) (gives_members 16 0 no_members no_mark)))
-      (λ marks ok. gives-and (gives_byte 125) (λ _ _.
+      (λ marks ok. gives_and (gives_byte 125) (λ _ _.
       gives_pure _ _ (record { sound = group_sound_law marks ok; fits = group_low marks }))))

@@ -18,7 +18,7 @@ use Rattle.processes.specs.Reading.{named, at_target, communication, to_one, to_
 use Rattle.processes.specs.Reading.{forked, stopped, called, ends_chain, ended, acting, chain, process_at, process}
 use Rattle.texts.specs.Types.{Scope, Target, Instruction}
 use Rattle.texts.specs.TextClaims.{astray, too_deep}
-use Rattle.texts.proofs.Gives.{Gives, gives_pure, gives_weaken, gives_then, gives-and, gives_choice, gives_look, gives_fail}
+use Rattle.texts.proofs.Gives.{Gives, gives_pure, gives_weaken, gives_then, gives_and, gives_choice, gives_look, gives_fail}
 use Rattle.texts.proofs.Gives.{gives_byte, gives_word, gives_number}
 use Rattle.texts.proofs.Fields.{gives_variable, TemplateRead, gives_template, gives_target}
 use Rattle.texts.proofs.Sets.{GroupRead, gives_group}
@@ -41,29 +41,29 @@ unfoldable mutual
 
 pub gives_named : Gives named (λ k. k < 512)
 unfolding named
-gives_named = gives-and (gives_byte 65) (λ _ _. gives_weaken (gives_number 511) (λ k h. omega arith))
+gives_named = gives_and (gives_byte 65) (λ _ _. gives_weaken (gives_number 511) (λ k h. omega arith))
 
 gives_at_target : (n : ℕ) → Gives (at_target n) (λ t. target_sound n t ≡ true)
 unfolding at_target
-gives_at_target n = gives-and (gives_word _) (λ _ _. gives_target n)
+gives_at_target n = gives_and (gives_word _) (λ _ _. gives_target n)
 
 not_one : (f : ℕ) → eqb f 2 ≡ true → eqb f 1 ≡ false
 not_one f e = ne_eqb f 1 (λ d. absurd (omega (arith, eqb-true f 2 e)))
 
 module _ (x : Scope) where
-  gives-communication :
+  gives_communication :
       (opening : List ℕ) (make : Instruction → Target → Action)
       → ((c : Instruction) (t : Target) → TemplateRead true x.addresses c → target_sound x.addresses t ≡ true → FitIn x (make c t))
       → Gives (communication opening make x) (FitIn x)
   unfolding communication
-  gives-communication opening make fit =
-      gives-and (gives_word opening) (λ _ _. gives_then (gives_template true x.addresses) (λ c ok.
+  gives_communication opening make fit =
+      gives_and (gives_word opening) (λ _ _. gives_then (gives_template true x.addresses) (λ c ok.
       gives_then (gives_at_target x.addresses) (λ t e. gives_pure _ _ (fit c t ok e))))
 
   gives_putting : Gives (putting x) (FitIn x)
   unfolding putting receiving to_one to_all FitIn
   gives_putting =
-      gives-and (gives_word _) (λ _ _. gives_then (gives_template false x.addresses) (λ c ok. gives-and (gives_word _) (λ _ _.
+      gives_and (gives_word _) (λ _ _. gives_then (gives_template false x.addresses) (λ c ok. gives_and (gives_word _) (λ _ _.
       gives_look _ _ (λ b. chosen (λ (m : Reader Action). Gives m (FitIn x)) _ _ _
       (λ e. gives_then (gives_group x.addresses) (λ g h. gives_pure _ _ (ok, h, not_one x.format (both_r (eqb b 123) _ e))))
       (λ _. gives_then (gives_target x.addresses) (λ t e. gives_pure _ _ (ok, e)))))))
@@ -72,16 +72,16 @@ module _ (x : Scope) where
   unfolding simple creation FitIn
   gives_simple =
       gives_look _ _ (λ b. gives_choice _ _ _ _ gives_putting
-      (gives_choice _ _ _ _ (gives-communication _ input (λ c t ok e. (ok, e)))
-      (gives_choice _ _ _ _ (gives-communication _ read (λ c t ok e. (ok, e)))
-      (gives-and (gives_word _) (λ _ _. gives_then gives_variable (λ v h. gives-and (gives_byte 41) (λ _ _. gives_pure _ _ h)))))))
+      (gives_choice _ _ _ _ (gives_communication _ input (λ c t ok e. (ok, e)))
+      (gives_choice _ _ _ _ (gives_communication _ read (λ c t ok e. (ok, e)))
+      (gives_and (gives_word _) (λ _ _. gives_then gives_variable (λ v h. gives_and (gives_byte 41) (λ _ _. gives_pure _ _ h)))))))
 
 module _ (inner : Reader Process) (x : Scope) (within : Gives inner (Fit x)) where
   gives_action : Gives (action inner x) (FitIn x)
   unfolding action evaluation FitIn
   gives_action =
       gives_look _ _ (λ b. gives_choice _ _ _ _
-      (gives-and (gives_word _) (λ _ _. gives_then within (λ p ok. gives_then (gives_at_target x.addresses) (λ t e. gives_pure _ _ (ok, e)))))
+      (gives_and (gives_word _) (λ _ _. gives_then within (λ p ok. gives_then (gives_at_target x.addresses) (λ t e. gives_pure _ _ (ok, e)))))
       (gives_simple x))
 
   gives_ended : Gives (ended inner) (Fit x)
@@ -89,14 +89,14 @@ module _ (inner : Reader Process) (x : Scope) (within : Gives inner (Fit x)) whe
   gives_ended =
       gives_look _ _ (λ b. gives_choice _ _ _ _ (gives_then gives_named (λ k h. gives_pure _ _ h))
       (gives_choice _ _ _ _
-      (gives-and (gives_byte 40) (λ _ _. gives_then within (λ p ok. gives-and (gives_word _) (λ _ _.
-      gives_then within (λ q ok'. gives-and (gives_byte 41) (λ _ _. gives_pure _ _ (ok, ok')))))))
-      (gives-and (gives_word _) (λ _ _. gives_pure _ _ tt))))
+      (gives_and (gives_byte 40) (λ _ _. gives_then within (λ p ok. gives_and (gives_word _) (λ _ _.
+      gives_then within (λ q ok'. gives_and (gives_byte 41) (λ _ _. gives_pure _ _ (ok, ok')))))))
+      (gives_and (gives_word _) (λ _ _. gives_pure _ _ tt))))
 
   gives_acting : (rest : Reader Process) → Gives rest (Fit x) → Gives (acting inner rest x) (Fit x)
   unfolding acting Fit
   gives_acting rest g =
-      gives_then gives_action (λ a ok. gives-and (gives_byte 46) (λ _ _. gives_then g (λ q ok'. gives_pure _ _ (ok, ok'))))
+      gives_then gives_action (λ a ok. gives_and (gives_byte 46) (λ _ _. gives_then g (λ q ok'. gives_pure _ _ (ok, ok'))))
 
   gives_chain : (k : ℕ) → Gives (chain k inner x) (Fit x)
   unfolding chain

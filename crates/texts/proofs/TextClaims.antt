@@ -21,7 +21,7 @@ use Rattle.texts.specs.TextClaims.{TextNumber, count, beyond_row_law, name}
 use Rattle.texts.specs.TextClaims.{TextIsSound, TextIsFresh, TextHasFormat, RefusedTextIsEmpty, RefusedTextIsNumbered}
 use Rattle.texts.proofs.Gives.{Fine, value, stopped}
 use Rattle.texts.proofs.Lines.{SourceOk, source_fine}
-use Rattle.texts.proofs.Fresh.{compiled_format, compiled-fresh}
+use Rattle.texts.proofs.Fresh.{compiled_format, compiled_fresh}
 
 -- an answer of the reader: accepted with a fresh net of format f, or refused with one of the numbers and the empty net
 data Answered (f : ℕ) : Opened → Type 0 where
@@ -40,7 +40,7 @@ judged_source_law f x ok =
     either f (names_right x.lines) _ _ (λ right.
     either f (in_range 1 (total x.lines) 512) _ _ (λ few.
     either f (admits (compiled x)) _ _ (λ kept.
-    took refl (compiled_format f x ok right) (compiled-fresh f x ok right (in_range_low 1 _ 512 few) (in_range_high 1 _ 512 few) kept))
+    took refl (compiled_format f x ok right) (compiled_fresh f x ok right (in_range_low 1 _ 512 few) (in_range_high 1 _ 512 few) kept))
     (left beyond_row_law)) (left count)) (left name)
 
 answered_from : (f : ℕ) (o : Parsed Source) → Fine (SourceOk f) o → Answered f (judged o)

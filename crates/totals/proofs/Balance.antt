@@ -18,7 +18,7 @@ use Rattle.net.specs.Groups.{member, members_below, members_of}
 use Rattle.net.specs.Shape.{Shaped}
 use Rattle.net.proofs.Laws.{choose_true, choose_false, split}
 use Rattle.net.proofs.Every.{chosen, chosen_lt}
-use Rattle.net.proofs.FoldLaws.{fold-keeps}
+use Rattle.net.proofs.FoldLaws.{fold_keeps}
 use Rattle.net.proofs.GroupLaws.{members_at}
 use Rattle.matching.specs.Matching.{matched_of}
 use Rattle.matching.proofs.MatchingPromise.{matching_promise as matching}
@@ -59,11 +59,11 @@ sum_at n v cs g =
     let last : get_or (set cs n v) n 0 ≡ v = get_or-set_same cs n v 0 g in
     omega (arith, rest, last)
 
-sum-before :
+sum_before :
     (n l v : ℕ) (cs : List ℕ) → n ≢ l → sum n (set cs l v) + get_or cs l 0 ≡ sum n cs + v
     → sum (suc n) (set cs l v) + get_or cs l 0 ≡ sum (suc n) cs + v
 unfolding sum fold
-sum-before n l v cs d rest =
+sum_before n l v cs d rest =
     let last : get_or (set cs l v) n 0 ≡ get_or cs n 0 = get_or-set_other cs l n v 0 d in
     omega (arith, rest, last)
 
@@ -71,7 +71,7 @@ sum_set : (n l v : ℕ) (cs : List ℕ) → l < n → l < length cs → sum n (s
 sum_set zero l v cs h g = absurd (omega arith)
 sum_set (suc n) l v cs h g =
     elim (split l n h) [
-      | inl below ↦ sum-before n l v cs (λ e. omega arith) (sum_set n l v cs below g)
+      | inl below ↦ sum_before n l v cs (λ e. omega arith) (sum_set n l v cs below g)
       | inr e ↦ rw e (sum_at n v cs (omega arith))
     ]
 
@@ -110,11 +110,11 @@ module _ (s : Net) where
   node_counts l x = map_set (λ (y : Node). y.stored) s.nodes l.0 x
 
   -- a node in use is replaced
-  node-sum :
+  node_sum :
       (l : Locality) (x : Node) → l.0 < s.addresses → s.addresses ≤ length s.nodes
       → tuples_of (with_node s l x) + (node_at s l).stored ≡ tuples_of s + x.stored
   unfolding with_node counts
-  node-sum l x h g =
+  node_sum l x h g =
       let after = tuples_sum (with_node s l x) ∙ ap (sum s.addresses) (node_counts l x) in
       let size = length-map s.nodes (λ (y : Node). y.stored) in
       let change = sum_set s.addresses l.0 x.stored (counts s) h (omega (arith, size)) in
@@ -205,7 +205,7 @@ module _
         let y : Node = node_at t l in
         let stored = h.ahead l (omega arith) in
         let more = put_stored y u (omega (arith, stored, free l m)) in
-        let whole = node-sum t l (with_tuple y u) (omega (arith, used l m, h.addresses_are)) (omega (arith, h.addresses_are, h.nodes_are)) in
+        let whole = node_sum t l (with_tuple y u) (omega (arith, used l m, h.addresses_are)) (omega (arith, h.addresses_are, h.nodes_are)) in
         record {
           tuples_are = omega (arith, whole, more, h.tuples_are, one_more_law i m);
           addresses_are = h.addresses_are;
@@ -228,7 +228,7 @@ module _
     all_tuples_law : tuples_of (added_all s g u) ≡ tuples_of s + length (members_of g)
     unfolding added_all members_of
     all_tuples_law =
-        (fold-keeps Put _ s 16 put_none
+        (fold_keeps Put _ s 16 put_none
         (λ i t _ h. chosen (Put (suc i)) (member g (address_of i)) _ _ (λ m. put_next i t m h) (λ m. put_past i t m h))
         ).tuples_are
 
@@ -244,7 +244,7 @@ module _ (s : Net) (ok : NetOk s) (a : Locality) (k : ℕ) (hosted : a.0 < s.add
   unfolding with_host with_node
   change l r x h =
       let size = length-set s.nodes a.0 (with_process (node_at s a) k r) in
-      let whole = node-sum (with_host s a k r) l x h (omega (arith, size, room)) in
+      let whole = node_sum (with_host s a k r) l x h (omega (arith, size, room)) in
       omega (arith, whole, host_tuples s a k r, host_stored s a k r l)
 
   out_moves : (t : Target) (l : Locality) (q : Place) (u : Tuple) → l.0 < s.addresses → Moves s (Action.Out t q) (out s a k p l q u)
@@ -261,11 +261,11 @@ module _ (s : Net) (ok : NetOk s) (a : Locality) (k : ℕ) (hosted : a.0 < s.add
       (λ _. refuses s _ Answer.NoRoom refl)
 
   -- whose set is one of addresses in use
-  out-all-moves :
+  out_all_moves :
       (g : Group) (q : Place) (u : Tuple) → group_sound s.addresses g ≡ true
       → Moves s (Action.OutAll g q) (out_all s a k p g q u)
   unfolding out_all room_at_all group_sound puts takes number_of with_host with_node
-  out-all-moves g q u m =
+  out_all_moves g q u m =
       chosen (Moves s (Action.OutAll g q)) _ _ _
       (λ free.
       let r = moved_to p q in
@@ -277,18 +277,18 @@ module _ (s : Net) (ok : NetOk s) (a : Locality) (k : ℕ) (hosted : a.0 < s.add
       performs s _ _ (omega (arith, whole, host_tuples s a k r)))
       (λ _. refuses s _ Answer.NoRoom refl)
 
-  in-moves :
+  in_moves :
       (t : Target) (l : Locality) (q : Place) (e : Evaluated) → l.0 < s.addresses → (f : Found)
       → (matched_of p (node_at s l) e).found ≡ f
       → Moves s (Action.In t q) (in_found s a k l q f (matched_of p (node_at s l) e).process)
   unfolding in_found taken without_tuple puts takes number_of
-  in-moves t l q e h (Found.At i) g =
+  in_moves t l q e h (Found.At i) g =
       let r = moved_to (matched_of p (node_at s l) e).process q in
       let stored = host_stored s a k r l in
       let present = matching.stored p (node_at s l) e i g in
       let whole = change l r (without_tuple (node_at (with_host s a k r) l) i) h in
       performs s _ _ (omega (arith, whole, stored, present))
-  in-moves t l q e h Found.Nothing g = refuses s _ Answer.NoTuple refl
+  in_moves t l q e h Found.Nothing g = refuses s _ Answer.NoTuple refl
 
   -- an action that puts and takes nothing
   module _ (x : Action) (no_put : puts x ≡ 0) (no_take : takes x ≡ 0) where
@@ -351,26 +351,26 @@ module _ (s : Net) (ok : NetOk s) (a : Locality) (k : ℕ) (hosted : a.0 < s.add
     unfolding spoken
     spoken_acts aim f h = chosen Acts e.defined _ _ (λ _. at_acts aim f h) (λ _. lacks)
 
-  asked-moves :
+  asked_moves :
       (e : Evaluated) (x : Action) → RequestOk a s.addresses s.length e (asked a p e x)
       → Moves s x (acting s a k p e (asked a p e x))
   unfolding asked RequestOk carried_out input read eval fork puts takes number_of
-  asked-moves e Action.Stop h = acts e _ Request.Stop stop_moves
-  asked-moves e (Action.Out t q) h =
+  asked_moves e Action.Stop h = acts e _ Request.Stop stop_moves
+  asked_moves e (Action.Out t q) h =
       spoken_acts e _ _ (λ l. Request.Out l q) (λ l g. acts e _ _ (out_moves t l q _ g.0)) h
-  asked-moves e (Action.In t q) h =
-      spoken_acts e _ _ (λ l. Request.In l q) (λ l g. acts e _ _ (in-moves t l q e g.0 _ refl)) h
-  asked-moves e (Action.Read t q) h =
+  asked_moves e (Action.In t q) h =
+      spoken_acts e _ _ (λ l. Request.In l q) (λ l g. acts e _ _ (in_moves t l q e g.0 _ refl)) h
+  asked_moves e (Action.Read t q) h =
       spoken_acts e _ _ (λ l. Request.Read l q) (λ l g. acts e _ _ (read_moves _ refl refl q _ _)) h
-  asked-moves e (Action.Eval t sent q) h =
+  asked_moves e (Action.Eval t sent q) h =
       at_acts e _ _ (λ l. Request.Eval l sent q)
       (λ l g. acts e _ _
       (chosen (Moves s (Action.Eval t sent q)) _ _ _ (λ _. start_moves _ refl refl l _ q _)
       (λ _. refuses s _ Answer.NotWithin refl))) h
-  asked-moves e (Action.New v q) h = acts e _ _ (create_moves v q)
-  asked-moves e (Action.Fork q r) h = acts e _ _ (start_moves _ refl refl a _ q _)
-  asked-moves e (Action.OutAll g q) h =
-      chosen (Acts e (Action.OutAll g q)) e.defined _ _ (λ _ ok. acts e _ _ (out-all-moves g q _ ok.0)) (λ _. lacks e _) h
+  asked_moves e (Action.New v q) h = acts e _ _ (create_moves v q)
+  asked_moves e (Action.Fork q r) h = acts e _ _ (start_moves _ refl refl a _ q _)
+  asked_moves e (Action.OutAll g q) h =
+      chosen (Acts e (Action.OutAll g q)) e.defined _ _ (λ _ ok. acts e _ _ (out_all_moves g q _ ok.0)) (λ _. lacks e _) h
 
 -- ---- a pick
 slot_below : (b : ℕ) → slot_of b < 4
@@ -388,7 +388,7 @@ step_moves s b ok =
     let Node-Ok = node_at_law s ok (host_of b) hosted in
     let running = (Node-Ok.processes_ok.holds (slot_of b) (slot_below b)).running busy in
     let fetched = instruction_at_law s ok _ running.place in
-    asked-moves s ok (host_of b) (slot_of b) hosted _ _ _ (request_ok s.format s.addresses s.length (host_of b) _ _ hosted running fetched))
+    asked_moves s ok (host_of b) (slot_of b) hosted _ _ _ (request_ok s.format s.addresses s.length (host_of b) _ _ hosted running fetched))
     (λ _. refuses s x Answer.FreeSlot refl)) (λ _. refuses s x Answer.NotInUse refl)) (λ _. refuses s x Answer.Malformed refl)
 
 pick_moves : (s : Net) (b : ℕ) → NetOk s → Moves s (met s b).action (pick_of s b)
@@ -396,13 +396,13 @@ unfolding pick_of number_of
 pick_moves s b ok = chosen (Moves s _) _ _ _ (λ _. step_moves s b ok) (λ _. refuses s _ Answer.Unsound refl)
 
 -- ---- over a list of picks
-pub run-balance :
+pub run_balance :
     (s : Net) (picks : List ℕ) → Shaped s → sound_of s ≡ true
     → tuples_of (ran_from s picks).net + summed takes s picks ≡ tuples_of s + summed puts s picks
 unfolding ran_from answered summed SoundKept
-run-balance s [] shaped sound = refl
-run-balance s (b ∷ bs) shaped sound =
+run_balance s [] shaped sound = refl
+run_balance s (b ∷ bs) shaped sound =
     let kept = sound_kept s b shaped sound in
-    let rest = run-balance (pick_of s b).net bs kept.1 kept.0 in
+    let rest = run_balance (pick_of s b).net bs kept.1 kept.0 in
     let first = (pick_moves s b (sound_apart s shaped sound)).moved in
     omega (arith, rest, first)

@@ -32,7 +32,7 @@ use Rattle.totals.specs.TotalClaims.{TotalIs, tuple_lines_in, tuples_of, balance
 use Rattle.totals.specs.TotalClaims.{TotalIsLines, TotalIsBalance}
 use Rattle.totals.proofs.Counting.{showing, counted, last_is_total}
 use Rattle.totals.proofs.Whole.{Plain, no_words, name_plain}
-use Rattle.totals.proofs.Balance.{run-balance}
+use Rattle.totals.proofs.Balance.{run_balance}
 
 -- ---- in a sound net no count is cut
 fewer_all : (n size : ℕ) → n ≤ size → fewer n size ≡ n
@@ -61,13 +61,13 @@ module _ (names : Locality → List ℕ) (plain : (l : Locality) → Plain (name
       subst (λ (t : List ℕ). TotalIs t (tuple_lines_in t)) e
       (subst (TotalIs (register_in (showing names plain) s picks (ran r))) (sym (counted names plain s picks r)) (last_is_total names plain s picks r))
 
-  balance-holds :
+  balance_holds :
       (text : List ℕ) → Shaped s → sound_of s ≡ true → register_in (showing names plain) s picks (ran (ran_from s picks)) ≡ text
       → Balanced s picks text
   unfolding balance
-  balance-holds text shaped sound e =
+  balance_holds text shaped sound e =
       let r : Ran = ran_from s picks in
-      let whole = run-balance s picks shaped sound in
+      let whole = run_balance s picks shaped sound in
       let count : tuple_count r.net ≡ balance s picks =
       all_counted r.net (ran_sound s picks shaped sound) ∙ omega (arith, whole) in
       let last = subst (TotalIs (register_in (showing names plain) s picks (ran r))) count (last_is_total names plain s picks r) in
@@ -94,11 +94,11 @@ module _ (shown : Shown) (image picks : List ℕ) (a : (opened_of image).answer 
   image_register = ap (register_in shown _ _) (ran_is image (opened_of image) refl (take 65536 picks) a)
 
 module _ (text picks : List ℕ) (a : (read_of text).answer ≡ TextVerdict.Accepted) where
-  text-register :
+  text_register :
       (shown : Shown)
       → register_in shown (read_of text).net (take 65536 picks) (ran (ran_from (read_of text).net (take 65536 picks))) ≡ register_text_as shown text picks
   unfolding register_text_as
-  text-register shown = ap (register_in shown _ _) (text_ran_is text (read_of text) refl (take 65536 picks) a)
+  text_register shown = ap (register_in shown _ _) (text_ran_is text (read_of text) refl (take 65536 picks) a)
 
   text_shaped : Shaped (read_of text).net
   unfolding TextIsImaged accepted
@@ -110,32 +110,32 @@ pub total_is_lines : TotalIsLines
 unfolding TotalIsLines register_of register_text_of named_register_of named_register_text_of current unnamed named
 total_is_lines = record {
   of_image = λ image picks a. lines_hold no_names none_plain _ _ _ (image_register _ image picks a);
-  of_text = λ text picks a. lines_hold no_names none_plain _ _ _ (text-register text picks a _);
-  of-named-image = λ site office image picks a.
+  of_text = λ text picks a. lines_hold no_names none_plain _ _ _ (text_register text picks a _);
+  of_named_image = λ site office image picks a.
       lines_hold (name_of site office) (lists_plain site office) _ _ _ (image_register _ image picks a);
-  of-named-text = λ site office text picks a.
-      lines_hold (name_of site office) (lists_plain site office) _ _ _ (text-register text picks a _);
+  of_named_text = λ site office text picks a.
+      lines_hold (name_of site office) (lists_plain site office) _ _ _ (text_register text picks a _);
 }
 
 -- a sound net's balance, whatever the names
 module _ (names : Locality → List ℕ) (plain : (l : Locality) → Plain (name_words (names l))) where
-  image-balance :
+  image_balance :
       (image picks : List ℕ) → (opened_of image).answer ≡ Verdict.Accepted
       → Balanced (opened_of image).net (take 65536 picks) (register_as (showing names plain) image picks)
-  image-balance image picks a =
-      balance-holds names plain _ _ _ (opened_shaped image) (opened_sound image (opened_of image) refl a) (image_register _ image picks a)
+  image_balance image picks a =
+      balance_holds names plain _ _ _ (opened_shaped image) (opened_sound image (opened_of image) refl a) (image_register _ image picks a)
 
-  text-balance :
+  text_balance :
       (text picks : List ℕ) → (read_of text).answer ≡ TextVerdict.Accepted
       → Balanced (read_of text).net (take 65536 picks) (register_text_as (showing names plain) text picks)
-  text-balance text picks a =
-      balance-holds names plain _ _ _ (text_shaped text picks a) (text_sound text (read_of text) refl a) (text-register text picks a _)
+  text_balance text picks a =
+      balance_holds names plain _ _ _ (text_shaped text picks a) (text_sound text (read_of text) refl a) (text_register text picks a _)
 
 pub total_is_balance : TotalIsBalance
 unfolding TotalIsBalance register_of register_text_of named_register_of named_register_text_of current unnamed named
 total_is_balance = record {
-  of_image = image-balance no_names none_plain;
-  of_text = text-balance no_names none_plain;
-  of-named-image = λ site office. image-balance (name_of site office) (lists_plain site office);
-  of-named-text = λ site office. text-balance (name_of site office) (lists_plain site office);
+  of_image = image_balance no_names none_plain;
+  of_text = text_balance no_names none_plain;
+  of_named_image = λ site office. image_balance (name_of site office) (lists_plain site office);
+  of_named_text = λ site office. text_balance (name_of site office) (lists_plain site office);
 }

@@ -124,9 +124,9 @@ whole_none : Whole (printed []) 0
 unfolding printed opening
 whole_none = record { lines = []; apart = λ rest. refl; count = refl }
 
-pub whole-both :
+pub whole_both :
     (a b : List (List Word)) (m n : ℕ) → Whole (printed a) m → Whole (printed b) n → Whole (printed (a ++ b)) (m + n)
-whole-both a b m n x y = record {
+whole_both a b m n x y = record {
   lines = x.lines ++ y.lines;
   apart = λ rest.
       ap (λ (t : List ℕ). lines_of (t ++ rest)) (printed_both a b)
@@ -145,10 +145,10 @@ module _ (text : List ℕ) (ws : List Word) (h : clean text ≡ true) (g : Plain
       let same : ((text ++ (spaced ws ++ 10 ∷ [])) ++ []) ++ rest ≡ (text ++ spaced ws) ++ 10 ∷ rest = simp (append-nil, append_assoc) in
       ap lines_of same ∙ line_first (text ++ spaced ws) rest (clean_both text _ h g.is_clean)
 
-  pub whole-line :
+  pub whole_line :
       (n : ℕ) → choose (opens_with tuple_word (text ++ spaced ws)) 1 0 ≡ n → Whole (printed ((name text ∷ ws) ∷ [])) n
   unfolding opening
-  whole-line n e = record { lines = (text ++ spaced ws) ∷ []; apart = line_apart; count = omega (arith, e) }
+  whole_line n e = record { lines = (text ++ spaced ws) ∷ []; apart = line_apart; count = omega (arith, e) }
 
 -- parts, one after another
 pub whole_parts :
@@ -156,7 +156,7 @@ pub whole_parts :
     → Whole (printed (joined n f)) (fold n (λ i m. m + c i) 0)
 unfolding joined fold
 whole_parts zero f c h = whole_none
-whole_parts (suc n) f c h = whole-both (joined n f) (f n) _ _ (whole_parts n f c h) (h n)
+whole_parts (suc n) f c h = whole_both (joined n f) (f n) _ _ (whole_parts n f c h) (h n)
 
 fold_same : (n k : ℕ) → fold n (λ i m. m + k) 0 ≡ n * k
 unfolding fold
@@ -189,10 +189,10 @@ module _
     last_line = ap (last_or []) all_lines ∙ last_is [] x.lines (text ++ spaced ws)
 
     -- which does not open with `tuple `
-    pub lines-count :
+    pub lines_count :
         opens_with tuple_word (text ++ spaced ws) ≡ false → opening tuple_word (lines_of (printed (a ++ (name text ∷ ws) ∷ []))) ≡ m
     unfolding opening
-    lines-count e =
+    lines_count e =
         let last : ◌≡◌ {A = ℕ} (choose (opens_with tuple_word (text ++ spaced ws)) 1 0) 0 = choose_false _ _ _ e in
         let sum = ap (opening tuple_word) all_lines ∙ opening_both tuple_word x.lines ((text ++ spaced ws) ∷ []) in
         omega (arith, sum, last, x.count)

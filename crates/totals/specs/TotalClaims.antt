@@ -86,11 +86,11 @@ pub record EachRegister (P : Net → List ℕ → List ℕ → Type 0) : Type 0 
       → (read_of text).answer ≡ TextVerdict.Accepted
       → P (read_of text).net (take 65536 picks) (register_text_of text picks)
   -- with the names that any two lists give (slip 14)
-  pub of-named-image :
+  pub of_named_image :
       (site office image picks : List ℕ)
       → (opened_of image).answer ≡ Verdict.Accepted
       → P (opened_of image).net (take 65536 picks) (named_register_of site office image picks)
-  pub of-named-text :
+  pub of_named_text :
       (site office text picks : List ℕ)
       → (read_of text).answer ≡ TextVerdict.Accepted
       → P (read_of text).net (take 65536 picks) (named_register_text_of site office text picks)

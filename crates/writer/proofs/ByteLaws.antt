@@ -13,7 +13,7 @@ use Rattle.writer.specs.Calls.{Packed, placed_of, placed_in}
 use Rattle.written.specs.ImageOf.{digit, number_in}
 use Rattle.text.specs.Joined.{joined}
 use Rattle.writer.specs.Packing.{bytes_in}
-use Rattle.text.proofs.WritingLaws.{over-both}
+use Rattle.text.proofs.WritingLaws.{over_both}
 use Rattle.written.proofs.WrittenBytes.{number_small, listed_length}
 
 -- ---- a bit as a number
@@ -57,9 +57,9 @@ module _ (bits : List Bool) (at : ℕ) where
   small : (w : ℕ) → w ≤ 8 → number_in bits at w < 256
   small w h = let g = number_small bits at 8 in let f = grows w (8 - w) 8 (omega arith) in omega arith
 
-  pub number-within :
+  pub number_within :
       (n bit w : ℕ) → n ≡ number_in bits at w → bit ≡ digit (get_or bits (at + w) false) → w < 8 → n * 2 + bit < 256
-  number-within n bit w e d h = let g = small (suc w) (omega arith) in let f = step n bit w e d in omega arith
+  number_within n bit w e d h = let g = small (suc w) (omega arith) in let f = step n bit w e d in omega arith
 
   pub number_done : (n w : ℕ) → n ≡ number_in bits at w → w ≤ 8 → 8 ≤ w → n ≡ number_in bits at 8
   number_done n w e h g = e ∙ ap (number_in bits at) (omega arith)
@@ -81,7 +81,7 @@ module _ (xs : List ℕ) (bits : List Bool) where
       ap (λ (zs : List ℕ). set zs i b) e
       ∙ ap (λ (c : ℕ). set (over xs 0 (bytes_in bits i)) i c) d
       ∙ ap (λ (j : ℕ). set (over xs 0 (bytes_in bits i)) j (number_in bits (8 * i) 8)) (let l = bytes_count bits i in omega arith)
-      ∙ over-both xs 0 (bytes_in bits i) (number_in bits (8 * i) 8 ∷ [])
+      ∙ over_both xs 0 (bytes_in bits i) (number_in bits (8 * i) 8 ∷ [])
 
   joins : (i : ℕ) → bytes_in bits i ++ (number_in bits (8 * i) 8 ∷ []) ≡ bytes_in bits (suc i)
   unfolding bytes_in joined
@@ -93,9 +93,9 @@ module _ (xs : List ℕ) (bits : List Bool) where
   bytes_next ys i b e d =
       more ys i b e d ∙ ap (over xs 0) (joins i) ∙ ap (λ (j : ℕ). over xs 0 (bytes_in bits j)) (omega arith)
 
-  pub bytes-done :
+  pub bytes_done :
       (ys : List ℕ) (i n : ℕ) → ys ≡ over xs 0 (bytes_in bits i) → i ≤ n → n ≤ i → ys ≡ over xs 0 (bytes_in bits n)
-  bytes-done ys i n e h g = e ∙ ap (λ (j : ℕ). over xs 0 (bytes_in bits j)) (omega arith)
+  bytes_done ys i n e h g = e ∙ ap (λ (j : ℕ). over xs 0 (bytes_in bits j)) (omega arith)
 
 -- ---- what packing gives
 module _ (bits : List Bool) (n : ℕ) where
@@ -109,10 +109,10 @@ module _ (bits : List Bool) (n : ℕ) where
   packed_cut room h =
       rw (bytes_count bits n) (sym (choose_false (leb n room) (Packed.Written n) Packed.NoRoom (lt-leb n room h)))
 
-  pub placed-whole :
+  pub placed_whole :
       (xs ys : List ℕ) → n ≤ length xs → ys ≡ over xs 0 (bytes_in bits n) → ys ≡ placed_in (bytes_in bits n) xs
   unfolding placed_in
-  placed-whole xs ys h e =
+  placed_whole xs ys h e =
       let l = bytes_count bits n in
       e ∙ sym (choose_true _ _ xs (le-leb (length (bytes_in bits n)) (length xs) (omega arith)))
 

@@ -95,9 +95,9 @@ module _ (room : ℕ) (bits : List Bool) (h : length bits ≤ room) where
   bytes_are = joined_same ((length bits + 7) / 8)
 
   -- as a writer leaves them
-  laid-bytes :
+  laid_bytes :
       (ys : List Bool) (end : ℕ) → Wrote (replicate room false) 0 bits ys end → bytes_in ys ((end + 7) / 8) ≡ bytes_of bits
-  laid-bytes ys end w =
+  laid_bytes ys end w =
       let l = length-replicate room false in
       let f = w.fits (omega arith) in
       let e : end ≡ length bits = omega arith in
@@ -121,32 +121,32 @@ module _
 
   image_is : bytes_in ys ((end + 7) / 8) ≡ image_of net
   unfolding image_of
-  image_is = laid-bytes (8 * longest_image) (net_bits net) (fresh_room net h) ys end w
+  image_is = laid_bytes (8 * longest_image) (net_bits net) (fresh_room net h) ys end w
 
-  pub fresh-packed :
+  pub fresh_packed :
       (r : Packed) (room : ℕ) → r ≡ placed_of (length (bytes_in ys ((end + 7) / 8))) room
       → r ≡ placed_of (length (image_of net)) room
-  fresh-packed r room e = e ∙ ap (λ (xs : List ℕ). placed_of (length xs) room) image_is
+  fresh_packed r room e = e ∙ ap (λ (xs : List ℕ). placed_of (length xs) room) image_is
 
-  pub fresh-placed :
+  pub fresh_placed :
       (before after : List ℕ) → after ≡ placed_in (bytes_in ys ((end + 7) / 8)) before
       → after ≡ placed_in (image_of net) before
-  fresh-placed before after e = e ∙ ap (λ (xs : List ℕ). placed_in xs before) image_is
+  fresh_placed before after e = e ∙ ap (λ (xs : List ℕ). placed_in xs before) image_is
 
 -- ---- every net
 module _ (net : Net) (answer : Bool) (e : answer ≡ fresh_of net) where
   pub fresh_known : answer ≡ true → fresh_of net ≡ true
   fresh_known p = sym e ∙ p
 
-  pub image-packed :
+  pub image_packed :
       (r : Packed) (room : ℕ) → answer ≡ true → r ≡ placed_of (length (image_of net)) room → r ≡ packed_of net room
   unfolding packed_of
-  image-packed r room p q = q ∙ sym (choose_true (fresh_of net) _ Packed.NotFresh (fresh_known p))
+  image_packed r room p q = q ∙ sym (choose_true (fresh_of net) _ Packed.NotFresh (fresh_known p))
 
-  pub image-placed :
+  pub image_placed :
       (before after : List ℕ) → answer ≡ true → after ≡ placed_in (image_of net) before → after ≡ image_in net before
   unfolding image_in
-  image-placed before after p q = q ∙ sym (choose_true (fresh_of net) _ before (fresh_known p))
+  image_placed before after p q = q ∙ sym (choose_true (fresh_of net) _ before (fresh_known p))
 
   pub image_none : (room : ℕ) → answer ≡ false → Packed.NotFresh ≡ packed_of net room
   unfolding packed_of

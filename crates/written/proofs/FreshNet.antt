@@ -22,7 +22,7 @@ use Rattle.net.proofs.Every.{Every, every_weaken, Filled, filled_at}
 use Rattle.net.proofs.SlotLaws.{slot_busy}
 use Rattle.sound.proofs.NetFacts.{sound_apart}
 use Rattle.fresh.proofs.FitLaws as FitLaws
-use Rattle.fresh.proofs.FitLaws.{array-fits, action_fits_law, zero_node_fits, zero_instruction_fits}
+use Rattle.fresh.proofs.FitLaws.{array_fits, action_fits_law, zero_node_fits, zero_instruction_fits}
 use Rattle.fresh.proofs.StartLaws as StartLaws
 use Rattle.fresh.proofs.StartLaws.{free_unset, starting_unset, zero_node_starts}
 use Rattle.written.proofs.WrittenTuples.{TupleOk}
@@ -54,7 +54,7 @@ passes test e f g = passes_at (λ _. test) e (λ _. f) (λ _. g)
 tuple_fits_law : (a : Locality) (n : ℕ) (t : Tuple) → TupleOk a n t → tuple_fits t ≡ true
 unfolding tuple_fits field_at zero_field item_fits reading_fits
 tuple_fits_law a n t ok =
-    array-fits (λ f. item_fits f.item) (passes (λ f. item_fits f.item) ok.fields_ok (λ f i. i.fits) refl)
+    array_fits (λ f. item_fits f.item) (passes (λ f. item_fits f.item) ok.fields_ok (λ f i. i.fits) refl)
 
 starts_fit : (a : Locality) (k : ℕ) (p : Process) → Starts a k p → process_fits p ≡ true
 unfolding process_fits starting_at
@@ -63,15 +63,15 @@ starts_fit a k p s = ap (λ (q : Process). process_fits q) (sym s.is)
 node_fits_law : (a f n k : ℕ) (x : Node) → WithTuples a f n k x → node_fits x ≡ true
 unfolding node_fits row_at process_at tuple_at row_fits process_fits free_process tuple_fits zero_tuple field_at zero_field item_fits reading_fits all both
 node_fits_law a f n k x ok =
-    both_i _ _ (array-fits row_fits (every_weaken ok.rows_ok.each_ok (λ o r g. eq-eqb _ _ g.size_is)))
-    (both_i _ _ (array-fits process_fits (passes process_fits ok.slots_ok.slots.slots_ok (starts_fit _ k) refl))
-    (array-fits tuple_fits (passes tuple_fits ok.store_ok.tuples_ok (tuple_fits_law _ n) refl)))
+    both_i _ _ (array_fits row_fits (every_weaken ok.rows_ok.each_ok (λ o r g. eq-eqb _ _ g.size_is)))
+    (both_i _ _ (array_fits process_fits (passes process_fits ok.slots_ok.slots.slots_ok (starts_fit _ k) refl))
+    (array_fits tuple_fits (passes tuple_fits ok.store_ok.tuples_ok (tuple_fits_law _ n) refl)))
 
 template_fits : (formals : Bool) (n : ℕ) (c : Instruction) → TemplateOk formals n c → instruction_fits c ≡ true
 unfolding instruction_fits action_fits pattern_at zero_template_field pattern_fits reading_fits
 template_fits formals n c ok =
     both_i _ _ (ap action_fits (sym ok.no_action))
-    (array-fits (λ f. pattern_fits f.pattern)
+    (array_fits (λ f. pattern_fits f.pattern)
     (passes (λ f. pattern_fits f.pattern) ok.patterns_ok (λ f i. i.fits) refl))
 
 fits_with : (c b : Instruction) (a : Action) → with_action c a ≡ b → action_fits a ≡ true → instruction_fits c ≡ true

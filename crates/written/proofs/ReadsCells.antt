@@ -57,7 +57,7 @@ module _ {A R : Type 0} (v : Arrayed A R) (a₀ : A) where
 
   -- turn i reads v and puts the record that is made of it
   module _ (i : ℕ) (a : A) {C : Type 0} {m : Reader C} {u : C → List Bool} {P : C → Type 0} where
-    pub reads-turn :
+    pub reads_turn :
         (w : R → List Bool) (cell : C → R) → i < length (v.cells a)
         → ((r : R) → v.cells (v.put i a r) ≡ set (v.cells a) i r)
         → Reads m u P
@@ -65,7 +65,7 @@ module _ {A R : Type 0} (v : Arrayed A R) (a₀ : A) where
         → ((x : C) → P x → w (cell x) ≡ u x)
         → ((r : R) → v.Good i r → v.undo r ≡ at a₀ i → v.Extra i a r → (x : C) × P x × (cell x ≡ r))
         → Reads (m >>= (λ x. pure (v.put i a (cell x)))) (λ b. w (at b i)) (Turned i a)
-    reads-turn w cell l e r keeps writes parts =
+    reads_turn w cell l e r keeps writes parts =
         reads_map (λ x. v.put i a (cell x)) r
         (λ x h.
         let (g, u, k) = keeps x h in
@@ -88,7 +88,7 @@ module _ {A R : Type 0} (v : Arrayed A R) (a₀ : A) where
         (i : ℕ) → i < n → (a : A) → v.Frame i a → at a₀ i ≡ at a i → length (v.cells a) ≡ v.size
         → Reads (f i a) (λ b. w (at b i)) (Turned i a)
     pub put_cells : (i : ℕ) → i < n → (a : A) (r : R) → v.Frame i a → v.cells (v.put i a r) ≡ set (v.cells a) i r
-    pub put-frame :
+    pub put_frame :
         (i : ℕ) → i < n → (a : A) (r : R) → v.Frame i a → length (v.cells a) ≡ v.size → v.Extra i a r
         → v.Frame (suc i) (v.put i a r)
     pub cut_cells : (i : ℕ) → i < n → (b : A) (r : R) → v.cells (v.cut i b r) ≡ set (v.cells b) i r
@@ -99,7 +99,7 @@ module _ {A R : Type 0} (v : Arrayed A R) (a₀ : A) where
   module _ (f : ℕ → A → Reader A) (n : ℕ) (w : R → List Bool) (g : Filling f n w) where
     next : (i : ℕ) → i < n → (a b : A) → Through i a → Turned i a b → Through (suc i) b
     next i h a b t u = subst (Through (suc i)) u.result (record {
-      frame = g.put-frame i h a u.cell t.frame t.cells_ok.size_is u.extra;
+      frame = g.put_frame i h a u.cell t.frame t.cells_ok.size_is u.extra;
       cells_ok =
           subst (Cells (suc i)) (sym (g.put_cells i h a u.cell t.frame))
           (every_set i u.cell t.cells_ok
@@ -167,10 +167,10 @@ module _ {A R : Type 0} (v : Arrayed A R) (a₀ : A) where
 
 -- ---- an array that held zero records: filled up to i
 module _ {R : Type 0} {U : R → Type 0} {z d : R} {size i : ℕ} {xs : List R} where
-  pub rewritten-filled :
+  pub rewritten_filled :
       {c : ℕ} → c ≡ i → Every (Rewritten (λ _. U) (λ _. z) d (replicate size z) i) d size xs
       → Every (Filled U (λ x. z ≡ x) c) d size xs
-  rewritten-filled q e = record {
+  rewritten_filled q e = record {
     size_is = e.size_is;
     holds = λ j h. record {
       used = λ l. (e.holds j h).good (omega arith);
@@ -178,10 +178,10 @@ module _ {R : Type 0} {U : R → Type 0} {z d : R} {size i : ℕ} {xs : List R} 
     };
   }
 
-  pub filled-rewritten :
+  pub filled_rewritten :
       {c : ℕ} → i ≡ c → Every (Filled U (λ x. z ≡ x) i) d size xs
       → Every (Rewritten (λ _. U) (λ _. z) d (replicate size z) c) d size xs
-  filled-rewritten q e = record {
+  filled_rewritten q e = record {
     size_is = e.size_is;
     holds = λ j h. record {
       good = λ l. (e.holds j h).used (omega arith);

@@ -14,12 +14,12 @@ pub record Kinded {B : Type 0} (kind_of : B → ℕ) (Good : B → Type 0) (v : 
 
 module _ {B : Type 0} {w : ℕ → List Bool} {P : ℕ → Type 0} {u : B → List Bool} {Good : B → Type 0}
     {m : Reader ℕ} {f : ℕ → Reader B} where
-  pub reads-kind :
+  pub reads_kind :
       (kind_of : B → ℕ) (rest : B → List Bool) → Reads m w P → ((b : B) → Good b → P (kind_of b))
       → ((b : B) → u b ≡ w (kind_of b) ++ rest b)
       → ((v : ℕ) → P v → Reads (f v) rest (Kinded kind_of Good v))
       → Reads (m >>= f) u Good
-  reads-kind kind_of rest r within starts g =
+  reads_kind kind_of rest r within starts g =
       reads_then r g
       (record {
         keeps = λ v b h k. k.good;
@@ -38,10 +38,10 @@ module _ {A B : Type 0} {w : A → List Bool} {P : A → Type 0} {v : A → B �
       reads_then r g (record { keeps = λ a b x y. (a, x, y); writes = writes; parts = λ b z. z })
 
 -- a field that is tested once it is read
-reads-through :
+reads_through :
     {A : Type 0} {w : A → List Bool} {P : A → Type 0} {m : Reader A} (at k : ℕ) (test : A → Bool) (n : ℕ) → Reads m w P
     → Reads (m >>= (λ a. require_in at k (test a) n >> pure a)) w (λ a. P a × (test a ≡ true))
-reads-through {w} {P} at k test n r =
+reads_through {w} {P} at k test n r =
     reads_then r (λ a h. reads_require at k (test a) n a)
     (record {
       keeps = λ a b h k. subst (λ x. P x × (test x ≡ true)) k.1 (h, k.0);
@@ -49,11 +49,11 @@ reads-through {w} {P} at k test n r =
       parts = λ b h. (b, h.0, (h.1, refl));
     })
 
-pub reads-tested :
+pub reads_tested :
     {A : Type 0} {w : A → List Bool} {P : A → Type 0} {m : Reader A} (k : ℕ) (test : A → Bool) (n : ℕ) → Reads m w P
     → Reads (tested k m test n) w (λ a. P a × (test a ≡ true))
 unfolding tested
-reads-tested k test n r = record {
-  only = λ s p. (reads-through p k test n r).only s p;
-  back = λ s p. (reads-through p k test n r).back s p;
+reads_tested k test n r = record {
+  only = λ s p. (reads_through p k test n r).only s p;
+  back = λ s p. (reads_through p k test n r).back s p;
 }

@@ -149,10 +149,10 @@ module _ {A : Type 0} {w w' : A → List Bool} {P P' : A → Type 0} where
           let i = e a (g a h) in
           r.back s p a (g a h) (subst (BitsAt s p) i st) ∙ ap (λ (b : List Bool). got a (p + length b)) (sym i)
 
-pub reads-equal :
+pub reads_equal :
     {A : Type 0} {w : A → List Bool} {P : A → Type 0} {m : Reader A} (k : Reader A)
     → ((s : List ℕ) (p : ℕ) → k s p ≡ m s p) → Reads m w P → Reads k w P
-reads-equal k e r = record {
+reads_equal k e r = record {
   only = λ s p a q h d. r.only s p a q h (sym (e s p) ∙ d);
   back = λ s p a h st. e s p ∙ r.back s p a h st;
 }
@@ -248,7 +248,7 @@ module _ {A : Type 0} {f : ℕ → A → Reader A} {n : ℕ} {w : ℕ → A → 
   reads_to t zero h =
       reads_as (reads_pure a₀) (λ b e. subst (S 0) e t.begins) t.starts (λ b e. refl)
   reads_to t (suc k) h =
-      reads-equal _ (each_last f k a₀)
+      reads_equal _ (each_last f k a₀)
       (reads_then (reads_to t k (omega arith)) (t.turn k h)
       (record {
         keeps = t.next k h;

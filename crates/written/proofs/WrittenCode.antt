@@ -17,7 +17,7 @@ use Rattle.instructions.specs.Instruction.{template, communication, evaluation, 
 use Rattle.instructions.specs.Instruction.{creation, group, spreading, actions_in, instruction}
 use Rattle.written.specs.ImageOf.{bits_of, place_bits, variable_bits, target_bits, template_bits, action_bits, instruction_bits}
 use Rattle.written.proofs.ReadsWrites.{Reads, Ranged, reads_map, reads_pure, reads_field, reads_bits}
-use Rattle.written.proofs.ReadsParts.{reads_in, reads-tested}
+use Rattle.written.proofs.ReadsParts.{reads_in, reads_tested}
 use Rattle.written.proofs.WrittenFields.{reads_place, reads_variable}
 use Rattle.written.proofs.WrittenPatterns.{reads_target}
 use Rattle.written.proofs.WrittenTemplate.{TemplateOk, reads_template}
@@ -166,18 +166,18 @@ Opens v b = instruction_bits b ≡ bits_of 3 v ++ acting_bits v b
 reads_group : (n : ℕ) → Reads (group n) (λ g. bits_of 16 g.0) (GroupOk n)
 unfolding group
 reads_group n =
-    reads_map (λ (v : ℕ). record { 0 = v }) (reads-tested 16 (λ v. group_sound n (record { 0 = v })) 23 (reads_bits 16))
+    reads_map (λ (v : ℕ). record { 0 = v }) (reads_tested 16 (λ v. group_sound n (record { 0 = v })) 23 (reads_bits 16))
     (λ v x. record { fits = x.0; members = x.1 }) (λ v x. refl) (λ g x. (g.0, (x.fits, x.members), refl))
 
 module _ (n k : ℕ) (h : n ≤ 16) (l : k ≤ 512) where
-  reads-spoken :
+  reads_spoken :
       {To : Type 0} {Fine : To → Type 0} {to_bits : To → List Bool} {m : Reader To} (toOf : Action → To)
       (make : To → Place → Action) (formals : Bool) → Reads m to_bits Fine → ((t : To) (p : Place) → toOf (make t p) ≡ t)
       → ((t : To) (p : Place) → last_of (make t p) ≡ p)
       → Reads (m >>= (λ t. template formals n >>= (λ c. place k >>= (λ p. pure (with_action c (make t p))))))
       (spoken_bits to_bits toOf) (Communicated Fine make formals n k)
   unfolding Communicated with_action template_bits pattern_at
-  reads-spoken {To} {to_bits = to_bits} toOf make formals r e d =
+  reads_spoken {To} {to_bits = to_bits} toOf make formals r e d =
       reads_in (spoken_bits to_bits toOf) r
       (λ t ok. reads_in (λ b. template_bits b ++ last_bits b) (reads_template formals n h)
       (λ c good. reads_map (λ p. with_action c (make t p)) (reads_place k l) (λ p m. (p, m, refl))
@@ -186,16 +186,16 @@ module _ (n k : ℕ) (h : n ≤ 16) (l : k ≤ 512) where
       (λ t b ok z. ap (λ (y : To). to_bits y ++ (template_bits b ++ last_bits b))
       (ap (λ (y : Instruction). toOf y.action) (sym z.2.2) ∙ e t _))
 
-  reads-targeted :
+  reads_targeted :
       (make : Target → Place → Action) (formals : Bool) → ((t : Target) (p : Place) → target_of (make t p) ≡ t)
       → ((t : Target) (p : Place) → last_of (make t p) ≡ p)
       → Reads (communication make formals n k) targeted_bits (Communicated (TargetOk n) make formals n k)
   unfolding communication
-  reads-targeted make formals = reads-spoken target_of make formals (reads_target n h)
+  reads_targeted make formals = reads_spoken target_of make formals (reads_target n h)
 
   reads_spreading : Reads (spreading n k) spread_bits (Communicated (GroupOk n) Action.OutAll false n k)
   unfolding spreading group_of last_of
-  reads_spreading = reads-spoken group_of Action.OutAll false (reads_group n) (λ g p. refl) (λ g p. refl)
+  reads_spreading = reads_spoken group_of Action.OutAll false (reads_group n) (λ g p. refl) (λ g p. refl)
 
   reads_evaluation : Reads (evaluation n k) evaluation_bits (Evaluated n k)
   unfolding evaluation Evaluated with_action target_of first_of last_of
@@ -241,9 +241,9 @@ module _ (n k : ℕ) (h : n ≤ 16) (l : k ≤ 512) where
       (acting_bits v) (Acting n k v)
   unfolding alternative Acting acting_bits target_of last_of
   reads_acting zero = reads_pure zero_instruction
-  reads_acting (suc zero) = reads-targeted Action.Out false (λ t p. refl) (λ t p. refl)
-  reads_acting (suc (suc zero)) = reads-targeted Action.In true (λ t p. refl) (λ t p. refl)
-  reads_acting (suc (suc (suc zero))) = reads-targeted Action.Read true (λ t p. refl) (λ t p. refl)
+  reads_acting (suc zero) = reads_targeted Action.Out false (λ t p. refl) (λ t p. refl)
+  reads_acting (suc (suc zero)) = reads_targeted Action.In true (λ t p. refl) (λ t p. refl)
+  reads_acting (suc (suc (suc zero))) = reads_targeted Action.Read true (λ t p. refl) (λ t p. refl)
   reads_acting (suc (suc (suc (suc zero)))) = reads_evaluation
   reads_acting (suc (suc (suc (suc (suc zero))))) = reads_creation
   reads_acting (suc (suc (suc (suc (suc (suc zero)))))) = reads_forking

@@ -13,12 +13,12 @@ use Rattle.image.specs.Image.{header, rows, all_processes, all_tuples, code}
 use Rattle.written.specs.ImageOf.{bits_of, node_rows_bits, processes_bits, tuples_bits, instruction_bits}
 use Rattle.text.specs.Joined.{joined}
 use Rattle.written.specs.ImageOf.{header_bits, rows_bits, all_processes_bits, all_tuples_bits, code_bits, net_bits}
-use Rattle.net.proofs.Every.{every_replicate, filled-each}
+use Rattle.net.proofs.Every.{every_replicate, filled_each}
 use Rattle.sound.proofs.ZeroClaims.{zeros}
 use Rattle.written.proofs.ReadsWrites.{Reads, Ranged, reads_as, reads_map, reads_field}
 use Rattle.written.proofs.ReadsParts.{reads_in}
 use Rattle.written.proofs.WrittenPasses.{net_is, vacated, emptied, RowsPass, ProcessesPass, TuplesPass, CodePass}
-use Rattle.written.proofs.WrittenPasses.{reads_rows, reads-allProcesses, reads-allTuples, reads-code}
+use Rattle.written.proofs.WrittenPasses.{reads_rows, reads_all_processes, reads_all_tuples, reads_code}
 use Rattle.written.proofs.WrittenStages.{Staged, Blank, WithRows, WithProcesses, WithTuples, ruled, peopled, stocked}
 use Rattle.written.proofs.WrittenStages.{Keeps, keeps_on, pass_keeps, code_keeps, header_same, rows_same}
 use Rattle.written.proofs.WrittenStages.{processes_same, tuples_same}
@@ -42,7 +42,7 @@ unfolding with_counts with_format empty_net
 blank_is s g =
     net_is s _ _ _ _ _ refl refl refl
     (sym (zeros zero_node past_node 16 s.nodes g.nodes_ok.size_is
-    (filled-each {Q = λ x. x ≡ zero_node} g.nodes_ok (λ x. sym) (λ x. sym))))
+    (filled_each {Q = λ x. x ≡ zero_node} g.nodes_ok (λ x. sym) (λ x. sym))))
     g.code_is
 
 header_rest : Net → List Bool
@@ -81,14 +81,14 @@ pass_rows s g =
 pass_processes : (s : Net) → Staged WithRows s → Reads (all_processes s) all_processes_bits (ProcessesPass s)
 unfolding all_processes_bits ProcessesPass
 pass_processes s g =
-    reads_as (reads-allProcesses s (few s g) (short s g) g.nodes_ok.size_is
+    reads_as (reads_all_processes s (few s g) (short s g) g.nodes_ok.size_is
     (λ a h. let l = few s g in sym ((g.nodes_ok.holds a (omega arith)).used h).bare)) (λ b t. t) (λ b t. t)
     (λ b t. ap (λ (n : ℕ). joined n (λ a. processes_bits (node_at b (address_of a)))) (sym t.frame.addresses_are))
 
 pass_tuples : (s : Net) → Staged WithProcesses s → Reads (all_tuples s) all_tuples_bits (TuplesPass s)
 unfolding all_tuples_bits TuplesPass
 pass_tuples s g =
-    reads_as (reads-allTuples s (few s g) g.nodes_ok.size_is
+    reads_as (reads_all_tuples s (few s g) g.nodes_ok.size_is
     (λ a h. let l = few s g in ((g.nodes_ok.holds a (omega arith)).used h).bare)) (λ b t. t) (λ b t. t)
     (λ b t. ap (λ (n : ℕ). joined n (λ a. tuples_bits (node_at b (address_of a)))) (sym t.frame.addresses_are))
 
@@ -103,7 +103,7 @@ empty_at p h = get_or-replicate 512 p zero_instruction past_instruction h
 pass_code : (s : Net) → Staged WithTuples s → Reads (code s) code_bits (CodePass s)
 unfolding code_bits CodePass instruction_at
 pass_code s g =
-    reads_as (reads-code s (few s g) (short s g) (ap length (sym g.code_is) ∙ empty_code)
+    reads_as (reads_code s (few s g) (short s g) (ap length (sym g.code_is) ∙ empty_code)
     (λ p h. let l = short s g in
     ap (λ xs. get_or xs p past_instruction) (sym g.code_is) ∙ empty_at p (omega arith)))
     (λ b t. t) (λ b t. t)

@@ -16,7 +16,7 @@ use Rattle.image.specs.Image.{instruction_of, code}
 use Rattle.written.specs.ImageOf.{node_rows_bits, processes_bits, tuples_bits, instruction_bits}
 use Rattle.text.specs.Joined.{joined}
 use Rattle.written.proofs.ReadsWrites.{Reads}
-use Rattle.written.proofs.ReadsCells.{Arrayed, Through, Turned, Filling, reads-turn, reads_cells}
+use Rattle.written.proofs.ReadsCells.{Arrayed, Through, Turned, Filling, reads_turn, reads_cells}
 use Rattle.written.proofs.WrittenCode.{InstructionOk, reads_instruction}
 use Rattle.net.proofs.Past.{past_node, past_instruction}
 use Rattle.written.proofs.WrittenProcesses.{ProcessesOk, Peopled, reads_processes, bare_node, free, node_is}
@@ -59,21 +59,21 @@ kept s₀ s a x e = record {
 }
 
 module _ (s₀ : Net) (Good : ℕ → Node → Type 0) (undo : Node → Node) (f : ℕ → Net → Reader Net) (w : Node → List Bool) where
-  filling-pass :
+  filling_pass :
       s₀.addresses ≤ 16 → length s₀.nodes ≡ 16
       → ((a : ℕ) → a < s₀.addresses → (s : Net) → Beside s₀ s
       → get_or s₀.nodes a past_node ≡ get_or s.nodes a past_node → length s.nodes ≡ 16
       → Reads (f a s) (λ b. w (get_or b.nodes a past_node)) (Turned (pass_over s₀ Good undo) s₀ a s))
       → Filling (pass_over s₀ Good undo) s₀ f s₀.addresses w
   unfolding with_node
-  filling-pass h l turn = record {
+  filling_pass h l turn = record {
     room = h;
     size_is = l;
     begins = record { format_is = refl; addresses_are = refl; length_is = refl; code_is = refl };
     starts = λ s e d. net_is s _ _ _ _ _ e.format_is e.addresses_are e.length_is d e.code_is;
     turn = turn;
     put_cells = λ a m s x e. refl;
-    put-frame = λ a m s x e g _. kept s₀ s (address_of a) x e;
+    put_frame = λ a m s x e g _. kept s₀ s (address_of a) x e;
     cut_cells = λ a m s x. refl;
     cut_frame = λ a m s x e. kept s₀ s (address_of a) x e;
     cut_extra = λ a m s x e. tt;
@@ -107,8 +107,8 @@ module _ (s₀ : Net) (h : s₀.addresses ≤ 16) (l : length s₀.nodes ≡ 16)
       let good : ℕ → Node → Type 0 = λ a. Ruled s₀.format s₀.addresses in
       let write = node_rows_bits s₀.format s₀.addresses in
       reads_cells (pass_over s₀ good (λ x. zero_node)) s₀ (λ a. rows_of (address_of a)) s₀.addresses write
-      (filling-pass s₀ _ _ _ _ h l (λ a m s e b g.
-      reads-turn (pass_over s₀ good (λ x. zero_node)) s₀ a s write (λ x. x)
+      (filling_pass s₀ _ _ _ _ h l (λ a m s e b g.
+      reads_turn (pass_over s₀ good (λ x. zero_node)) s₀ a s write (λ x. x)
       (omega arith) (λ x. refl) (reads_policy a m s e b)
       (λ x ok. (ok, sym (blank a m), tt)) (λ x ok. refl) (λ x ok u _. (x, ok, refl))))
 
@@ -150,14 +150,14 @@ module _ (s₀ : Net) (h : s₀.addresses ≤ 16) (k : s₀.length ≤ 512) (l :
       (subst (λ (x : Node). Reads (processes own s₀.length x) processes_bits (Peopled own s₀.length rs))
       (sym (bare a m) ∙ b) (reads_processes own s₀.length rs k))
 
-  pub reads-allProcesses :
+  pub reads_all_processes :
       Reads (all_processes s₀) (λ b. joined s₀.addresses (λ a. processes_bits (node_at b (address_of a)))) (ProcessesPass s₀)
   unfolding all_processes each_address processes_of node_at ProcessesPass with_node
-  reads-allProcesses =
+  reads_all_processes =
       let good : ℕ → Node → Type 0 = λ a. Slots (address_of a) s₀.length in
       reads_cells (pass_over s₀ good vacated) s₀ (λ a. processes_of (address_of a)) s₀.addresses processes_bits
-      (filling-pass s₀ _ _ _ _ h l (λ a m s e b g.
-      reads-turn (pass_over s₀ good vacated) s₀ a s processes_bits (λ x. x)
+      (filling_pass s₀ _ _ _ _ h l (λ a m s e b g.
+      reads_turn (pass_over s₀ good vacated) s₀ a s processes_bits (λ x. x)
       (omega arith) (λ x. refl) (reads_slots a m s e b)
       (λ x ok. (record { count = ok.count; slots = ok.slots }, vacated_bare x _ ok.bare ∙ sym (bare a m), tt))
       (λ x ok. refl)
@@ -185,14 +185,14 @@ module _ (s₀ : Net) (h : s₀.addresses ≤ 16) (l : length s₀.nodes ≡ 16)
       (subst (λ (x : Node). Reads (tuples own n x) tuples_bits (Stocked own n y.rows y.processes))
       (sym (bare a m) ∙ b) (reads_tuples own n y.rows y.processes h))
 
-  pub reads-allTuples :
+  pub reads_all_tuples :
       Reads (all_tuples s₀) (λ b. joined s₀.addresses (λ a. tuples_bits (node_at b (address_of a)))) (TuplesPass s₀)
   unfolding all_tuples each_address tuples_of node_at TuplesPass with_node bare_node
-  reads-allTuples =
+  reads_all_tuples =
       let good : ℕ → Node → Type 0 = λ a. TuplesOk (address_of a) s₀.addresses in
       reads_cells (pass_over s₀ good emptied) s₀ (λ a. tuples_of (address_of a)) s₀.addresses tuples_bits
-      (filling-pass s₀ _ _ _ _ h l (λ a m s e b g.
-      reads-turn (pass_over s₀ good emptied) s₀ a s tuples_bits (λ x. x)
+      (filling_pass s₀ _ _ _ _ h l (λ a m s e b g.
+      reads_turn (pass_over s₀ good emptied) s₀ a s tuples_bits (λ x. x)
       (omega arith) (λ x. refl) (reads_store a m s e b)
       (λ x ok. (
         ok.store,
@@ -265,10 +265,10 @@ module _ (s₀ : Net) (h : s₀.addresses ≤ 16) (k : s₀.length ≤ 512) (l :
     begins = record { format_is = refl; addresses_are = refl; length_is = refl; nodes_are = refl };
     starts = λ s e d. net_is s _ _ _ _ _ e.format_is e.addresses_are e.length_is e.nodes_are d;
     turn = λ p m s e b g.
-        reads-turn (code_of s₀) s₀ p s instruction_bits (λ c. c) (omega arith) (λ c. refl) (reads_placed s e)
+        reads_turn (code_of s₀) s₀ p s instruction_bits (λ c. c) (omega arith) (λ c. refl) (reads_placed s e)
         (λ c ok. (ok, sym (bare p m), tt)) (λ c ok. refl) (λ c ok u _. (c, ok, refl));
     put_cells = λ p m s c e. refl;
-    put-frame = λ p m s c e g _. code_kept s₀ s (place_of p) c e;
+    put_frame = λ p m s c e g _. code_kept s₀ s (place_of p) c e;
     cut_cells = λ p m s c. refl;
     cut_frame = λ p m s c e. code_kept s₀ s (place_of p) c e;
     cut_extra = λ p m s c e. tt;
@@ -277,7 +277,7 @@ module _ (s₀ : Net) (h : s₀.addresses ≤ 16) (k : s₀.length ≤ 512) (l :
         (set-set s.code p c (get_or s.code p past_instruction) ∙ set-get_or s.code p past_instruction);
   }
 
-  pub reads-code :
+  pub reads_code :
       Reads (code s₀) (λ b. joined s₀.length (λ p. instruction_bits (get_or b.code p past_instruction))) (CodePass s₀)
   unfolding code each_place CodePass
-  reads-code = reads_cells (code_of s₀) s₀ (λ p. instruction_of (place_of p)) s₀.length instruction_bits filling_code
+  reads_code = reads_cells (code_of s₀) s₀ (λ p. instruction_of (place_of p)) s₀.length instruction_bits filling_code

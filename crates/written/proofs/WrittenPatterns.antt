@@ -18,7 +18,7 @@ use Rattle.written.specs.ImageOf.{bits_of, address_bits, reading_bits, variable_
 use Rattle.fresh.specs.Fresh.{reading_fits, pattern_fits}
 use Rattle.net.proofs.Laws.{implies_i}
 use Rattle.written.proofs.ReadsWrites.{Reads, Ranged, reads_as, reads_map, reads_pure, reads_field}
-use Rattle.written.proofs.ReadsParts.{Kinded, reads-kind, reads-tested}
+use Rattle.written.proofs.ReadsParts.{Kinded, reads_kind, reads_tested}
 use Rattle.written.proofs.WrittenFields.{reads_address, reads_variable, reads_reading}
 
 -- ---- targets
@@ -92,7 +92,7 @@ module _ (n : ℕ) (h : n ≤ 16) where
   pub reads_target : Reads (target n) target_bits (λ t. target_sound n t ≡ true)
   unfolding target
   reads_target =
-      reads-kind target_kind target_rest (reads_field 2 0 3 25 (omega arith)) (λ t ok. target_ranged t) target_starts
+      reads_kind target_kind target_rest (reads_field 2 0 3 25 (omega arith)) (λ t ok. target_ranged t) target_starts
       reads_alternative
 
 -- ---- patterns
@@ -137,7 +137,7 @@ KindOk formals v = (Ranged 0 6 v) × (implies (not formals) (ltb v 4) ≡ true)
 
 reads_pattern_kind : (formals : Bool) → Reads (kind formals) (bits_of 3) (KindOk formals)
 unfolding kind KindOk
-reads_pattern_kind formals = reads-tested 3 (λ v. implies (not formals) (ltb v 4)) 26 (reads_field 3 0 6 25 (omega arith))
+reads_pattern_kind formals = reads_tested 3 (λ v. implies (not formals) (ltb v 4)) 26 (reads_field 3 0 6 25 (omega arith))
 
 kind_ok : (formals : Bool) (n : ℕ) (x : Pattern) → PatternOk formals n x → KindOk formals (pattern_kind x)
 unfolding KindOk pattern_kind is_actual
@@ -233,7 +233,7 @@ module _ (formals : Bool) (n : ℕ) (c : Instruction) (h : n ≤ 16) where
 
   reads_fresh : Reads (fresh c) variable_bits (λ v. (v < 8) × (unbound_before c c.count v ≡ true))
   unfolding fresh
-  reads_fresh = reads-tested 3 (unbound_before c c.count) 27 reads_variable
+  reads_fresh = reads_tested 3 (unbound_before c c.count) 27 reads_variable
 
   reads_formal_reading : implies (not formals) false ≡ true → Reads (formal_reading c) pattern_rest (PatternOf 4)
   unfolding formal_reading pattern_rest pattern_kind pattern_sound pattern_fits is_actual binds_anew
@@ -282,5 +282,5 @@ module _ (formals : Bool) (n : ℕ) (c : Instruction) (h : n ≤ 16) where
   pub reads_pattern : Reads (pattern formals n c) pattern_bits (NextOk formals n c)
   unfolding pattern
   reads_pattern =
-      reads-kind pattern_kind pattern_rest (reads_pattern_kind formals) (λ x ok. kind_ok formals n x ok.ok)
+      reads_kind pattern_kind pattern_rest (reads_pattern_kind formals) (λ x ok. kind_ok formals n x ok.ok)
       pattern_starts reads_pattern_of

@@ -12,12 +12,12 @@ use Rattle.net.specs.Records.{with_process}
 use Rattle.image.specs.Image.{row, process, processes, stored, tuples}
 use Rattle.written.specs.ImageOf.{bits_of, place_bits, processes_bits}
 use Rattle.text.specs.Joined.{joined}
-use Rattle.net.proofs.Every.{Every, Filled, filled-map}
+use Rattle.net.proofs.Every.{Every, Filled, filled_map}
 use Rattle.net.proofs.SlotLaws.{FirstBusy, slots_counted}
 use Rattle.net.proofs.Past.{past_process}
 use Rattle.written.proofs.ReadsWrites.{Reads, reads_then, reads_field}
-use Rattle.written.proofs.ReadsCells.{Arrayed, Through, Filling, reads-turn, reads_cells}
-use Rattle.written.proofs.ReadsCells.{rewritten-filled, filled-rewritten}
+use Rattle.written.proofs.ReadsCells.{Arrayed, Through, Filling, reads_turn, reads_cells}
+use Rattle.written.proofs.ReadsCells.{rewritten_filled, filled_rewritten}
 use Rattle.written.proofs.WrittenFields.{reads_place}
 
 -- a process of the node at address a, whose origin is that node
@@ -75,7 +75,7 @@ module _ (a : Locality) (k : ℕ) (rs : List Row) (h : k ≤ 512) where
     begins = refl;
     starts = λ x e d. ap (bare_node rs) d ∙ e;
     turn = λ i m x e b s.
-        reads-turn (processes_in a k rs) (start rs) i x (λ p. place_bits p.at) (starting_at a) (omega arith) (λ p. refl)
+        reads_turn (processes_in a k rs) (start rs) i x (λ p. place_bits p.at) (starting_at a) (omega arith) (λ p. refl)
         (reads_place k h)
         (λ p g. (
           record { first = p; within = g; is = refl },
@@ -84,7 +84,7 @@ module _ (a : Locality) (k : ℕ) (rs : List Row) (h : k ≤ 512) where
         ))
         (λ p g. refl) (λ p g _ _. (g.first, g.within, g.is));
     put_cells = λ i m x p e. refl;
-    put-frame = λ i m x p e s _. replaced rs x i p e;
+    put_frame = λ i m x p e s _. replaced rs x i p e;
     cut_cells = λ i m x p. refl;
     cut_frame = λ i m x p e. replaced rs x i p e;
     cut_extra = λ i m x p e. tt;
@@ -98,7 +98,7 @@ module _ (a : Locality) (k c : ℕ) (x : Node) (ok : ProcessesOk a k c x) where
   pub first_busy : FirstBusy c x
   unfolding starting_at free_process
   first_busy =
-      filled-map (λ p s. ap (λ (q : Process). q.busy) (sym s.is)) (λ p e. ap (λ (q : Process). q.busy) (sym e))
+      filled_map (λ p s. ap (λ (q : Process). q.busy) (sym s.is)) (λ p e. ap (λ (q : Process). q.busy) (sym e))
       ok.slots_ok
 
   pub count_is : process_count x ≡ c
@@ -113,11 +113,11 @@ pub record Peopled (a : Locality) (k : ℕ) (rs : List Row) (x : Node) : Type 0 
 module _ (a : Locality) (k : ℕ) (rs : List Row) (h : k ≤ 512) where
   through_processes : (c : ℕ) (x : Node) → c < 5 → Through (processes_in a k rs) (start rs) c x → ProcessesOk a k c x
   unfolding start bare_node
-  through_processes c x l g = record { few = omega arith; slots_ok = rewritten-filled refl g.cells_ok }
+  through_processes c x l g = record { few = omega arith; slots_ok = rewritten_filled refl g.cells_ok }
 
   processes_through : (x : Node) (g : Peopled a k rs x) → Through (processes_in a k rs) (start rs) g.count x
   unfolding start bare_node
-  processes_through x g = record { frame = g.bare; cells_ok = filled-rewritten refl g.slots.slots_ok }
+  processes_through x g = record { frame = g.bare; cells_ok = filled_rewritten refl g.slots.slots_ok }
 
   pub reads_processes : Reads (processes a k (bare_node rs free)) processes_bits (Peopled a k rs)
   unfolding processes processes_bits process_at start

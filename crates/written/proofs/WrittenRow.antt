@@ -16,11 +16,11 @@ use Rattle.image.specs.Image.{each_address, rights_of, creating, rights, row}
 use Rattle.written.specs.ImageOf.{bits_of, rights_bits, row_bits}
 use Rattle.text.specs.Joined.{joined}
 use Rattle.written.specs.ImageOf.{digit}
-use Rattle.net.proofs.Every.{filled-map}
+use Rattle.net.proofs.Every.{filled_map}
 use Rattle.sound.proofs.NodeFacts.{RowOk}
 use Rattle.written.proofs.ReadsWrites.{Reads, reads_then, reads_bits}
-use Rattle.written.proofs.ReadsCells.{Arrayed, Through, Filling, reads-turn, reads_cells}
-use Rattle.written.proofs.ReadsCells.{rewritten-filled, filled-rewritten}
+use Rattle.written.proofs.ReadsCells.{Arrayed, Through, Filling, reads_turn, reads_cells}
+use Rattle.written.proofs.ReadsCells.{rewritten_filled, filled_rewritten}
 use Rattle.written.proofs.WrittenFields.{rights_written, rights_parts, digit_set, digit_small}
 use Rattle.net.proofs.Past.{past_rights}
 
@@ -47,11 +47,11 @@ filling_rights v n l = record {
       ap (λ (c : Bool). record { create = c; rights = replicate 16 no_rights }) (sym e)
       ∙ ap (λ y. record { create = r.create; rights = y }) d;
   turn = λ i m r e b s.
-      reads-turn (rights_in v) (creating v) i r rights_bits rights_of (omega arith) (λ x. refl) (reads_bits 4)
+      reads_turn (rights_in v) (creating v) i r rights_bits rights_of (omega arith) (λ x. refl) (reads_bits 4)
       (λ x h. (tt, sym (get_or-replicate 16 i no_rights past_rights (omega arith)), tt)) rights_written
       (λ x _ _ _. rights_parts x);
   put_cells = λ i m r x e. refl;
-  put-frame = λ i m r x e s _. e;
+  put_frame = λ i m r x e s _. e;
   cut_cells = λ i m r x. refl;
   cut_frame = λ i m r x e. e;
   cut_extra = λ i m r x e. tt;
@@ -62,11 +62,11 @@ filling_rights v n l = record {
 
 through_rights : (v n : ℕ) (r : Row) → Through (rights_in v) (creating v) n r → RowOk n r
 unfolding creating zero_row
-through_rights v n r g = filled-map (λ x u. u) (λ x. sym) (rewritten-filled refl g.cells_ok)
+through_rights v n r g = filled_map (λ x u. u) (λ x. sym) (rewritten_filled refl g.cells_ok)
 
 rights_through : (v n : ℕ) (r : Row) → r.create ≡ eqb v 1 → RowOk n r → Through (rights_in v) (creating v) n r
 unfolding creating zero_row
-rights_through v n r e ok = record { frame = e; cells_ok = filled-rewritten refl (filled-map (λ x u. u) (λ x. sym) ok) }
+rights_through v n r e ok = record { frame = e; cells_ok = filled_rewritten refl (filled_map (λ x u. u) (λ x. sym) ok) }
 
 pub reads_row : (n : ℕ) → n ≤ 16 → Reads (row n) (row_bits n) (RowOk n)
 unfolding row each_address row_bits rights_at bits_of

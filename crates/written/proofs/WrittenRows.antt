@@ -16,13 +16,13 @@ use Rattle.text.specs.Joined.{joined}
 use Rattle.image.specs.Image.{each_address, single_row, row_from, node_rows}
 use Rattle.written.specs.Types.{Row, Node}
 use Rattle.written.specs.ImageOf.{row_bits, node_rows_bits}
-use Rattle.net.proofs.Every.{filled-each}
+use Rattle.net.proofs.Every.{filled_each}
 use Rattle.net.proofs.Past.{past_row}
 use Rattle.sound.proofs.NodeFacts.{RowOk, RowsOk, of_zero}
 use Rattle.sound.proofs.NodeChanges.{zero_row_law, alike_rows}
 use Rattle.written.proofs.ReadsWrites.{Reads, reads_as, reads_map}
-use Rattle.written.proofs.ReadsCells.{Arrayed, Through, Filling, reads-turn, reads_cells}
-use Rattle.written.proofs.ReadsCells.{rewritten-filled, filled-rewritten}
+use Rattle.written.proofs.ReadsCells.{Arrayed, Through, Filling, reads_turn, reads_cells}
+use Rattle.written.proofs.ReadsCells.{rewritten_filled, filled_rewritten}
 use Rattle.written.proofs.WrittenRow.{reads_row}
 use Rattle.written.proofs.WrittenProcesses.{bare_node, free}
 
@@ -84,11 +84,11 @@ module _ (f n : ℕ) (h : n ≤ 16) where
     begins = refl;
     starts = λ x e d. ap (λ rs. bare_node rs free) d ∙ e;
     turn = λ o m x e b s.
-        reads-turn (rows_in n) zero_node o x (row_bits n) (λ r. r) (omega arith) (λ r. refl) (reads_row n h)
+        reads_turn (rows_in n) zero_node o x (row_bits n) (λ r. r) (omega arith) (λ r. refl) (reads_row n h)
         (λ r ok. (ok, sym (get_or-replicate 16 o zero_row past_row (omega arith)), tt)) (λ r ok. refl)
         (λ r ok _ _. (r, ok, refl));
     put_cells = λ o m x r e. refl;
-    put-frame = λ o m x r e s _. replaced x o r e;
+    put_frame = λ o m x r e s _. replaced x o r e;
     cut_cells = λ o m x r. refl;
     cut_frame = λ o m x r e. replaced x o r e;
     cut_extra = λ o m x r e. tt;
@@ -99,12 +99,12 @@ module _ (f n : ℕ) (h : n ≤ 16) where
   through_rows : (x : Node) → eqb f 1 ≡ false → Through (rows_in n) zero_node n x → Ruled f n x
   unfolding alike zero_node
   through_rows x e g =
-      let filled = rewritten-filled refl g.cells_ok in
+      let filled = rewritten_filled refl g.cells_ok in
       record {
         rows_ok = record {
           each_ok = record {
             size_is = filled.size_is;
-            holds = filled-each filled (λ r ok. ok) (λ r z. of_zero (RowOk n) (zero_row_law n) r (sym z));
+            holds = filled_each filled (λ r ok. ok) (λ r z. of_zero (RowOk n) (zero_row_law n) r (sym z));
           };
           as_first = λ d. never d e;
           barred = λ _ o l m. sym ((filled.holds o m).unused l);
@@ -116,7 +116,7 @@ module _ (f n : ℕ) (h : n ≤ 16) where
   unfolding alike zero_node
   rows_through x e g = record {
     frame = g.bare;
-    cells_ok = filled-rewritten refl (record {
+    cells_ok = filled_rewritten refl (record {
       size_is = g.rows_ok.each_ok.size_is;
       holds = λ o m. record {
         used = λ _. g.rows_ok.each_ok.holds o m;

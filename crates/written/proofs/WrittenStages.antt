@@ -52,12 +52,12 @@ pub record WithTuples (a f n k : ℕ) (x : Node) : Type 0 where
 
 -- a pass takes one stage to the next
 module _ {L M : ℕ → ℕ → ℕ → ℕ → Node → Type 0} {Good : ℕ → Node → Type 0} {undo : Node → Node} (s₀ s : Net) where
-  pub staged-pass :
+  pub staged_pass :
       Staged L s₀ → Through (pass_over s₀ Good undo) s₀ s₀.addresses s
       → ((a : ℕ) (x y : Node) → L a s₀.format s₀.addresses s₀.length y → Good a x → undo x ≡ y
       → M a s₀.format s₀.addresses s₀.length x)
       → Staged M s
-  staged-pass g t next =
+  staged_pass g t next =
       subst (Staged M)
       (net_is s _ _ _ _ _ t.frame.format_is t.frame.addresses_are t.frame.length_is refl t.frame.code_is)
       (record {
@@ -77,12 +77,12 @@ module _ {L M : ℕ → ℕ → ℕ → ℕ → Node → Type 0} {Good : ℕ →
 
 pub ruled : (s₀ s : Net) → Staged Blank s₀ → RowsPass s₀ s → Staged WithRows s
 unfolding RowsPass
-ruled s₀ s g t = staged-pass s₀ s g t (λ a x y b ok u. ok)
+ruled s₀ s g t = staged_pass s₀ s g t (λ a x y b ok u. ok)
 
 pub peopled : (s₀ s : Net) → Staged WithRows s₀ → ProcessesPass s₀ s → Staged WithProcesses s
 unfolding ProcessesPass bare_node
 peopled s₀ s g t =
-    staged-pass s₀ s g t
+    staged_pass s₀ s g t
     (λ a x y b ok u.
     let e : vacated x ≡ bare_node y.rows free = u ∙ sym b.bare in
     record {
@@ -103,7 +103,7 @@ slots_as a k x y e g = record {
 pub stocked : (s₀ s : Net) → Staged WithProcesses s₀ → TuplesPass s₀ s → Staged WithTuples s
 unfolding TuplesPass bare_node
 stocked s₀ s g t =
-    staged-pass s₀ s g t
+    staged_pass s₀ s g t
     (λ a x y b ok u. record {
       rows_ok = subst (RowsOk s₀.format s₀.addresses) (ap (λ (z : Node). z.rows) (sym u)) b.rows_ok;
       slots_ok = slots_as (address_of a) s₀.length y x (ap (λ (z : Node). z.processes) (sym u)) b.slots_ok;

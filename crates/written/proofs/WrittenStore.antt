@@ -18,8 +18,8 @@ use Rattle.net.proofs.Laws.{choose_true}
 use Rattle.net.proofs.Every.{Every, Filled}
 use Rattle.net.proofs.Past.{past_tuple}
 use Rattle.written.proofs.ReadsWrites.{Reads, reads_then, reads_field}
-use Rattle.written.proofs.ReadsCells.{Arrayed, Through, Filling, reads-turn, reads_cells}
-use Rattle.written.proofs.ReadsCells.{rewritten-filled, filled-rewritten}
+use Rattle.written.proofs.ReadsCells.{Arrayed, Through, Filling, reads_turn, reads_cells}
+use Rattle.written.proofs.ReadsCells.{rewritten_filled, filled_rewritten}
 use Rattle.written.proofs.WrittenTuples.{TupleOk, reads_tuple, marked_bits, marked_ok, marked_again}
 use Rattle.written.proofs.WrittenProcesses.{bare_node, node_is}
 
@@ -87,13 +87,13 @@ module _ (a : Locality) (n : ℕ) (rs : List Row) (ps : List Process) (h : n ≤
     begins = record { rows_are = refl; processes_are = refl; stored_is = refl };
     starts = λ x e d. node_is x rs ps 0 (replicate 16 zero_tuple) e.rows_are e.processes_are e.stored_is d;
     turn = λ i m x e b s.
-        reads-turn (stores_in a n rs ps) (bare_node rs ps) i x tuple_bits (marked a) (omega arith)
+        reads_turn (stores_in a n rs ps) (bare_node rs ps) i x tuple_bits (marked a) (omega arith)
         (λ t. tuples_put x i t (omega arith) e.stored_is) (reads_tuple n h)
         (λ t g. (marked_ok a t _ n g, sym (get_or-replicate 16 i zero_tuple past_tuple (omega arith)), tt))
         (λ t g. marked_bits a t)
         (λ t g _ _. (marked (address_of 0) t, marked_ok (address_of 0) t a n g, marked_again a t (address_of 0) g.mark_is));
     put_cells = λ i m x t e. tuples_put x i t (omega arith) e.stored_is;
-    put-frame = λ i m x t e s _.
+    put_frame = λ i m x t e s _.
         let d = e.stored_is in
         subst (Storing rs ps (suc i)) (sym (put_tuple x t (omega arith)))
         (record { rows_are = e.rows_are; processes_are = e.processes_are; stored_is = omega arith });
@@ -108,7 +108,7 @@ module _ (a : Locality) (n : ℕ) (rs : List Row) (ps : List Process) (h : n ≤
   through_tuples c x l g =
       let e = g.frame.stored_is in
       record {
-        store = record { few = omega arith; tuples_ok = rewritten-filled (sym e) g.cells_ok };
+        store = record { few = omega arith; tuples_ok = rewritten_filled (sym e) g.cells_ok };
         same_rows = g.frame.rows_are;
         same_processes = g.frame.processes_are;
       }
@@ -117,7 +117,7 @@ module _ (a : Locality) (n : ℕ) (rs : List Row) (ps : List Process) (h : n ≤
   unfolding bare_node
   tuples_through x g = record {
     frame = record { rows_are = g.same_rows; processes_are = g.same_processes; stored_is = refl };
-    cells_ok = filled-rewritten refl g.store.tuples_ok;
+    cells_ok = filled_rewritten refl g.store.tuples_ok;
   }
 
   pub reads_tuples : Reads (tuples a n (bare_node rs ps)) tuples_bits (Stocked a n rs ps)

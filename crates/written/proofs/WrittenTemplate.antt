@@ -17,9 +17,9 @@ use Rattle.text.specs.Joined.{joined}
 use Rattle.net.proofs.Laws.{choose_true}
 use Rattle.net.proofs.Every.{Every, Filled}
 use Rattle.net.proofs.Past.{past_template}
-use Rattle.sound.proofs.FormalLaws.{anew_below, anew_cut, anew-put}
+use Rattle.sound.proofs.FormalLaws.{anew_below, anew_cut, anew_put}
 use Rattle.written.proofs.ReadsWrites.{Reads, reads_then, reads_bits}
-use Rattle.written.proofs.ReadsCells.{Arrayed, Through, Filling, reads-turn, reads_cells, rewritten-filled, filled-rewritten}
+use Rattle.written.proofs.ReadsCells.{Arrayed, Through, Filling, reads_turn, reads_cells, rewritten_filled, filled_rewritten}
 use Rattle.written.proofs.WrittenPatterns.{PatternOk, reads_pattern}
 
 -- ---- a template
@@ -63,7 +63,7 @@ module _ (c : Instruction) (i : ℕ) (f : TemplateField) where
   longer_drafted h d x = record {
     action_is = d.action_is;
     count_is = refl;
-    anew = λ j l. anew-put c i (suc i) f h d.anew x j (omega arith);
+    anew = λ j l. anew_put c i (suc i) f h d.anew x j (omega arith);
   }
 
   cut_drafted : Drafted (suc i) c → Drafted i (cut_pattern i c f)
@@ -109,7 +109,7 @@ module _ (formals : Bool) (n : ℕ) (h : n ≤ 16) where
         ∙ ap (λ (x : ℕ). record { action = c.action; count = x; template = replicate 4 zero_template_field }) e.count_is
         ∙ ap (λ y. record { action = c.action; count = c.count; template = y }) d;
     turn = λ i m c e b s.
-        reads-turn (patterns_of formals n) zero_instruction i c (λ f. pattern_bits f.pattern) (λ x. record { pattern = x })
+        reads_turn (patterns_of formals n) zero_instruction i c (λ f. pattern_bits f.pattern) (λ x. record { pattern = x })
         (omega arith) (λ f. patterns_put c i f (omega arith) e.count_is) (reads_pattern formals n c h)
         (λ x ok. (
           ok.ok,
@@ -123,7 +123,7 @@ module _ (formals : Bool) (n : ℕ) (h : n ≤ 16) where
           refl,
         ));
     put_cells = λ i m c f e. patterns_put c i f (omega arith) e.count_is;
-    put-frame = λ i m c f e s x.
+    put_frame = λ i m c f e s x.
         subst (Drafted (suc i)) (sym (put_pattern c i f (omega arith) e.count_is))
         (longer_drafted c i f (omega arith) e x);
     cut_cells = λ i m c f. cells_cut c i f;
@@ -148,7 +148,7 @@ module _ (formals : Bool) (n : ℕ) (h : n ≤ 16) where
   unfolding zero_instruction
   template_through c k e ok = record {
     frame = record { action_is = ok.no_action; count_is = e; anew = λ j l. ok.anew j (omega arith) };
-    cells_ok = filled-rewritten (sym e) ok.patterns_ok;
+    cells_ok = filled_rewritten (sym e) ok.patterns_ok;
   }
 
   through_template : (c : Instruction) (less : ℕ) → less < 4
@@ -160,7 +160,7 @@ module _ (formals : Bool) (n : ℕ) (h : n ≤ 16) where
         no_action = g.frame.action_is;
         least = omega arith;
         most = omega arith;
-        patterns_ok = rewritten-filled (sym e) g.cells_ok;
+        patterns_ok = rewritten_filled (sym e) g.cells_ok;
         anew = λ j m. g.frame.anew j (omega arith);
       }
 

@@ -22,8 +22,8 @@ use Rattle.net.proofs.Laws.{choose_true}
 use Rattle.net.proofs.Every.{Every, Filled}
 use Rattle.net.proofs.Past.{past_field}
 use Rattle.written.proofs.ReadsWrites.{Reads, reads_then, reads_map, reads_bits}
-use Rattle.written.proofs.ReadsParts.{Kinded, reads-kind}
-use Rattle.written.proofs.ReadsCells.{Arrayed, Through, Filling, reads-turn, reads_cells, rewritten-filled, filled-rewritten}
+use Rattle.written.proofs.ReadsParts.{Kinded, reads_kind}
+use Rattle.written.proofs.ReadsCells.{Arrayed, Through, Filling, reads_turn, reads_cells, rewritten_filled, filled_rewritten}
 use Rattle.written.proofs.WrittenFields.{reads_address, reads_reading}
 
 -- ---- a field
@@ -79,7 +79,7 @@ module _ (n : ℕ) (h : n ≤ 16) where
 
   pub reads_item : Reads (item n) item_bits (ItemOk n)
   unfolding item
-  reads_item = reads-kind sort_of rest (reads_bits 1) (λ x ok. sort_small x) item_starts reads_sort
+  reads_item = reads_kind sort_of rest (reads_bits 1) (λ x ok. sort_small x) item_starts reads_sort
 
 -- ---- a tuple, with the mark of address a
 pub record TupleOk (a : Locality) (n : ℕ) (t : Tuple) : Type 0 where
@@ -137,12 +137,12 @@ module _ (n : ℕ) (h : n ≤ 16) where
         ∙ ap (λ y. record { count = t.count; fields = y; mark = address_of 0 }) d
         ∙ ap (λ (m : Locality). record { count = t.count; fields = t.fields; mark = m }) e.unmarked;
     turn = λ i m t e b s.
-        reads-turn (fields_of n) zero_tuple i t (λ f. item_bits f.item) (λ x. record { item = x }) (omega arith)
+        reads_turn (fields_of n) zero_tuple i t (λ f. item_bits f.item) (λ x. record { item = x }) (omega arith)
         (λ f. fields_put t i f (omega arith) e.count_is) (reads_item n h)
         (λ x ok. (ok, sym (get_or-replicate 4 i zero_field past_field (omega arith)), tt)) (λ x ok. refl)
         (λ f ok u _. (f.item, ok, refl));
     put_cells = λ i m t f e. fields_put t i f (omega arith) e.count_is;
-    put-frame = λ i m t f e s _.
+    put_frame = λ i m t f e s _.
         let d = e.count_is in
         subst (Counted (suc i)) (sym (put_field t f (omega arith)))
         (record { count_is = omega arith; unmarked = e.unmarked });
@@ -156,7 +156,7 @@ module _ (n : ℕ) (h : n ≤ 16) where
   unfolding zero_tuple
   fields_through t k e ok = record {
     frame = record { count_is = e; unmarked = ok.mark_is };
-    cells_ok = filled-rewritten e ok.fields_ok;
+    cells_ok = filled_rewritten e ok.fields_ok;
   }
 
   through_fields : (t : Tuple) (less : ℕ) → less < 4 → Through (fields_of n) zero_tuple (less + 1) t → TupleOk (address_of 0) n t
@@ -167,7 +167,7 @@ module _ (n : ℕ) (h : n ≤ 16) where
         mark_is = g.frame.unmarked;
         least = omega arith;
         most = omega arith;
-        fields_ok = rewritten-filled e g.cells_ok;
+        fields_ok = rewritten_filled e g.cells_ok;
       }
 
   pub reads_tuple : Reads (tuple n) tuple_bits (TupleOk (address_of 0) n)

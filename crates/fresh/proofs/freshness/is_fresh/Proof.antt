@@ -1,7 +1,7 @@
 -- `fresh::freshness::is_fresh` meets its contract. Assumes nothing.
 use Rattle.net.proofs.AllLaws.{and_both}
 use Rattle.fresh.proofs.NetTypes.{held_fits}
-use Rattle.fresh.proofs.FreshLaws.{fresh-tested}
+use Rattle.fresh.proofs.FreshLaws.{fresh_tested}
 use borrow.Author.Rules.{rules}
 use Rattle.fresh.proofs.freshness.is_fresh.Statement.{statement}
 use Rattle.fresh.proofs.freshness.is_fresh.Tie as tie
@@ -13,4 +13,4 @@ is_fresh_spec =
     (λ c κs. search rules)
     (λ c κs. search rules)
     (λ c κs. search rules)
-    (λ c. fresh-tested _ _ (held_fits _ _ c.before.before.before.well-formed.0) (search (rules, and_both))))
+    (λ c. fresh_tested _ _ (held_fits _ _ c.before.before.before.well-formed.0) (search (rules, and_both))))

@@ -5,7 +5,7 @@ use lib.ListN.{length}
 use Rattle.net.specs.Records.{instruction_at, place_of}
 use Rattle.keeping.specs.Worklist.{unmarked, search_of}
 use Rattle.keeping.proofs.VisitLaws.{marks_long, top_in, top_scaled, place_low, place_fits, place_scaled, turned_less}
-use Rattle.keeping.proofs.ReachLaws.{Way, none_marked, way-first, way_top, way_on, all-marked}
+use Rattle.keeping.proofs.ReachLaws.{Way, none_marked, way_first, way_top, way_on, all_marked}
 use borrow.Author.Rules.{rules}
 use Rattle.keeping.proofs.reaching.reached.Statement.{statement}
 use Rattle.keeping.proofs.reaching.reached.Tie as tie
@@ -26,7 +26,7 @@ reached_spec =
     (λ c. search rules)
     (λ c. search (rules, none_marked))
     (λ c. search rules)
-    (λ c. (search (rules, way-first), refl))
+    (λ c. (search (rules, way_first), refl))
     (λ c. search rules)
     (λ c. search (rules, top_scaled))
     (λ c. search (rules, top_in))
@@ -38,4 +38,4 @@ reached_spec =
     (λ c κs. search (rules, way_top))
     (λ c. search (rules, turned_less))
     (λ c. (search (rules, way_on), search rules))
-    (λ c. search (rules, all-marked)))
+    (λ c. search (rules, all_marked)))

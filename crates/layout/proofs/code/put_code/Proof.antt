@@ -2,7 +2,7 @@
 use Prim.Native.Nat.{◌-◌, ◌≤◌}
 use Rattle.net.specs.Records.{instruction_at, place_of}
 use Rattle.layout.proofs.CountLaws.{few_code}
-use Rattle.text.proofs.WritingLaws.{joined_end, joined-more, joined_none, wrote_length}
+use Rattle.text.proofs.WritingLaws.{joined_end, joined_more, joined_none, wrote_length}
 use Rattle.written.specs.ImageOf.{code_bits, instruction_bits}
 use Rattle.text.specs.Joined.{joined}
 use Rattle.text.specs.Writing.{Wrote}
@@ -29,6 +29,6 @@ put_code_spec =
     (λ c κs. search (rules, few_code))
     (λ c. search rules)
     (λ c. search rules)
-    (λ c. search (rules, joined-more))
+    (λ c. search (rules, joined_more))
     (λ c. search (rules, wrote_length))
     (λ c. search (rules, joined_end)))

@@ -1,5 +1,5 @@
 -- `layout::code::put_template` meets its contract. Assumes nothing.
-use Rattle.layout.proofs.NumberLaws.{counted-then}
+use Rattle.layout.proofs.NumberLaws.{counted_then}
 use Rattle.written.specs.ImageOf.{template_bits}
 use borrow.Author.Rules.{rules}
 use Rattle.layout.proofs.code.put_template.Statement.{statement}
@@ -14,4 +14,4 @@ put_template_spec =
     (λ c κs. search rules)
     (λ c κs. search rules)
     (λ c. search rules)
-    (λ c. search (rules, counted-then)))
+    (λ c. search (rules, counted_then)))

@@ -1,5 +1,5 @@
 -- `layout::nodes::put_address_item` meets its contract. Assumes nothing.
-use Rattle.text.proofs.WritingLaws.{wrote-one-then}
+use Rattle.text.proofs.WritingLaws.{wrote_one_then}
 use borrow.Author.Rules.{rules}
 use Rattle.layout.proofs.nodes.put_address_item.Statement.{statement}
 use Rattle.layout.proofs.nodes.put_address_item.Tie as tie
@@ -11,4 +11,4 @@ put_address_item_spec =
     (λ c κs. search rules)
     (λ c κs. search rules)
     (λ c. search rules)
-    (λ c. search (rules, wrote-one-then)))
+    (λ c. search (rules, wrote_one_then)))

@@ -2,7 +2,7 @@
 use Prim.Native.Nat.{◌-◌, ◌≤◌}
 use Rattle.net.specs.Records.{node_at, address_of}
 use Rattle.layout.proofs.CountLaws.{few_node}
-use Rattle.text.proofs.WritingLaws.{joined_end, joined-more, joined_none, wrote_length}
+use Rattle.text.proofs.WritingLaws.{joined_end, joined_more, joined_none, wrote_length}
 use Rattle.written.specs.ImageOf.{all_tuples_bits, tuples_bits}
 use Rattle.text.specs.Joined.{joined}
 use Rattle.text.specs.Writing.{Wrote}
@@ -29,6 +29,6 @@ put_all_tuples_spec =
     (λ c κs. search (rules, few_node))
     (λ c. search rules)
     (λ c. search rules)
-    (λ c. search (rules, joined-more))
+    (λ c. search (rules, joined_more))
     (λ c. search (rules, wrote_length))
     (λ c. search (rules, joined_end)))

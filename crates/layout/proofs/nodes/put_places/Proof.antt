@@ -1,7 +1,7 @@
 -- `layout::nodes::put_places` meets its contract. Assumes nothing.
 use Prim.Native.Nat.{◌-◌, ◌≤◌}
 use Rattle.net.specs.Records.{process_at}
-use Rattle.text.proofs.WritingLaws.{joined_end, joined-more, joined_none, wrote_length}
+use Rattle.text.proofs.WritingLaws.{joined_end, joined_more, joined_none, wrote_length}
 use Rattle.written.specs.ImageOf.{place_bits}
 use Rattle.text.specs.Joined.{joined}
 use Rattle.text.specs.Writing.{Wrote}
@@ -28,6 +28,6 @@ put_places_spec =
     (λ c κs. search rules)
     (λ c. search rules)
     (λ c. search rules)
-    (λ c. search (rules, joined-more))
+    (λ c. search (rules, joined_more))
     (λ c. search (rules, wrote_length))
     (λ c. search (rules, joined_end)))

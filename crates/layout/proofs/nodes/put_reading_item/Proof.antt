@@ -1,6 +1,6 @@
 -- `layout::nodes::put_reading_item` meets its contract. Assumes nothing.
 use Rattle.layout.proofs.NumberLaws.{reading_back}
-use Rattle.text.proofs.WritingLaws.{wrote-one-then}
+use Rattle.text.proofs.WritingLaws.{wrote_one_then}
 use borrow.Author.Rules.{rules}
 use Rattle.layout.proofs.nodes.put_reading_item.Statement.{statement}
 use Rattle.layout.proofs.nodes.put_reading_item.Tie as tie
@@ -12,4 +12,4 @@ put_reading_item_spec =
     (λ c κs. search rules)
     (λ c κs. search rules)
     (λ c. search rules)
-    (λ c. search (rules, wrote-one-then, reading_back)))
+    (λ c. search (rules, wrote_one_then, reading_back)))

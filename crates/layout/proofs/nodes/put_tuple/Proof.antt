@@ -1,5 +1,5 @@
 -- `layout::nodes::put_tuple` meets its contract. Assumes nothing.
-use Rattle.layout.proofs.NumberLaws.{counted-then}
+use Rattle.layout.proofs.NumberLaws.{counted_then}
 use Rattle.written.specs.ImageOf.{tuple_bits}
 use borrow.Author.Rules.{rules}
 use Rattle.layout.proofs.nodes.put_tuple.Statement.{statement}
@@ -14,4 +14,4 @@ put_tuple_spec =
     (λ c κs. search rules)
     (λ c κs. search rules)
     (λ c. search rules)
-    (λ c. search (rules, counted-then)))
+    (λ c. search (rules, counted_then)))

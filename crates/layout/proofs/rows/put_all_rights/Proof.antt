@@ -1,7 +1,7 @@
 -- `layout::rows::put_all_rights` meets its contract. Assumes nothing.
 use Prim.Native.Nat.{◌-◌, ◌≤◌}
 use Rattle.net.specs.Records.{rights_at, address_of}
-use Rattle.text.proofs.WritingLaws.{joined_end, joined-more, joined_none, wrote_length}
+use Rattle.text.proofs.WritingLaws.{joined_end, joined_more, joined_none, wrote_length}
 use Rattle.written.specs.ImageOf.{rights_bits}
 use Rattle.text.specs.Joined.{joined}
 use Rattle.text.specs.Writing.{Wrote}
@@ -28,6 +28,6 @@ put_all_rights_spec =
     (λ c κs. search rules)
     (λ c. search rules)
     (λ c. search rules)
-    (λ c. search (rules, joined-more))
+    (λ c. search (rules, joined_more))
     (λ c. search (rules, wrote_length))
     (λ c. search (rules, joined_end)))

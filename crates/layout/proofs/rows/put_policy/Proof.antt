@@ -1,6 +1,6 @@
 -- `layout::rows::put_policy` meets its contract. Assumes nothing.
 use Rattle.net.specs.Records.{row_at}
-use Rattle.layout.proofs.RowLaws.{wrote-origins, wrote_single}
+use Rattle.layout.proofs.RowLaws.{wrote_origins, wrote_single}
 use borrow.Author.Rules.{rules}
 use Rattle.layout.proofs.rows.put_policy.Statement.{statement}
 use Rattle.layout.proofs.rows.put_policy.Tie as tie
@@ -16,4 +16,4 @@ put_policy_spec =
     (λ c. search rules)
     (λ c. search (rules, wrote_single))
     (λ c. search rules)
-    (λ c. search (rules, wrote-origins)))
+    (λ c. search (rules, wrote_origins)))

@@ -1,5 +1,5 @@
 -- `layout::rows::put_rights` meets its contract. Assumes nothing.
-use Rattle.text.proofs.WritingLaws.{wrote-one-then}
+use Rattle.text.proofs.WritingLaws.{wrote_one_then}
 use Rattle.written.specs.ImageOf.{rights_bits}
 use borrow.Author.Rules.{rules}
 use Rattle.layout.proofs.rows.put_rights.Statement.{statement}
@@ -15,4 +15,4 @@ put_rights_spec =
     (λ c κs. search rules)
     (λ c κs. search rules)
     (λ c. search rules)
-    (λ c. search (rules, wrote-one-then)))
+    (λ c. search (rules, wrote_one_then)))

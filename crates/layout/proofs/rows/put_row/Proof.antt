@@ -1,5 +1,5 @@
 -- `layout::rows::put_row` meets its contract. Assumes nothing.
-use Rattle.text.proofs.WritingLaws.{wrote-one-then}
+use Rattle.text.proofs.WritingLaws.{wrote_one_then}
 use Rattle.written.specs.ImageOf.{row_bits}
 use borrow.Author.Rules.{rules}
 use Rattle.layout.proofs.rows.put_row.Statement.{statement}
@@ -13,4 +13,4 @@ put_row_spec =
     (λ c κs. search rules)
     (λ c κs. search rules)
     (λ c. search rules)
-    (λ c. search (rules, wrote-one-then)))
+    (λ c. search (rules, wrote_one_then)))

@@ -1,6 +1,6 @@
 -- `lean::actions::create` meets its contract. Assumes nothing.
 use Rattle.lean.specs.Words.{slot_at, with_slot, with_word}
-use Rattle.lean.proofs.OpenLaws.{create-done, create_full}
+use Rattle.lean.proofs.OpenLaws.{create_done, create_full}
 use borrow.Author.Rules.{rules}
 use Rattle.lean.proofs.actions.create.Statement.{statement}
 use Rattle.lean.proofs.actions.create.Tie as tie
@@ -30,5 +30,5 @@ create_spec =
     (λ c. search rules)
     (λ c. search rules)
     (λ c. search rules)
-    (λ c. search (rules, create-done))
+    (λ c. search (rules, create_done))
     (λ c. search (rules, create_full)))

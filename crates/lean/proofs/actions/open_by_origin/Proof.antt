@@ -1,5 +1,5 @@
 -- `lean::actions::open_by_origin` meets its contract. Assumes nothing.
-use Rattle.lean.proofs.OpenLaws.{by-origin-is}
+use Rattle.lean.proofs.OpenLaws.{by_origin_is}
 use borrow.Author.Rules.{rules}
 use Rattle.lean.proofs.actions.open_by_origin.Statement.{statement}
 use Rattle.lean.proofs.actions.open_by_origin.Tie as tie
@@ -24,4 +24,4 @@ open_by_origin_spec =
     (λ c. search rules)
     (λ c. search rules)
     (λ c κs. search rules)
-    (λ c. search (rules, by-origin-is)))
+    (λ c. search (rules, by_origin_is)))

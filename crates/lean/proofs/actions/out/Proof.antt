@@ -4,8 +4,8 @@ use borrow.Author.Rules.{rules}
 use Rattle.lean.proofs.actions.out.Statement.{statement}
 use Rattle.lean.proofs.actions.out.Tie as tie
 
-pub out-spec : {M : Type 1} → statement M
-out-spec =
+pub out_spec : {M : Type 1} → statement M
+out_spec =
     tie.close
     (tie.spec
     (λ c. search rules)

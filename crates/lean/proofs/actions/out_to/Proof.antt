@@ -1,5 +1,5 @@
 -- `lean::actions::out_to` meets its contract. Assumes nothing.
-use Rattle.lean.proofs.ActionCode.{out-done, out_full}
+use Rattle.lean.proofs.ActionCode.{out_done, out_full}
 use borrow.Author.Rules.{rules}
 use Rattle.lean.proofs.actions.out_to.Statement.{statement}
 use Rattle.lean.proofs.actions.out_to.Tie as tie
@@ -17,5 +17,5 @@ out_to_spec =
     (λ c κs. search rules)
     (λ c. search rules)
     (λ c κs. search rules)
-    (λ c. search (rules, out-done))
+    (λ c. search (rules, out_done))
     (λ c. search (rules, out_full)))

@@ -1,5 +1,5 @@
 -- `lean::actions::put_at` meets its contract. Assumes nothing.
-use Rattle.lean.proofs.ActionCode.{put-member, put_other}
+use Rattle.lean.proofs.ActionCode.{put_member, put_other}
 use borrow.Author.Rules.{rules}
 use Rattle.lean.proofs.actions.put_at.Statement.{statement}
 use Rattle.lean.proofs.actions.put_at.Tie as tie
@@ -9,5 +9,5 @@ put_at_spec =
     tie.close
     (tie.spec
     (λ c κs. search rules)
-    (λ c. search (rules, put-member))
+    (λ c. search (rules, put_member))
     (λ c. search (rules, put_other)))

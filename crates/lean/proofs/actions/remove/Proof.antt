@@ -1,5 +1,5 @@
 -- `lean::actions::remove` meets its contract. Assumes nothing.
-use Rattle.lean.proofs.ActionCode.{remove-one, remove-none}
+use Rattle.lean.proofs.ActionCode.{remove_one, remove_none}
 use borrow.Author.Rules.{rules}
 use Rattle.lean.proofs.actions.remove.Statement.{statement}
 use Rattle.lean.proofs.actions.remove.Tie as tie
@@ -16,5 +16,5 @@ remove_spec =
     (λ c. search rules)
     (λ c. search rules)
     (λ c. search rules)
-    (λ c. search (rules, remove-one))
-    (λ c. search (rules, remove-none)))
+    (λ c. search (rules, remove_one))
+    (λ c. search (rules, remove_none)))

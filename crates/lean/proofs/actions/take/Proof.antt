@@ -1,5 +1,5 @@
 -- `lean::actions::take` meets its contract: the target's answer, a tuple taken, none met. Assumes nothing.
-use Rattle.lean.proofs.ActionCode.{take_refused, take-some, take_none}
+use Rattle.lean.proofs.ActionCode.{take_refused, take_some, take_none}
 use borrow.Author.Rules.{rules}
 use Rattle.lean.proofs.actions.take.Statement.{statement}
 use Rattle.lean.proofs.actions.take.Tie as tie
@@ -18,5 +18,5 @@ take_spec =
     (λ c. search (rules, take_refused))
     (λ c κs. search rules)
     (λ c κs. search rules)
-    (λ c. search (rules, take-some))
+    (λ c. search (rules, take_some))
     (λ c. search (rules, take_none)))

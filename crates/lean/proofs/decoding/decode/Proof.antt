@@ -1,7 +1,7 @@
 -- `lean::decoding::decode` meets its contract: after a turns the first a nodes stand. Assumes nothing.
 use Prim.Native.Nat.{◌-◌}
 use Rattle.lean.specs.Words.{words_with, node_in, net_in}
-use Rattle.lean.proofs.CopyLaws.{Decoding, decoding_none, decoding-more, decoding_all}
+use Rattle.lean.proofs.CopyLaws.{Decoding, decoding_none, decoding_more, decoding_all}
 use borrow.Author.Rules.{rules}
 use Rattle.lean.proofs.decoding.decode.Statement.{statement}
 use Rattle.lean.proofs.decoding.decode.Tie as tie
@@ -33,5 +33,5 @@ decode_spec =
     (λ c. search rules)
     (λ c. search rules)
     (λ c. search rules)
-    (λ c. search (rules, decoding-more))
+    (λ c. search (rules, decoding_more))
     (λ c. search (rules, decoding_all)))

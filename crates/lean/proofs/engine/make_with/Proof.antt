@@ -1,5 +1,5 @@
 -- `lean::engine::make_with` meets its contract. Assumes nothing.
-use Rattle.lean.proofs.EngineLaws.{made-with}
+use Rattle.lean.proofs.EngineLaws.{made_with_law}
 use borrow.Author.Rules.{rules}
 use Rattle.lean.proofs.engine.make_with.Statement.{statement}
 use Rattle.lean.proofs.engine.make_with.Tie as tie
@@ -14,4 +14,4 @@ make_with_spec =
     (λ c κs. search rules)
     (λ c κs. search rules)
     (λ c. search rules)
-    (λ c. search (rules, made-with)))
+    (λ c. search (rules, made_with_law)))

@@ -1,6 +1,6 @@
 -- `lean::engine::ran` meets its contract: in what follows made, loaded and held are what is known after the call that makes the picks,
 -- after the one that loads, and before it. Assumes nothing.
-use Rattle.lean.proofs.Joined.{held_length, ran-net, ran-answers}
+use Rattle.lean.proofs.Joined.{held_length, ran_net, ran_answers}
 use borrow.Author.Rules.{rules}
 use Rattle.lean.proofs.engine.ran.Statement.{statement}
 use Rattle.lean.proofs.engine.ran.Tie as tie
@@ -18,8 +18,8 @@ ran_spec =
     let loaded = made.before.before.before.before.before.before.before in
     let words = loaded.load.ensures in
     let held = loaded.before.before.before.before.before.before.before in (
-      ran-net _ _ _ _ _ _ _ _ _ _ _ c.decode.ensures made.make-with.ensures words.0 words.1.0 words.1.1.0
+      ran_net _ _ _ _ _ _ _ _ _ _ _ c.decode.ensures made.make-with.ensures words.0 words.1.0 words.1.1.0
           words.1.1.1 held.well-formed.0 held.requires.0,
-      ran-answers _ _ _ _ _ _ _ _ _ _ made.make-with.ensures words.0 words.1.0 words.1.1.0 words.1.1.1
+      ran_answers _ _ _ _ _ _ _ _ _ _ made.make-with.ensures words.0 words.1.0 words.1.1.0 words.1.1.1
           held.well-formed.0 held.requires.0,
     )))

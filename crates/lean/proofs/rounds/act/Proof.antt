@@ -1,5 +1,5 @@
 -- `lean::rounds::act` meets its contract. Assumes nothing.
-use Rattle.lean.proofs.RoundLaws.{act-stop, act-out, act-take, act-read, act-eval, act-create, act-fork, act-out-all}
+use Rattle.lean.proofs.RoundLaws.{act_stop, act_out, act_take, act_read, act_eval, act_create, act_fork, act_out_all}
 use borrow.Author.Rules.{rules}
 use Rattle.lean.proofs.rounds.act.Statement.{statement}
 use Rattle.lean.proofs.rounds.act.Tie as tie
@@ -47,11 +47,11 @@ act_spec =
     (λ c. search rules)
     (λ c. search rules)
     (λ c κs. search rules)
-    (λ c. search (rules, act-stop))
-    (λ c. search (rules, act-out))
-    (λ c. search (rules, act-take))
-    (λ c. search (rules, act-read))
-    (λ c. search (rules, act-eval))
-    (λ c. search (rules, act-create))
-    (λ c. search (rules, act-fork))
-    (λ c. search (rules, act-out-all)))
+    (λ c. search (rules, act_stop))
+    (λ c. search (rules, act_out))
+    (λ c. search (rules, act_take))
+    (λ c. search (rules, act_read))
+    (λ c. search (rules, act_eval))
+    (λ c. search (rules, act_create))
+    (λ c. search (rules, act_fork))
+    (λ c. search (rules, act_out_all)))

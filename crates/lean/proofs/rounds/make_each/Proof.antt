@@ -4,7 +4,7 @@ use lib.ListN.{length}
 use Rattle.lean.specs.Words.{words_with}
 use Rattle.lean.specs.Rounds.{tables_with}
 use Rattle.lean.specs.Standing.{Making}
-use Rattle.lean.proofs.RoundLaws.{making_begin, making-turn, making-end}
+use Rattle.lean.proofs.RoundLaws.{making_begin, making_turn, making_end}
 use borrow.Author.Rules.{rules}
 use Rattle.lean.proofs.rounds.make_each.Statement.{statement}
 use Rattle.lean.proofs.rounds.make_each.Tie as tie
@@ -32,6 +32,6 @@ make_each_spec =
     (λ c. search rules)
     (λ c. search rules)
     (λ c. search rules)
-    (λ c. search (rules, making-turn))
+    (λ c. search (rules, making_turn))
     (λ c. search rules)
-    (λ c. search (rules, making-end)))
+    (λ c. search (rules, making_end)))

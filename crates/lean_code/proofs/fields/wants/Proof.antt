@@ -1,5 +1,5 @@
 -- `lean_code::fields::wants` meets its contract: a range for each field. Assumes nothing.
-use Rattle.lean_code.proofs.FieldCode.{wants-parts}
+use Rattle.lean_code.proofs.FieldCode.{wants_parts}
 use borrow.Author.Rules.{rules}
 use Rattle.lean_code.proofs.fields.wants.Statement.{statement}
 use Rattle.lean_code.proofs.fields.wants.Tie as tie
@@ -48,4 +48,4 @@ wants_spec =
     (λ c. search rules)
     (λ c. search rules)
     (λ c κs. search rules)
-    (λ c. search (rules, wants-parts)))
+    (λ c. search (rules, wants_parts)))

@@ -1,5 +1,5 @@
 -- `lean_code::heads::aimed` meets its contract. Assumes nothing.
-use Rattle.lean_code.proofs.HeadLaws.{aimed-is}
+use Rattle.lean_code.proofs.HeadLaws.{aimed_is}
 use borrow.Author.Rules.{rules}
 use Rattle.lean_code.proofs.heads.aimed.Statement.{statement}
 use Rattle.lean_code.proofs.heads.aimed.Tie as tie
@@ -11,4 +11,4 @@ aimed_spec =
     (λ c κs. search rules)
     (λ c κs. search rules)
     (λ c κs. search rules)
-    (λ c. search (rules, aimed-is)))
+    (λ c. search (rules, aimed_is)))

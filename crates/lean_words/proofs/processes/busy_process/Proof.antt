@@ -1,6 +1,6 @@
 -- `lean_words::processes::busy_process` meets its contract: after v turns the first v variables are set. Assumes nothing.
 use Prim.Native.Nat.{◌-◌}
-use Rattle.lean_words.proofs.ProcessLaws.{Setting, setting-none, setting-more, setting_all}
+use Rattle.lean_words.proofs.ProcessLaws.{Setting, setting_none, setting_more, setting_all}
 use borrow.Author.Rules.{rules}
 use Rattle.lean_words.proofs.processes.busy_process.Statement.{statement}
 use Rattle.lean_words.proofs.processes.busy_process.Tie as tie
@@ -22,7 +22,7 @@ busy_process_spec =
     (λ c κs. search rules)
     (λ c. search rules)
     (λ c κs. search rules)
-    (λ c. search (rules, setting-none))
+    (λ c. search (rules, setting_none))
     (λ c. search rules)
     (λ c. search rules)
     (λ c κs. search rules)
@@ -30,5 +30,5 @@ busy_process_spec =
     (λ c. search rules)
     (λ c. search rules)
     (λ c. search rules)
-    (λ c. search (rules, setting-more))
+    (λ c. search (rules, setting_more))
     (λ c. search (rules, setting_all)))

@@ -6,7 +6,7 @@ use Rattle.net.specs.Records.{variable_at}
 use Rattle.lean_words.specs.Filled.{filled}
 use Rattle.lean_words.specs.Items.{value_word}
 use Rattle.lean_words.proofs.FilledLaws.{filled_none, filled_more}
-use Rattle.lean_words.proofs.ProcessLaws.{words-busy}
+use Rattle.lean_words.proofs.ProcessLaws.{words_busy}
 use borrow.Author.Rules.{rules}
 use Rattle.lean_words.proofs.processes.busy_words.Statement.{statement}
 use Rattle.lean_words.proofs.processes.busy_words.Tie as tie
@@ -37,4 +37,4 @@ busy_words_spec =
     (λ c. search rules)
     (λ c. search rules)
     (λ c. search rules)
-    (λ c. search (rules, words-busy)))
+    (λ c. search (rules, words_busy)))

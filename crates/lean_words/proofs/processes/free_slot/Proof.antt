@@ -4,7 +4,7 @@ use mathlib.Core.List.{[]}
 use lib.Dec.{leb}
 use lib.ListN.{get_or}
 use borrow.Author.Tests.{le-leb, lt-leb}
-use Rattle.net.proofs.FirstLaws.{Left, first_start, first-again, first_here, first-none}
+use Rattle.net.proofs.FirstLaws.{Left, first_start, first_again, first_here, first_none}
 use Rattle.lean_words.specs.Processes.{free_slot_in}
 use borrow.Author.Rules.{rules}
 use Rattle.lean_words.proofs.processes.free_slot.Statement.{statement}
@@ -30,5 +30,5 @@ free_slot_spec =
     (λ c. search (rules, first_here, le-leb))
     (λ c. search rules)
     (λ c. search rules)
-    (λ c. search (rules, first-again, lt-leb))
-    (λ c. search (rules, first-none)))
+    (λ c. search (rules, first_again, lt-leb))
+    (λ c. search (rules, first_none)))

@@ -4,7 +4,7 @@ use mathlib.Core.Path.{◌≡◌}
 use Rattle.net.specs.Choice.{all}
 use Rattle.net.proofs.AllLaws.{all_none, all_more}
 use Rattle.lean_words.specs.Rights.{rights_in, covered}
-use Rattle.lean_words.proofs.RightsLaws.{covered-at, admits_is}
+use Rattle.lean_words.proofs.RightsLaws.{covered_at, admits_is}
 use borrow.Author.Rules.{rules}
 use Rattle.lean_words.proofs.rights.admits.Statement.{statement}
 use Rattle.lean_words.proofs.rights.admits.Tie as tie
@@ -25,7 +25,7 @@ admits_spec =
     (λ c κs. search rules)
     (λ c. search rules)
     (λ c. search rules)
-    (λ c. search (rules, all_more, covered-at))
+    (λ c. search (rules, all_more, covered_at))
     (λ c κs. search rules)
     (λ c. search rules)
     (λ c. search rules)

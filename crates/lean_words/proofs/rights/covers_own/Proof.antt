@@ -1,6 +1,6 @@
 -- `lean_words::rights::covers_own` meets its contract: right by right. Assumes nothing.
 use Rattle.lean_words.specs.Rights.{rights_in, own_in}
-use Rattle.lean_words.proofs.RightsLaws.{covered-is}
+use Rattle.lean_words.proofs.RightsLaws.{covered_is}
 use borrow.Author.Rules.{rules}
 use Rattle.lean_words.proofs.rights.covers_own.Statement.{statement}
 use Rattle.lean_words.proofs.rights.covers_own.Tie as tie
@@ -21,4 +21,4 @@ covers_own_spec =
     (λ c. search rules)
     (λ c. search rules)
     (λ c. search rules)
-    (λ c. search (rules, covered-is)))
+    (λ c. search (rules, covered_is)))

@@ -7,7 +7,7 @@ use Rattle.net.specs.Choice.{fold}
 use Rattle.net.specs.Records.{rights_at, address_of}
 use Rattle.net.proofs.FoldLaws.{fold_none, fold_more}
 use Rattle.lean_words.specs.Rights.{with_flags}
-use Rattle.lean_words.proofs.RightsLaws.{flags-row}
+use Rattle.lean_words.proofs.RightsLaws.{flags_row}
 use borrow.Author.Rules.{rules}
 use Rattle.lean_words.proofs.rights.row_flags.Statement.{statement}
 use Rattle.lean_words.proofs.rights.row_flags.Tie as tie
@@ -39,4 +39,4 @@ row_flags_spec =
     (λ c. search rules)
     (λ c. search (rules, fold_more))
     (λ c. search rules)
-    (λ c. search (rules, flags-row)))
+    (λ c. search (rules, flags_row)))

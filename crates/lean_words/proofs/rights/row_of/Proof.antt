@@ -6,7 +6,7 @@ use Rattle.net.specs.Records.{no_rights}
 use Rattle.lean_words.specs.Filled.{filled}
 use Rattle.lean_words.specs.Rights.{rights_in}
 use Rattle.lean_words.proofs.FilledLaws.{filled_more}
-use Rattle.lean_words.proofs.RightsLaws.{rights_none, row-parts}
+use Rattle.lean_words.proofs.RightsLaws.{rights_none, row_parts}
 use borrow.Author.Rules.{rules}
 use Rattle.lean_words.proofs.rights.row_of.Statement.{statement}
 use Rattle.lean_words.proofs.rights.row_of.Tie as tie
@@ -39,4 +39,4 @@ row_of_spec =
     (λ c. search rules)
     (λ c. search (rules, filled_more))
     (λ c. search rules)
-    (λ c. search (rules, row-parts)))
+    (λ c. search (rules, row_parts)))

@@ -5,7 +5,7 @@ use lib.Dec.{ltb}
 use lib.ListN.{get_or}
 use Rattle.net.specs.Choice.{both}
 use Rattle.net.proofs.AllLaws.{and_both}
-use Rattle.net.proofs.FirstLaws.{Left, first_start, first-again, first_here, first-none}
+use Rattle.net.proofs.FirstLaws.{Left, first_start, first_again, first_here, first_none}
 use Rattle.lean_words.specs.Stores.{fits_words, oldest_in}
 use borrow.Author.Rules.{rules}
 use Rattle.lean_words.proofs.stores.oldest.Statement.{statement}
@@ -31,5 +31,5 @@ oldest_spec =
     (λ c. search (rules, first_here, and_both))
     (λ c. search rules)
     (λ c. search rules)
-    (λ c. search (rules, first-again, and_both))
-    (λ c. search (rules, first-none)))
+    (λ c. search (rules, first_again, and_both))
+    (λ c. search (rules, first_none)))

@@ -6,7 +6,7 @@ use Rattle.net.specs.Records.{field_at}
 use Rattle.lean_words.specs.Filled.{filled}
 use Rattle.lean_words.specs.Items.{item_word}
 use Rattle.lean_words.proofs.FilledLaws.{filled_none, filled_more}
-use Rattle.lean_words.proofs.StoreLaws.{words-tuple}
+use Rattle.lean_words.proofs.StoreLaws.{words_tuple}
 use borrow.Author.Rules.{rules}
 use Rattle.lean_words.proofs.stores.tuple_words.Statement.{statement}
 use Rattle.lean_words.proofs.stores.tuple_words.Tie as tie
@@ -36,4 +36,4 @@ tuple_words_spec =
     (λ c. search rules)
     (λ c. search rules)
     (λ c. search rules)
-    (λ c. search (rules, words-tuple)))
+    (λ c. search (rules, words_tuple)))

@@ -1,5 +1,5 @@
 -- `lean_words::words::reading_of` meets its contract: an even word, and an odd one. Assumes nothing.
-use Rattle.lean_words.proofs.ItemLaws.{even_reading, odd-reading, odd_fits}
+use Rattle.lean_words.proofs.ItemLaws.{even_reading, odd_reading, odd_fits}
 use borrow.Author.Rules.{rules}
 use Rattle.lean_words.proofs.words.reading_of.Statement.{statement}
 use Rattle.lean_words.proofs.words.reading_of.Tie as tie
@@ -12,4 +12,4 @@ reading_of_spec =
     (λ c. search rules)
     (λ c. search (rules, odd_fits))
     (λ c. search (rules, even_reading))
-    (λ c. search (rules, odd-reading)))
+    (λ c. search (rules, odd_reading)))

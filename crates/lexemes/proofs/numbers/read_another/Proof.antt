@@ -1,5 +1,5 @@
 -- `lexemes::numbers::read_another` meets its contract. Assumes nothing.
-use Rattle.lexemes.proofs.NumberLaws.{another_digit, another-none}
+use Rattle.lexemes.proofs.NumberLaws.{another_digit, another_none}
 use borrow.Author.Rules.{rules}
 use Rattle.lexemes.proofs.numbers.read_another.Statement.{statement}
 use Rattle.lexemes.proofs.numbers.read_another.Tie as tie
@@ -12,4 +12,4 @@ read_another_spec =
     (λ c κs. search rules)
     (λ c κs. search rules)
     (λ c. search (rules, another_digit))
-    (λ c. search (rules, another-none)))
+    (λ c. search (rules, another_none)))

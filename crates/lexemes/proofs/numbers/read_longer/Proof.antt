@@ -1,5 +1,5 @@
 -- `lexemes::numbers::read_longer` meets its contract. Assumes nothing.
-use Rattle.lexemes.proofs.NumberLaws.{longer-read}
+use Rattle.lexemes.proofs.NumberLaws.{longer_read}
 use borrow.Author.Rules.{rules}
 use Rattle.lexemes.proofs.numbers.read_longer.Statement.{statement}
 use Rattle.lexemes.proofs.numbers.read_longer.Tie as tie
@@ -13,4 +13,4 @@ read_longer_spec =
     (λ c. search rules)
     (λ c κs. search rules)
     (λ c κs. search rules)
-    (λ c. search (rules, longer-read, c.before.require-that.ensures)))
+    (λ c. search (rules, longer_read, c.before.require-that.ensures)))

@@ -2,7 +2,7 @@
 use Prim.Native.Nat.{◌-◌}
 use lib.ListN.{length}
 use Rattle.lexemes.specs.Progress.{Spelling}
-use Rattle.lexemes.proofs.WordLaws.{spelling_begin, spelling-more, spelling_end}
+use Rattle.lexemes.proofs.WordLaws.{spelling_begin, spelling_more, spelling_end}
 use borrow.Author.Rules.{rules}
 use Rattle.lexemes.proofs.words.read_word.Statement.{statement}
 use Rattle.lexemes.proofs.words.read_word.Tie as tie
@@ -24,5 +24,5 @@ read_word_spec =
     (λ c κs. search rules)
     (λ c. search rules)
     (λ c. search rules)
-    (λ c. search (rules, spelling-more))
+    (λ c. search (rules, spelling_more))
     (λ c. search (rules, spelling_end)))

@@ -1,5 +1,5 @@
 -- `lines::lines::put_address` meets its contract. Assumes nothing.
-use Rattle.lines.proofs.LineLaws.{station-lines}
+use Rattle.lines.proofs.LineLaws.{station_lines}
 use borrow.Author.Rules.{rules}
 use Rattle.lines.proofs.lines.put_address.Statement.{statement}
 use Rattle.lines.proofs.lines.put_address.Tie as tie
@@ -11,4 +11,4 @@ put_address_spec =
     (λ c κs. search rules)
     (λ c κs. search rules)
     (λ c. search rules)
-    (λ c. search (rules, station-lines)))
+    (λ c. search (rules, station_lines)))

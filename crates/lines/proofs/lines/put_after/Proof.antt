@@ -1,5 +1,5 @@
 -- `lines::lines::put_after` meets its contract. Assumes nothing.
-use Rattle.lines.proofs.LineLaws.{after-lines}
+use Rattle.lines.proofs.LineLaws.{after_lines_law}
 use borrow.Author.Rules.{rules}
 use Rattle.lines.proofs.lines.put_after.Statement.{statement}
 use Rattle.lines.proofs.lines.put_after.Tie as tie
@@ -11,4 +11,4 @@ put_after_spec =
     (λ c κs. search rules)
     (λ c κs. search rules)
     (λ c. search rules)
-    (λ c. search (rules, after-lines)))
+    (λ c. search (rules, after_lines_law)))

@@ -1,5 +1,5 @@
 -- `lines::lines::put_answered` meets its contract. Assumes nothing.
-use Rattle.lines.proofs.LineLaws.{answered-line}
+use Rattle.lines.proofs.LineLaws.{answered_line}
 use borrow.Author.Rules.{rules}
 use Rattle.lines.proofs.lines.put_answered.Statement.{statement}
 use Rattle.lines.proofs.lines.put_answered.Tie as tie
@@ -11,4 +11,4 @@ put_answered_spec =
     (λ c κs. search rules)
     (λ c κs. search rules)
     (λ c. search rules)
-    (λ c. search (rules, answered-line)))
+    (λ c. search (rules, answered_line)))

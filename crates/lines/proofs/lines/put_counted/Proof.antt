@@ -1,5 +1,5 @@
 -- `lines::lines::put_counted` meets its contract. Assumes nothing.
-use Rattle.lines.proofs.LineLaws.{counted-line}
+use Rattle.lines.proofs.LineLaws.{counted_line}
 use borrow.Author.Rules.{rules}
 use Rattle.lines.proofs.lines.put_counted.Statement.{statement}
 use Rattle.lines.proofs.lines.put_counted.Tie as tie
@@ -11,4 +11,4 @@ put_counted_spec =
     (λ c κs. search rules)
     (λ c κs. search rules)
     (λ c. search rules)
-    (λ c. search (rules, counted-line)))
+    (λ c. search (rules, counted_line)))

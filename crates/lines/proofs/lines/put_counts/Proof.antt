@@ -1,5 +1,5 @@
 -- `lines::lines::put_counts` meets its contract. Assumes nothing.
-use Rattle.lines.proofs.WordLaws.{spaced-more}
+use Rattle.lines.proofs.WordLaws.{spaced_more}
 use borrow.Author.Rules.{rules}
 use Rattle.lines.proofs.lines.put_counts.Statement.{statement}
 use Rattle.lines.proofs.lines.put_counts.Tie as tie
@@ -12,4 +12,4 @@ put_counts_spec =
     (λ c κs. search rules)
     (λ c κs. search rules)
     (λ c. search rules)
-    (λ c. search (rules, spaced-more)))
+    (λ c. search (rules, spaced_more)))

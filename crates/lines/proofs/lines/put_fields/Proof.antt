@@ -7,7 +7,7 @@ use Rattle.text.specs.Joined.{joined}
 use Rattle.text.specs.Writing.{Wrote}
 use Rattle.text.proofs.WritingLaws.{wrote_length}
 use Rattle.net.specs.Records.{field_at}
-use Rattle.lines.proofs.WordLaws.{spaced_none, spaced_both, parts_none, parts_more, parts-upto}
+use Rattle.lines.proofs.WordLaws.{spaced_none, spaced_both, parts_none, parts_more, parts_upto}
 use borrow.Author.Rules.{rules}
 use Rattle.lines.proofs.lines.put_fields.Statement.{statement}
 use Rattle.lines.proofs.lines.put_fields.Tie as tie
@@ -34,4 +34,4 @@ put_fields_spec =
     (λ c. search rules)
     (λ c. search (rules, parts_more spaced spaced_none spaced_both))
     (λ c. search (rules, wrote_length))
-    (λ c. search (rules, parts-upto spaced spaced_none spaced_both)))
+    (λ c. search (rules, parts_upto spaced spaced_none spaced_both)))

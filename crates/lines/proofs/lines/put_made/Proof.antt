@@ -1,5 +1,5 @@
 -- `lines::lines::put_made` meets its contract. Assumes nothing.
-use Rattle.lines.proofs.LineLaws.{made-line}
+use Rattle.lines.proofs.LineLaws.{made_line_law}
 use borrow.Author.Rules.{rules}
 use Rattle.lines.proofs.lines.put_made.Statement.{statement}
 use Rattle.lines.proofs.lines.put_made.Tie as tie
@@ -12,4 +12,4 @@ put_made_spec =
     (λ c κs. search rules)
     (λ c κs. search rules)
     (λ c. search rules)
-    (λ c. search (rules, made-line)))
+    (λ c. search (rules, made_line_law)))

@@ -1,5 +1,5 @@
 -- `lines::lines::put_marked` meets its contract. Assumes nothing.
-use Rattle.lines.proofs.WordLaws.{spaced-then}
+use Rattle.lines.proofs.WordLaws.{spaced_then}
 use borrow.Author.Rules.{rules}
 use Rattle.lines.proofs.lines.put_marked.Statement.{statement}
 use Rattle.lines.proofs.lines.put_marked.Tie as tie
@@ -11,4 +11,4 @@ put_marked_spec =
     (λ c κs. search rules)
     (λ c κs. search rules)
     (λ c. search rules)
-    (λ c. search (rules, spaced-then)))
+    (λ c. search (rules, spaced_then)))

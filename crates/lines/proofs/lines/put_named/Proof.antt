@@ -1,5 +1,5 @@
 -- `lines::lines::put_named` meets its contract. Assumes nothing.
-use Rattle.lines.proofs.LineLaws.{tested-lines}
+use Rattle.lines.proofs.LineLaws.{tested_lines}
 use borrow.Author.Rules.{rules}
 use Rattle.lines.proofs.lines.put_named.Statement.{statement}
 use Rattle.lines.proofs.lines.put_named.Tie as tie
@@ -11,4 +11,4 @@ put_named_spec =
     (λ c κs. search rules)
     (λ c κs. search rules)
     (λ c. search rules)
-    (λ c. search (rules, tested-lines)))
+    (λ c. search (rules, tested_lines)))

@@ -1,7 +1,7 @@
 -- `lines::lines::put_net` meets its contract. Assumes nothing.
 use Rattle.text.specs.Bytes.{bytes}
 use Rattle.lines.specs.Lines.{net_line}
-use Rattle.lines.proofs.WordLaws.{line-words}
+use Rattle.lines.proofs.WordLaws.{line_words_law}
 use borrow.Author.Rules.{rules}
 use Rattle.lines.proofs.lines.put_net.Statement.{statement}
 use Rattle.lines.proofs.lines.put_net.Tie as tie
@@ -16,4 +16,4 @@ put_net_spec =
     (λ c κs. search rules)
     (λ c κs. search rules)
     (λ c. search rules)
-    (λ c. search (rules, line-words)))
+    (λ c. search (rules, line_words_law)))

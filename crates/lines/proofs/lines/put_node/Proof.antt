@@ -1,7 +1,7 @@
 -- `lines::lines::put_node` meets its contract. Assumes nothing.
 use Rattle.text.specs.Bytes.{bytes}
 use Rattle.lines.specs.Lines.{node_line}
-use Rattle.lines.proofs.WordLaws.{line-counts-then}
+use Rattle.lines.proofs.WordLaws.{line_counts_then}
 use borrow.Author.Rules.{rules}
 use Rattle.lines.proofs.lines.put_node.Statement.{statement}
 use Rattle.lines.proofs.lines.put_node.Tie as tie
@@ -17,4 +17,4 @@ put_node_spec =
     (λ c κs. search rules)
     (λ c κs. search rules)
     (λ c. search rules)
-    (λ c. search (rules, line-counts-then)))
+    (λ c. search (rules, line_counts_then)))

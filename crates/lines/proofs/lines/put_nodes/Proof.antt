@@ -6,7 +6,7 @@ use Rattle.text.specs.Joined.{joined}
 use Rattle.text.specs.Writing.{Wrote}
 use Rattle.text.proofs.WritingLaws.{wrote_length}
 use Rattle.net.specs.Records.{node_at, address_of}
-use Rattle.lines.proofs.WordLaws.{printed_none, printed_both, parts_none, parts_more, parts-upto}
+use Rattle.lines.proofs.WordLaws.{printed_none, printed_both, parts_none, parts_more, parts_upto}
 use Rattle.lines.specs.Shown.{named_after}
 use borrow.Author.Rules.{rules}
 use Rattle.lines.proofs.lines.put_nodes.Statement.{statement}
@@ -35,4 +35,4 @@ put_nodes_spec =
     (λ c. search rules)
     (λ c. search (rules, parts_more printed printed_none printed_both))
     (λ c. search (rules, wrote_length))
-    (λ c. search (rules, parts-upto printed printed_none printed_both)))
+    (λ c. search (rules, parts_upto printed printed_none printed_both)))

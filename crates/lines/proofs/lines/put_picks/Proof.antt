@@ -7,7 +7,7 @@ use Rattle.lines.specs.Words.{printed}
 use Rattle.text.specs.Joined.{joined}
 use Rattle.text.specs.Writing.{Wrote}
 use Rattle.text.proofs.WritingLaws.{wrote_length}
-use Rattle.lines.proofs.WordLaws.{printed_none, printed_both, parts_none, parts_more, parts-end}
+use Rattle.lines.proofs.WordLaws.{printed_none, printed_both, parts_none, parts_more, parts_end}
 use borrow.Author.Rules.{rules}
 use Rattle.lines.proofs.lines.put_picks.Statement.{statement}
 use Rattle.lines.proofs.lines.put_picks.Tie as tie
@@ -33,4 +33,4 @@ put_picks_spec =
     (λ c. search rules)
     (λ c. search (rules, parts_more printed printed_none printed_both))
     (λ c. search (rules, wrote_length))
-    (λ c. search (rules, parts-end printed printed_none printed_both)))
+    (λ c. search (rules, parts_end printed printed_none printed_both)))

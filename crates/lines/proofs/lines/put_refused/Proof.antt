@@ -1,7 +1,7 @@
 -- `lines::lines::put_refused` meets its contract. Assumes nothing.
 use Rattle.text.specs.Bytes.{bytes}
 use Rattle.lines.specs.Lines.{refused_line}
-use Rattle.lines.proofs.WordLaws.{line-word-then}
+use Rattle.lines.proofs.WordLaws.{line_word_then}
 use borrow.Author.Rules.{rules}
 use Rattle.lines.proofs.lines.put_refused.Statement.{statement}
 use Rattle.lines.proofs.lines.put_refused.Tie as tie
@@ -18,4 +18,4 @@ put_refused_spec =
     (λ c κs. search rules)
     (λ c κs. search rules)
     (λ c. search rules)
-    (λ c. search (rules, line-word-then)))
+    (λ c. search (rules, line_word_then)))

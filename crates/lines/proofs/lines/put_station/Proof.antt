@@ -1,5 +1,5 @@
 -- `lines::lines::put_station` meets its contract. Assumes nothing.
-use Rattle.lines.proofs.LineLaws.{name-shown, name_left}
+use Rattle.lines.proofs.LineLaws.{name_shown, name_left}
 use borrow.Author.Rules.{rules}
 use Rattle.lines.proofs.lines.put_station.Statement.{statement}
 use Rattle.lines.proofs.lines.put_station.Tie as tie
@@ -10,5 +10,5 @@ put_station_spec =
     (tie.spec
     (λ c κs. search rules)
     (λ c. search rules)
-    (λ c. search (rules, name-shown, name_left))
-    (λ c. search (rules, name-shown, name_left)))
+    (λ c. search (rules, name_shown, name_left))
+    (λ c. search (rules, name_shown, name_left)))

@@ -3,7 +3,7 @@ use Prim.Native.Nat.{◌*◌, ◌-◌, ◌≤◌}
 use mathlib.Core.Path.{◌≡◌}
 use Rattle.net.specs.Records.{node_at}
 use Rattle.lines.specs.Lines.{tuples_below}
-use Rattle.lines.proofs.LineLaws.{tuples_none, tuples-more, tuples-all}
+use Rattle.lines.proofs.LineLaws.{tuples_none, tuples_more, tuples_all}
 use borrow.Author.Rules.{rules}
 use Rattle.lines.proofs.lines.tuple_count.Statement.{statement}
 use Rattle.lines.proofs.lines.tuple_count.Tie as tie
@@ -29,5 +29,5 @@ tuple_count_spec =
     (λ c. search rules)
     (λ c. search rules)
     (λ c. search rules)
-    (λ c. search (rules, tuples-more))
-    (λ c. search (rules, tuples-all)))
+    (λ c. search (rules, tuples_more))
+    (λ c. search (rules, tuples_all)))

@@ -1,7 +1,7 @@
 -- `lines::words::put_address` meets its contract. Assumes nothing.
-use Rattle.text.proofs.WritingLaws.{wrote-one-then}
+use Rattle.text.proofs.WritingLaws.{wrote_one_then}
 use Rattle.lines.specs.Words.{word_text}
-use Rattle.lines.proofs.WordLaws.{spaced-word}
+use Rattle.lines.proofs.WordLaws.{spaced_word}
 use borrow.Author.Rules.{rules}
 use Rattle.lines.proofs.words.put_address.Statement.{statement}
 use Rattle.lines.proofs.words.put_address.Tie as tie
@@ -15,4 +15,4 @@ put_address_spec =
     (λ c. search rules)
     (λ c κs. search rules)
     (λ c. search rules)
-    (λ c. search (rules, spaced-word, wrote-one-then)))
+    (λ c. search (rules, spaced_word, wrote_one_then)))

@@ -1,5 +1,5 @@
 -- `lines::words::put_labelled` meets its contract. Assumes nothing.
-use Rattle.lines.proofs.WordLaws.{spaced-more}
+use Rattle.lines.proofs.WordLaws.{spaced_more}
 use borrow.Author.Rules.{rules}
 use Rattle.lines.proofs.words.put_labelled.Statement.{statement}
 use Rattle.lines.proofs.words.put_labelled.Tie as tie
@@ -11,4 +11,4 @@ put_labelled_spec =
     (λ c κs. search rules)
     (λ c κs. search rules)
     (λ c. search rules)
-    (λ c. search (rules, spaced-more)))
+    (λ c. search (rules, spaced_more)))

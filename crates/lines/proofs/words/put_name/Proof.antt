@@ -1,5 +1,5 @@
 -- `lines::words::put_name` meets its contract. Assumes nothing.
-use Rattle.lines.proofs.WordLaws.{spaced-name}
+use Rattle.lines.proofs.WordLaws.{spaced_name}
 use borrow.Author.Rules.{rules}
 use Rattle.lines.proofs.words.put_name.Statement.{statement}
 use Rattle.lines.proofs.words.put_name.Tie as tie
@@ -11,4 +11,4 @@ put_name_spec =
     (λ c κs. search rules)
     (λ c κs. search rules)
     (λ c. search rules)
-    (λ c. search (rules, spaced-name)))
+    (λ c. search (rules, spaced_name)))

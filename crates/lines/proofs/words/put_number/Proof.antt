@@ -1,6 +1,6 @@
 -- `lines::words::put_number` meets its contract. Assumes nothing.
 use Rattle.lines.specs.Words.{word_text}
-use Rattle.lines.proofs.WordLaws.{spaced-word}
+use Rattle.lines.proofs.WordLaws.{spaced_word}
 use borrow.Author.Rules.{rules}
 use Rattle.lines.proofs.words.put_number.Statement.{statement}
 use Rattle.lines.proofs.words.put_number.Tie as tie
@@ -12,4 +12,4 @@ put_number_spec =
     (tie.spec
     (λ c κs. search rules)
     (λ c. search rules)
-    (λ c. search (rules, spaced-word)))
+    (λ c. search (rules, spaced_word)))

@@ -1,7 +1,7 @@
 -- `lines::words::put_reading` meets its contract. Assumes nothing.
-use Rattle.text.proofs.WritingLaws.{wrote-one-then}
+use Rattle.text.proofs.WritingLaws.{wrote_one_then}
 use Rattle.lines.specs.Words.{word_text}
-use Rattle.lines.proofs.WordLaws.{spaced-word}
+use Rattle.lines.proofs.WordLaws.{spaced_word}
 use lib.IntN.{ℤ}
 use Rattle.text.specs.Decimal.{signed_decimal}
 use Rattle.text.proofs.SignedLaws.{wrote_signed}
@@ -17,4 +17,4 @@ put_reading_spec =
     (λ c κs. search rules)
     (λ c κs. search rules)
     (λ c. search rules)
-    (λ c. search (rules, spaced-word, wrote-one-then, wrote_signed signed_decimal (λ (z : ℤ). z))))
+    (λ c. search (rules, spaced_word, wrote_one_then, wrote_signed signed_decimal (λ (z : ℤ). z))))

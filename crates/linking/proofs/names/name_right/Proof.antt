@@ -1,5 +1,5 @@
 -- `linking::names::name_right` meets its contract. Assumes nothing.
-use Rattle.linking.proofs.NameTableLaws.{right_none, right-defined}
+use Rattle.linking.proofs.NameTableLaws.{right_none, right_defined}
 use borrow.Author.Rules.{rules}
 use Rattle.linking.proofs.names.name_right.Statement.{statement}
 use Rattle.linking.proofs.names.name_right.Tie as tie
@@ -11,5 +11,5 @@ name_right_spec =
     (λ c κs. search rules)
     (λ c κs. search rules)
     (λ c κs. search rules)
-    (λ c. search (rules, right-defined))
+    (λ c. search (rules, right_defined))
     (λ c. search (rules, right_none)))

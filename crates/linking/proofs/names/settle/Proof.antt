@@ -1,7 +1,7 @@
 -- `linking::names::settle` meets its contract. Assumes nothing.
 use Prim.Native.Nat.{◌-◌}
 use Rattle.linking.specs.NameTable.{start_for, Settling}
-use Rattle.linking.proofs.NameTableLaws.{settling_begin, settling-more, settling-stop, settling-end}
+use Rattle.linking.proofs.NameTableLaws.{settling_begin, settling_more, settling_stop, settling_end}
 use borrow.Author.Rules.{rules}
 use Rattle.linking.proofs.names.settle.Statement.{statement}
 use Rattle.linking.proofs.names.settle.Tie as tie
@@ -19,10 +19,10 @@ settle_spec =
     invariant-loop
     decreases-loop
     (λ c. search (rules, settling_begin))
-    (λ c. search (rules, settling-stop))
+    (λ c. search (rules, settling_stop))
     (λ c κs. search rules)
     (λ c κs. search rules)
     (λ c. search rules)
     (λ c. search rules)
-    (λ c. search (rules, settling-more))
-    (λ c. search (rules, settling-end)))
+    (λ c. search (rules, settling_more))
+    (λ c. search (rules, settling_end)))

@@ -1,7 +1,7 @@
 -- `linking::places::link` meets its contract. Assumes nothing.
 use Rattle.net.specs.Records.{with_counts}
 use Rattle.net.proofs.Lengths.{net_shaped}
-use Rattle.linking.proofs.PlacingLaws.{linked-all}
+use Rattle.linking.proofs.PlacingLaws.{linked_all}
 use borrow.Author.Rules.{rules}
 use Rattle.linking.proofs.places.link.Statement.{statement}
 use Rattle.linking.proofs.places.link.Tie as tie
@@ -14,4 +14,4 @@ link_spec =
     (λ c κs. search rules)
     (λ c κs. search rules)
     (λ c κs. search rules)
-    (λ c. search (rules, linked-all, net_shaped)))
+    (λ c. search (rules, linked_all, net_shaped)))

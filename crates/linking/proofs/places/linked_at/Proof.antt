@@ -1,5 +1,5 @@
 -- `linking::places::linked_at` meets its contract. Assumes nothing.
-use Rattle.linking.proofs.PlacingLaws.{linked-is}
+use Rattle.linking.proofs.PlacingLaws.{linked_is}
 use borrow.Author.Rules.{rules}
 use Rattle.linking.proofs.places.linked_at.Statement.{statement}
 use Rattle.linking.proofs.places.linked_at.Tie as tie
@@ -17,4 +17,4 @@ linked_at_spec =
     (λ c κs. search rules)
     (λ c κs. search rules)
     (λ c κs. search rules)
-    (λ c. search (rules, linked-is)))
+    (λ c. search (rules, linked_is)))

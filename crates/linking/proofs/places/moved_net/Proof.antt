@@ -5,7 +5,7 @@ use Rattle.net.specs.Choice.{fold}
 use Rattle.net.specs.Records.{node_at, with_node}
 use Rattle.net.proofs.FoldLaws.{fold_none, fold_more, fold_end}
 use Rattle.linking.specs.Placing.{place_at, moved_address, moved_net}
-use Rattle.linking.proofs.PlacingLaws.{address-moved}
+use Rattle.linking.proofs.PlacingLaws.{address_moved}
 use borrow.Author.Rules.{rules}
 use Rattle.linking.proofs.places.moved_net.Statement.{statement}
 use Rattle.linking.proofs.places.moved_net.Tie as tie
@@ -31,5 +31,5 @@ moved_net_spec =
     (λ c. search rules)
     (λ c. search rules)
     (λ c. search rules)
-    (λ c. search (rules, fold_more, address-moved))
+    (λ c. search (rules, fold_more, address_moved))
     (λ c. search (rules, fold_end)))

@@ -5,7 +5,7 @@ use Rattle.net.specs.Choice.{fold}
 use Rattle.net.specs.Records.{process_at, with_process}
 use Rattle.net.proofs.FoldLaws.{fold_none, fold_more, fold_end}
 use Rattle.linking.specs.Placing.{place_at, moved_slot, moved_node}
-use Rattle.linking.proofs.PlacingLaws.{slot-moved}
+use Rattle.linking.proofs.PlacingLaws.{slot_moved}
 use borrow.Author.Rules.{rules}
 use Rattle.linking.proofs.places.moved_node.Statement.{statement}
 use Rattle.linking.proofs.places.moved_node.Tie as tie
@@ -34,5 +34,5 @@ moved_node_spec =
     (λ c. search rules)
     (λ c. search rules)
     (λ c. search rules)
-    (λ c. search (rules, fold_more, slot-moved))
+    (λ c. search (rules, fold_more, slot_moved))
     (λ c. search (rules, fold_end)))

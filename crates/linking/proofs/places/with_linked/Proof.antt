@@ -2,7 +2,7 @@
 use Prim.Native.Nat.{◌-◌, ◌≤◌}
 use mathlib.Core.Path.{◌≡◌}
 use Rattle.linking.specs.Placing.{place_at, with_linked}
-use Rattle.linking.proofs.PlacingLaws.{linked_none, linked-more, linked-end}
+use Rattle.linking.proofs.PlacingLaws.{linked_none, linked_more, linked_end}
 use borrow.Author.Rules.{rules}
 use Rattle.linking.proofs.places.with_linked.Statement.{statement}
 use Rattle.linking.proofs.places.with_linked.Tie as tie
@@ -25,5 +25,5 @@ with_linked_spec =
     (λ c. search rules)
     (λ c. search rules)
     (λ c. search rules)
-    (λ c. search (rules, linked-more))
-    (λ c. search (rules, linked-end)))
+    (λ c. search (rules, linked_more))
+    (λ c. search (rules, linked_end)))

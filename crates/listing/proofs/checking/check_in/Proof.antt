@@ -1,5 +1,5 @@
 -- `listing::checking::check_in` meets its contract. Assumes nothing.
-use Rattle.listing.proofs.WrittenLaws.{written_fits, age-checked}
+use Rattle.listing.proofs.WrittenLaws.{written_fits, age_checked}
 use borrow.Author.Rules.{rules}
 use Rattle.listing.proofs.checking.check_in.Statement.{statement}
 use Rattle.listing.proofs.checking.check_in.Tie as tie
@@ -12,4 +12,4 @@ check_in_spec =
     (λ c κs. search rules)
     (λ c κs. search (rules, written_fits))
     (λ c. search rules)
-    (λ c. search (rules, age-checked, c.before.before.before.before.before.before.before.before.before.shared-slice-known2.given)))
+    (λ c. search (rules, age_checked, c.before.before.before.before.before.before.before.before.before.shared-slice-known2.given)))

@@ -1,5 +1,5 @@
 -- `listing::comparing::after_byte` meets its contract. Assumes nothing.
-use Rattle.listing.proofs.CursorLaws.{byte-cursor}
+use Rattle.listing.proofs.CursorLaws.{byte_cursor}
 use borrow.Author.Rules.{rules}
 use Rattle.listing.proofs.comparing.after_byte.Statement.{statement}
 use Rattle.listing.proofs.comparing.after_byte.Tie as tie
@@ -11,4 +11,4 @@ after_byte_spec =
     (λ c κs. search rules)
     (λ c. search rules)
     (λ c. search rules)
-    (λ c. search (rules, byte-cursor)))
+    (λ c. search (rules, byte_cursor)))

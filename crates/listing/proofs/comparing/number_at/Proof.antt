@@ -3,7 +3,7 @@ use Prim.Native.Nat.{◌-◌}
 use lib.ListN.{length}
 use Rattle.listing.specs.Comparing.{Reading}
 use Rattle.listing.proofs.CursorLaws.{called}
-use Rattle.listing.proofs.NumberLaws.{reading_begin, reading-more, reading-stop, reading_end}
+use Rattle.listing.proofs.NumberLaws.{reading_begin, reading_more, reading_stop, reading_end}
 use borrow.Author.Rules.{rules}
 use Rattle.listing.proofs.comparing.number_at.Statement.{statement}
 use Rattle.listing.proofs.comparing.number_at.Tie as tie
@@ -26,6 +26,6 @@ number_at_spec =
     (λ c κs. search (rules, called))
     (λ c. search rules)
     (λ c. search rules)
-    (λ c. search (rules, reading-more))
-    (λ c. search (rules, reading-stop))
+    (λ c. search (rules, reading_more))
+    (λ c. search (rules, reading_stop))
     (λ c. search (rules, reading_end)))

@@ -1,6 +1,6 @@
 -- `listing::comparing::number_turn` meets its contract. Assumes nothing.
 use Rattle.listing.proofs.NumberLaws.{number_past}
-use Rattle.listing.proofs.CursorLaws.{number-on, number_parts}
+use Rattle.listing.proofs.CursorLaws.{number_on, number_parts}
 use borrow.Author.Rules.{rules}
 use Rattle.listing.proofs.comparing.number_turn.Statement.{statement}
 use Rattle.listing.proofs.comparing.number_turn.Tie as tie
@@ -13,5 +13,5 @@ number_turn_spec =
     (λ c κs. search rules)
     (λ c κs. search rules)
     (λ c κs. search (rules, number_past))
-    (λ c. search (rules, number-on))
+    (λ c. search (rules, number_on))
     (λ c. search (rules, number_parts)))

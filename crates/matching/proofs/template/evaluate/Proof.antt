@@ -1,6 +1,6 @@
 -- `matching::template::evaluate` meets its contract: the parts are what the two calls promise. Assumes nothing.
 use borrow.Author.Rules.{rules}
-use Rattle.matching.proofs.MatchingLaws.{evaluated-parts}
+use Rattle.matching.proofs.MatchingLaws.{evaluated_parts}
 use Rattle.matching.proofs.template.evaluate.Statement.{statement}
 use Rattle.matching.proofs.template.evaluate.Tie as tie
 
@@ -10,4 +10,4 @@ evaluate_spec =
     (tie.spec
     (λ c κs. search rules)
     (λ c κs. search rules)
-    (λ c. search (rules, evaluated-parts)))
+    (λ c. search (rules, evaluated_parts)))

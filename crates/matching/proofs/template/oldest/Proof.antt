@@ -5,7 +5,7 @@ use borrow.Author.Rules.{rules}
 use Rattle.net.specs.Choice.{both}
 use Rattle.matching.specs.Matching.{Found, fits_of, oldest_of}
 use Rattle.net.specs.Records.{tuple_at}
-use Rattle.net.proofs.FirstLaws.{Left, first_start, first-again, first_here, first-none}
+use Rattle.net.proofs.FirstLaws.{Left, first_start, first_again, first_here, first_none}
 use Rattle.matching.proofs.template.oldest.Statement.{statement}
 use Rattle.matching.proofs.template.oldest.Tie as tie
 
@@ -29,5 +29,5 @@ oldest_spec =
     (λ c. search (rules, first_here))
     (λ c. search rules)
     (λ c. search rules)
-    (λ c. search (rules, first-again))
-    (λ c. search (rules, first-none)))
+    (λ c. search (rules, first_again))
+    (λ c. search (rules, first_none)))

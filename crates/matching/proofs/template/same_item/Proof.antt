@@ -1,6 +1,6 @@
 -- `matching::template::same_item_law` meets its contract: an arm for each sort of the first item. Assumes nothing.
 use borrow.Author.Rules.{rules}
-use Rattle.matching.proofs.MatchingLaws.{same-as-reading}
+use Rattle.matching.proofs.MatchingLaws.{same_as_reading}
 use Rattle.matching.proofs.template.same_item.Statement.{statement}
 use Rattle.matching.proofs.template.same_item.Tie as tie
 
@@ -12,5 +12,5 @@ same_item_spec =
     (λ c κs. search rules)
     (λ c. search rules)
     (λ c κs. search rules)
-    (λ c. search (rules, same-as-reading))
+    (λ c. search (rules, same_as_reading))
     (λ c. cc))

@@ -2,7 +2,7 @@
 use borrow.Author.Rules.{rules}
 use Rattle.net.specs.Records.{pattern_at}
 use Rattle.net.proofs.Laws.{branches}
-use Rattle.matching.proofs.MatchingLaws.{set-want}
+use Rattle.matching.proofs.MatchingLaws.{set_want}
 use Rattle.matching.proofs.template.with_want.Statement.{statement}
 use Rattle.matching.proofs.template.with_want.Tie as tie
 
@@ -16,5 +16,5 @@ with_want_spec =
     (λ c κs. search rules)
     (λ c. search rules)
     (λ c. search rules)
-    (λ c. search (rules, branches, set-want))
+    (λ c. search (rules, branches, set_want))
     (λ c. search (rules, branches)))

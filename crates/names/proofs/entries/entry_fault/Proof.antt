@@ -1,5 +1,5 @@
 -- `names::entries::entry_fault` meets its contract. Assumes nothing.
-use Rattle.names.proofs.EntryLaws.{entry-tested}
+use Rattle.names.proofs.EntryLaws.{entry_tested}
 use borrow.Author.Rules.{rules}
 use Rattle.names.proofs.entries.entry_fault.Statement.{statement}
 use Rattle.names.proofs.entries.entry_fault.Tie as tie
@@ -13,4 +13,4 @@ entry_fault_spec =
     (λ c κs. search rules)
     (λ c κs. search rules)
     (λ c κs. search rules)
-    (λ c. search (rules, entry-tested)))
+    (λ c. search (rules, entry_tested)))

@@ -3,7 +3,7 @@ use Prim.Native.Nat.{◌-◌}
 use lib.ListN.{length}
 use Rattle.net.specs.Records.{address_of}
 use Rattle.names.specs.Names.{found_among}
-use Rattle.names.proofs.EntryLaws.{Left, left_all, found-again, found_here, found_none}
+use Rattle.names.proofs.EntryLaws.{Left, left_all, found_again, found_here, found_none}
 use borrow.Author.Rules.{rules}
 use Rattle.names.proofs.entries.find.Statement.{statement}
 use Rattle.names.proofs.entries.find.Tie as tie
@@ -25,5 +25,5 @@ find_spec =
     (λ c. search (rules, found_here))
     (λ c κs. search rules)
     (λ c. search rules)
-    (λ c. search (rules, found-again))
+    (λ c. search (rules, found_again))
     (λ c. search (rules, found_none)))

@@ -2,7 +2,7 @@
 use Prim.Native.Nat.{◌-◌}
 use lib.ListN.{length}
 use Rattle.names.specs.Names.{fault_among}
-use Rattle.names.proofs.EntryLaws.{Left, left_all, fault-again, fault-here, fault_none}
+use Rattle.names.proofs.EntryLaws.{Left, left_all, fault_again, fault_here, fault_none}
 use borrow.Author.Rules.{rules}
 use Rattle.names.proofs.entries.list_fault.Statement.{statement}
 use Rattle.names.proofs.entries.list_fault.Tie as tie
@@ -21,8 +21,8 @@ list_fault_spec =
     decreases-loop
     (λ c. search (rules, left_all))
     (λ c κs. search rules)
-    (λ c. search (rules, fault-here))
+    (λ c. search (rules, fault_here))
     (λ c κs. search rules)
     (λ c. search rules)
-    (λ c. search (rules, fault-again))
+    (λ c. search (rules, fault_again))
     (λ c. search (rules, fault_none)))

@@ -1,5 +1,5 @@
 -- `names::lookup::fault` meets its contract. Assumes nothing.
-use Rattle.names.proofs.LookupLaws.{both-tested}
+use Rattle.names.proofs.LookupLaws.{both_tested}
 use borrow.Author.Rules.{rules}
 use Rattle.names.proofs.lookup.fault.Statement.{statement}
 use Rattle.names.proofs.lookup.fault.Tie as tie
@@ -11,4 +11,4 @@ fault_spec =
     (λ c κs. search rules)
     (λ c κs. search rules)
     (λ c κs. search rules)
-    (λ c. search (rules, both-tested)))
+    (λ c. search (rules, both_tested)))

@@ -1,5 +1,5 @@
 -- `names::lookup::listed_name` meets its contract. Assumes nothing.
-use Rattle.names.proofs.LookupLaws.{there, picked-site, picked-office}
+use Rattle.names.proofs.LookupLaws.{there, picked_site, picked_office}
 use borrow.Author.Rules.{rules}
 use Rattle.names.proofs.lookup.listed_name.Statement.{statement}
 use Rattle.names.proofs.lookup.listed_name.Tie as tie
@@ -13,5 +13,5 @@ listed_name_spec =
     (λ c κs. search (rules, there))
     (λ c. search rules)
     (λ c κs. search rules)
-    (λ c. search (rules, picked-site))
-    (λ c. search (rules, picked-office)))
+    (λ c. search (rules, picked_site))
+    (λ c. search (rules, picked_office)))

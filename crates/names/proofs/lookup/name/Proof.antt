@@ -1,5 +1,5 @@
 -- `names::lookup::name` meets its contract. Assumes nothing.
-use Rattle.names.proofs.LookupLaws.{named-tested}
+use Rattle.names.proofs.LookupLaws.{named_tested}
 use borrow.Author.Rules.{rules}
 use Rattle.names.proofs.lookup.name.Statement.{statement}
 use Rattle.names.proofs.lookup.name.Tie as tie
@@ -10,4 +10,4 @@ name_spec =
     (tie.spec
     (λ c κs. search rules)
     (λ c κs. search rules)
-    (λ c. search (rules, named-tested)))
+    (λ c. search (rules, named_tested)))

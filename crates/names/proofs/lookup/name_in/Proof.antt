@@ -1,5 +1,5 @@
 -- `names::lookup::name_in` meets its contract. Assumes nothing.
-use Rattle.names.proofs.LookupLaws.{there, text-found, text_missing}
+use Rattle.names.proofs.LookupLaws.{there, text_found, text_missing}
 use borrow.Author.Rules.{rules}
 use Rattle.names.proofs.lookup.name_in.Statement.{statement}
 use Rattle.names.proofs.lookup.name_in.Tie as tie
@@ -13,5 +13,5 @@ name_in_spec =
     (λ c κs. search (rules, there))
     (λ c. search rules)
     (λ c κs. search rules)
-    (λ c. search (rules, text-found))
+    (λ c. search (rules, text_found))
     (λ c. search (rules, text_missing)))

@@ -1,5 +1,5 @@
 -- `notation::lines::owner_at` meets its contract. Assumes nothing.
-use Rattle.notation.proofs.LineLaws.{owner-found}
+use Rattle.notation.proofs.LineLaws.{owner_found}
 use borrow.Author.Rules.{rules}
 use Rattle.notation.proofs.lines.owner_at.Statement.{statement}
 use Rattle.notation.proofs.lines.owner_at.Tie as tie
@@ -10,4 +10,4 @@ owner_at_spec =
     (tie.spec
     (λ c κs. search rules)
     (λ c. search rules)
-    (λ c. search (rules, owner-found)))
+    (λ c. search (rules, owner_found)))

@@ -1,6 +1,6 @@
 -- `notation::lines::read_definition` meets its contract. Assumes nothing.
 use Rattle.text.specs.Bytes.{bytes}
-use Rattle.notation.proofs.LineLaws.{definition-lined}
+use Rattle.notation.proofs.LineLaws.{definition_lined}
 use borrow.Author.Rules.{rules}
 use Rattle.notation.proofs.lines.read_definition.Statement.{statement}
 use Rattle.notation.proofs.lines.read_definition.Tie as tie
@@ -23,4 +23,4 @@ read_definition_spec =
     (λ c. search rules)
     (λ c. search rules)
     (λ c. search rules)
-    (λ c. search (rules, definition-lined)))
+    (λ c. search (rules, definition_lined)))

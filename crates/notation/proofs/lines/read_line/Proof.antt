@@ -1,5 +1,5 @@
 -- `notation::lines::read_line` meets its contract. Assumes nothing.
-use Rattle.notation.proofs.LineLaws.{line_defined, line-located}
+use Rattle.notation.proofs.LineLaws.{line_defined, line_located}
 use borrow.Author.Rules.{rules}
 use Rattle.notation.proofs.lines.read_line.Statement.{statement}
 use Rattle.notation.proofs.lines.read_line.Tie as tie
@@ -19,4 +19,4 @@ read_line_spec =
     (λ c. search rules)
     (λ c. search rules)
     (λ c. search rules)
-    (λ c. search (rules, line-located)))
+    (λ c. search (rules, line_located)))

@@ -4,7 +4,7 @@ use mathlib.Core.Path.{◌≡◌, ◌∙◌}
 use lib.ListN.{length}
 use Rattle.net.specs.Records.{node_at, with_node}
 use Rattle.notation.specs.LineProgress.{scope_in, state, Lining}
-use Rattle.notation.proofs.LinesLaws.{more_left, left_less, lines_begin, lines-few, lines_more, lines_end}
+use Rattle.notation.proofs.LinesLaws.{more_left, left_less, lines_begin, lines_few, lines_more, lines_end}
 use borrow.Author.Rules.{rules}
 use Rattle.notation.proofs.lines.read_lines.Statement.{statement}
 use Rattle.notation.proofs.lines.read_lines.Tie as tie
@@ -32,7 +32,7 @@ read_lines_spec =
     (λ c κs. search rules)
     (λ c. search rules)
     (λ c. search rules)
-    (λ c κs. search (rules, lines-few))
+    (λ c κs. search (rules, lines_few))
     (λ c. search rules)
     (λ c. search rules)
     (λ c. search (rules, left_less))

@@ -1,6 +1,6 @@
 -- `notation::lines::read_located` meets its contract. Assumes nothing.
 use Rattle.text.specs.Bytes.{bytes}
-use Rattle.notation.proofs.LineLaws.{located-lined}
+use Rattle.notation.proofs.LineLaws.{located_lined}
 use borrow.Author.Rules.{rules}
 use Rattle.notation.proofs.lines.read_located.Statement.{statement}
 use Rattle.notation.proofs.lines.read_located.Tie as tie
@@ -17,4 +17,4 @@ read_located_spec =
     (λ c. search rules)
     (λ c. search rules)
     (λ c. search rules)
-    (λ c. search (rules, located-lined)))
+    (λ c. search (rules, located_lined)))

@@ -1,5 +1,5 @@
 -- `notation::lines::read_placed` meets its contract. Assumes nothing.
-use Rattle.notation.proofs.LineLaws.{tuple-placed, process-placed}
+use Rattle.notation.proofs.LineLaws.{tuple_placed, process_placed}
 use borrow.Author.Rules.{rules}
 use Rattle.notation.proofs.lines.read_placed.Statement.{statement}
 use Rattle.notation.proofs.lines.read_placed.Tie as tie
@@ -12,8 +12,8 @@ read_placed_spec =
     (λ c κs. search rules)
     (λ c κs. search rules)
     (λ c κs. search rules)
-    (λ c. search (rules, tuple-placed, c.read-tuple-line.ensures))
+    (λ c. search (rules, tuple_placed, c.read-tuple-line.ensures))
     (λ c. search rules)
     (λ c. search rules)
     (λ c. search rules)
-    (λ c. search (rules, process-placed)))
+    (λ c. search (rules, process_placed)))

@@ -1,5 +1,5 @@
 -- `notation::lines::read_process_line` meets its contract. Assumes nothing.
-use Rattle.notation.proofs.LineLaws.{process-lined}
+use Rattle.notation.proofs.LineLaws.{process_lined}
 use borrow.Author.Rules.{rules}
 use Rattle.notation.proofs.lines.read_process_line.Statement.{statement}
 use Rattle.notation.proofs.lines.read_process_line.Tie as tie
@@ -14,4 +14,4 @@ read_process_line_spec =
     (λ c. search rules)
     (λ c. search rules)
     (λ c. search rules)
-    (λ c. search (rules, process-lined)))
+    (λ c. search (rules, process_lined)))

@@ -1,5 +1,5 @@
 -- `notation::lines::read_tuple_line` meets its contract. Assumes nothing.
-use Rattle.notation.proofs.LineLaws.{tuple-lined}
+use Rattle.notation.proofs.LineLaws.{tuple_lined}
 use borrow.Author.Rules.{rules}
 use Rattle.notation.proofs.lines.read_tuple_line.Statement.{statement}
 use Rattle.notation.proofs.lines.read_tuple_line.Tie as tie
@@ -10,4 +10,4 @@ read_tuple_line_spec =
     (tie.spec
     (λ c κs. search rules)
     (λ c κs. search rules)
-    (λ c. search (rules, tuple-lined)))
+    (λ c. search (rules, tuple_lined)))

@@ -1,5 +1,5 @@
 -- `notation::lines::started_in` meets its contract. Assumes nothing.
-use Rattle.notation.proofs.LineLaws.{started-is}
+use Rattle.notation.proofs.LineLaws.{started_is}
 use borrow.Author.Rules.{rules}
 use Rattle.notation.proofs.lines.started_in.Statement.{statement}
 use Rattle.notation.proofs.lines.started_in.Tie as tie
@@ -10,4 +10,4 @@ started_in_spec =
     (tie.spec
     (λ c κs. search rules)
     (λ c κs. search rules)
-    (λ c. search (rules, started-is)))
+    (λ c. search (rules, started_is)))

@@ -1,5 +1,5 @@
 -- `notation::reading::judge` meets its contract. Assumes nothing.
-use Rattle.notation.proofs.TextLaws.{step-place, step-fault}
+use Rattle.notation.proofs.TextLaws.{step_place, step_fault}
 use borrow.Author.Rules.{rules}
 use Rattle.notation.proofs.reading.judge.Statement.{statement}
 use Rattle.notation.proofs.reading.judge.Tie as tie
@@ -12,5 +12,5 @@ judge_spec =
     (λ c κs. search rules)
     (λ c. search rules)
     (λ c κs. search rules)
-    (λ c. search (rules, step-place))
-    (λ c. search (rules, step-fault)))
+    (λ c. search (rules, step_place))
+    (λ c. search (rules, step_fault)))

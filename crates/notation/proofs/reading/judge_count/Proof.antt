@@ -1,5 +1,5 @@
 -- `notation::reading::judge_count` meets its contract. Assumes nothing.
-use Rattle.notation.proofs.TextLaws.{count_none, count-right, count_many}
+use Rattle.notation.proofs.TextLaws.{count_none, count_right, count_many}
 use borrow.Author.Rules.{rules}
 use Rattle.notation.proofs.reading.judge_count.Statement.{statement}
 use Rattle.notation.proofs.reading.judge_count.Tie as tie
@@ -13,5 +13,5 @@ judge_count_spec =
     (λ c κs. search rules)
     (λ c κs. search rules)
     (λ c. search (rules, count_none))
-    (λ c. search (rules, count-right))
+    (λ c. search (rules, count_right))
     (λ c. search (rules, count_many)))

@@ -2,7 +2,7 @@
 -- `policy` after that of `read_policy`. Assumes nothing.
 use Rattle.net.proofs.Lengths.{net_shaped}
 use Rattle.rows.proofs.PolicyLaws.{few_addresses, nothing_else}
-use Rattle.notation.proofs.TextLaws.{text-read}
+use Rattle.notation.proofs.TextLaws.{text_read}
 use borrow.Author.Rules.{rules}
 use Rattle.notation.proofs.reading.read_into.Statement.{statement}
 use Rattle.notation.proofs.reading.read_into.Tie as tie
@@ -23,5 +23,5 @@ read_into_spec =
     let lines = c.before.before.before.before.before.before.before.before.before.before.before.before.before.before.before.before in
     let policy = lines.before.before.before.before.before.before.before in
     let pre = policy.before.before.before.before.before.before.before.requires in
-    text-read _ _ _ _ _ _ _ _ _ _ _ _ _ _ _ _ _ pre.0 pre.1.0 pre.1.1.0 pre.1.1.1.0 pre.1.1.1.1
+    text_read _ _ _ _ _ _ _ _ _ _ _ _ _ _ _ _ _ pre.0 pre.1.0 pre.1.1.0 pre.1.1.1.0 pre.1.1.1.1
     (search (net_shaped, policy.read-policy.type-inv)) policy.read-policy.ensures lines.read-lines.ensures c.judge.ensures))

@@ -1,4 +1,4 @@
--- `plans::request::read_at` meets its contract. Assumes nothing.
+-- `plans::request::read_at_law` meets its contract. Assumes nothing.
 use Rattle.plans.proofs.PlanLaws.{by_first}
 use Rattle.plans.specs.Request.{at}
 use borrow.Author.Rules.{rules}

@@ -1,5 +1,5 @@
 -- `processes::actions::close_plain` meets its contract. Assumes nothing.
-use Rattle.processes.proofs.ActionLaws.{closed-plain}
+use Rattle.processes.proofs.ActionLaws.{closed_plain}
 use borrow.Author.Rules.{rules}
 use Rattle.processes.proofs.actions.close_plain.Statement.{statement}
 use Rattle.processes.proofs.actions.close_plain.Tie as tie
@@ -11,4 +11,4 @@ close_plain_spec =
     (λ c κs. search rules)
     (λ c κs. search rules)
     (λ c. search rules)
-    (λ c. search (rules, closed-plain)))
+    (λ c. search (rules, closed_plain)))

@@ -1,6 +1,6 @@
 -- `processes::actions::read_in` meets its contract. Assumes nothing.
 use Rattle.text.specs.Bytes.{bytes}
-use Rattle.processes.proofs.ActionLaws.{in-acted}
+use Rattle.processes.proofs.ActionLaws.{in_acted}
 use borrow.Author.Rules.{rules}
 use Rattle.processes.proofs.actions.read_in.Statement.{statement}
 use Rattle.processes.proofs.actions.read_in.Tie as tie
@@ -14,4 +14,4 @@ read_in_spec =
     (λ c κs. search rules)
     (λ c κs. search rules)
     (λ c. search rules)
-    (λ c. search (rules, in-acted)))
+    (λ c. search (rules, in_acted)))

@@ -1,6 +1,6 @@
 -- `processes::actions::read_newloc` meets its contract. Assumes nothing.
 use Rattle.text.specs.Bytes.{bytes}
-use Rattle.processes.proofs.ActionLaws.{newloc-acted}
+use Rattle.processes.proofs.ActionLaws.{newloc_acted}
 use borrow.Author.Rules.{rules}
 use Rattle.processes.proofs.actions.read_newloc.Statement.{statement}
 use Rattle.processes.proofs.actions.read_newloc.Tie as tie
@@ -18,4 +18,4 @@ read_newloc_spec =
     (λ c. search rules)
     (λ c κs. search rules)
     (λ c. search rules)
-    (λ c. search (rules, newloc-acted)))
+    (λ c. search (rules, newloc_acted)))

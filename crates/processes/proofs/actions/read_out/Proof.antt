@@ -1,6 +1,6 @@
 -- `processes::actions::read_out` meets its contract. Assumes nothing.
 use Rattle.text.specs.Bytes.{bytes}
-use Rattle.processes.proofs.ActionLaws.{out-acted}
+use Rattle.processes.proofs.ActionLaws.{out_acted}
 use borrow.Author.Rules.{rules}
 use Rattle.processes.proofs.actions.read_out.Statement.{statement}
 use Rattle.processes.proofs.actions.read_out.Tie as tie
@@ -17,4 +17,4 @@ read_out_spec =
     (λ c κs. search rules)
     (λ c κs. search rules)
     (λ c. search rules)
-    (λ c. search (rules, out-acted, c.before.before.read-receiving.ensures)))
+    (λ c. search (rules, out_acted, c.before.before.read-receiving.ensures)))

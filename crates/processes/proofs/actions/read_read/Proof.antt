@@ -1,6 +1,6 @@
 -- `processes::actions::read_read` meets its contract. Assumes nothing.
 use Rattle.text.specs.Bytes.{bytes}
-use Rattle.processes.proofs.ActionLaws.{read-acted}
+use Rattle.processes.proofs.ActionLaws.{read_acted}
 use borrow.Author.Rules.{rules}
 use Rattle.processes.proofs.actions.read_read.Statement.{statement}
 use Rattle.processes.proofs.actions.read_read.Tie as tie
@@ -14,4 +14,4 @@ read_read_spec =
     (λ c κs. search rules)
     (λ c κs. search rules)
     (λ c. search rules)
-    (λ c. search (rules, read-acted)))
+    (λ c. search (rules, read_acted)))

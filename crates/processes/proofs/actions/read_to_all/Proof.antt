@@ -1,5 +1,5 @@
 -- `processes::actions::read_to_all` meets its contract. Assumes nothing.
-use Rattle.processes.proofs.ActionLaws.{all-acted}
+use Rattle.processes.proofs.ActionLaws.{all_acted}
 use borrow.Author.Rules.{rules}
 use Rattle.processes.proofs.actions.read_to_all.Statement.{statement}
 use Rattle.processes.proofs.actions.read_to_all.Tie as tie
@@ -13,4 +13,4 @@ read_to_all_spec =
     (λ c κs. search rules)
     (λ c κs. search rules)
     (λ c. search rules)
-    (λ c. search (rules, all-acted)))
+    (λ c. search (rules, all_acted)))

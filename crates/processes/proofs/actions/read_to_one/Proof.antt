@@ -1,5 +1,5 @@
 -- `processes::actions::read_to_one` meets its contract. Assumes nothing.
-use Rattle.processes.proofs.ActionLaws.{one-acted}
+use Rattle.processes.proofs.ActionLaws.{one_acted}
 use borrow.Author.Rules.{rules}
 use Rattle.processes.proofs.actions.read_to_one.Statement.{statement}
 use Rattle.processes.proofs.actions.read_to_one.Tie as tie
@@ -13,4 +13,4 @@ read_to_one_spec =
     (λ c κs. search rules)
     (λ c κs. search rules)
     (λ c. search rules)
-    (λ c. search (rules, one-acted)))
+    (λ c. search (rules, one_acted)))

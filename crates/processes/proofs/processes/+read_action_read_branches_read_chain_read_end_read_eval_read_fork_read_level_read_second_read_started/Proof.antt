@@ -8,8 +8,8 @@ use Rattle.processes.specs.Reading.{process_at}
 use Rattle.processes.specs.Progress.{Chained}
 use Rattle.processes.proofs.ChainLaws.{goes_left, goes_less}
 use Rattle.processes.proofs.ActionLaws.{action_eval, action_simple}
-use Rattle.processes.proofs.ProcessLaws.{barred, branched, fork-coded, eval-acted, ended_name, ended_fork, ended_nil}
-use Rattle.processes.proofs.ProcessLaws.{chained_begin, chained_more, chained-out, chained-end, process_none, process-chain}
+use Rattle.processes.proofs.ProcessLaws.{barred, branched, fork_coded, eval_acted, ended_name, ended_fork, ended_nil}
+use Rattle.processes.proofs.ProcessLaws.{chained_begin, chained_more, chained_out, chained_end, process_none, process_chain}
 use borrow.Author.Rules.{rules}
 use Prim.Native.Nat.{ℕ, ◌<◌}
 use borrow.Fn.Kinds.{In}
@@ -239,10 +239,10 @@ unfolding bytes
     (λ c κs. search rules)
     (λ c. search rules)
     (λ c. search rules)
-    (λ c. search (rules, chained-out, c.no-process.ensures))
+    (λ c. search (rules, chained_out, c.no-process.ensures))
     (λ c. search rules)
     (λ c. search rules)
-    (λ c. search (rules, chained-end)))
+    (λ c. search (rules, chained_end)))
     (λ t. read-end-lts.spec (
       byte-here-reads.Asked,
       byte-here-reads.Learnt,
@@ -285,7 +285,7 @@ unfolding bytes
     (λ c κs. search rules)
     (λ c. search rules)
     (λ c. search rules)
-    (λ c. search (rules, eval-acted)))
+    (λ c. search (rules, eval_acted)))
     (λ t. read-fork-lts.spec (
       read-byte-reads.Asked,
       read-byte-reads.Learnt,
@@ -304,7 +304,7 @@ unfolding bytes
     (λ c κs. search rules)
     (λ c. search rules)
     (λ c. search rules)
-    (λ c. search (rules, fork-coded)))
+    (λ c. search (rules, fork_coded)))
     (λ t. read-level-lts.spec (
       no-process-reads.Asked,
       no-process-reads.Learnt,
@@ -319,7 +319,7 @@ unfolding bytes
     (λ c. search (rules, process_none, c.no-process.ensures))
     (λ c. search rules)
     (λ c. search rules)
-    (λ c. search (rules, process-chain)))
+    (λ c. search (rules, process_chain)))
     (λ t. read-second-lts.spec (
       read-word-reads.Asked,
       read-word-reads.Learnt,

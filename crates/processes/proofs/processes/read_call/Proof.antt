@@ -1,5 +1,5 @@
 -- `processes::processes::read_call` meets its contract. Assumes nothing.
-use Rattle.processes.proofs.ProcessLaws.{call-coded}
+use Rattle.processes.proofs.ProcessLaws.{call_coded}
 use borrow.Author.Rules.{rules}
 use Rattle.processes.proofs.processes.read_call.Statement.{statement}
 use Rattle.processes.proofs.processes.read_call.Tie as tie
@@ -11,4 +11,4 @@ read_call_spec =
     (λ c κs. search rules)
     (λ c κs. search rules)
     (λ c. search rules)
-    (λ c. search (rules, call-coded)))
+    (λ c. search (rules, call_coded)))

@@ -1,6 +1,6 @@
 -- `processes::processes::read_nil` meets its contract. Assumes nothing.
 use Rattle.text.specs.Bytes.{bytes}
-use Rattle.processes.proofs.ProcessLaws.{nil-coded}
+use Rattle.processes.proofs.ProcessLaws.{nil_coded}
 use borrow.Author.Rules.{rules}
 use Rattle.processes.proofs.processes.read_nil.Statement.{statement}
 use Rattle.processes.proofs.processes.read_nil.Tie as tie
@@ -15,4 +15,4 @@ read_nil_spec =
     (λ c κs. search rules)
     (λ c κs. search rules)
     (λ c. search rules)
-    (λ c. search (rules, nil-coded)))
+    (λ c. search (rules, nil_coded)))

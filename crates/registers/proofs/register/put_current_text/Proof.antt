@@ -1,5 +1,5 @@
 -- `registers::register::put_current_text` meets its contract. Assumes nothing.
-use Rattle.registers.proofs.RegisterLaws.{current-text-as}
+use Rattle.registers.proofs.RegisterLaws.{current_text_as}
 use borrow.Author.Rules.{rules}
 use Rattle.registers.proofs.register.put_current_text.Statement.{statement}
 use Rattle.registers.proofs.register.put_current_text.Tie as tie
@@ -11,4 +11,4 @@ put_current_text_spec =
     (λ c κs. search rules)
     (λ c κs. search rules)
     (λ c. search rules)
-    (λ c. search (rules, current-text-as)))
+    (λ c. search (rules, current_text_as)))

@@ -1,5 +1,5 @@
 -- `registers::register::put_named` meets its contract. Assumes nothing.
-use Rattle.registers.proofs.RegisterLaws.{named-as}
+use Rattle.registers.proofs.RegisterLaws.{named_as}
 use borrow.Author.Rules.{rules}
 use Rattle.registers.proofs.register.put_named.Statement.{statement}
 use Rattle.registers.proofs.register.put_named.Tie as tie
@@ -11,4 +11,4 @@ put_named_spec =
     (λ c κs. search rules)
     (λ c κs. search rules)
     (λ c. search rules)
-    (λ c. search (rules, named-as)))
+    (λ c. search (rules, named_as)))

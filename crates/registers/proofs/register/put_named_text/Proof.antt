@@ -1,5 +1,5 @@
 -- `registers::register::put_named_text` meets its contract. Assumes nothing.
-use Rattle.registers.proofs.RegisterLaws.{named-text-as}
+use Rattle.registers.proofs.RegisterLaws.{named_text_as}
 use borrow.Author.Rules.{rules}
 use Rattle.registers.proofs.register.put_named_text.Statement.{statement}
 use Rattle.registers.proofs.register.put_named_text.Tie as tie
@@ -11,4 +11,4 @@ put_named_text_spec =
     (λ c κs. search rules)
     (λ c κs. search rules)
     (λ c. search rules)
-    (λ c. search (rules, named-text-as)))
+    (λ c. search (rules, named_text_as)))

@@ -1,5 +1,5 @@
 -- `registers::register::put_register` meets its contract. Assumes nothing.
-use Rattle.registers.proofs.RegisterLaws.{register-accepted, register-refused}
+use Rattle.registers.proofs.RegisterLaws.{register_accepted, register_refused}
 use borrow.Author.Rules.{rules}
 use Rattle.registers.proofs.register.put_register.Statement.{statement}
 use Rattle.registers.proofs.register.put_register.Tie as tie
@@ -14,6 +14,6 @@ put_register_spec =
     (λ c. search rules)
     (λ c κs. search rules)
     (λ c. search rules)
-    (λ c. search (rules, register-accepted, register-refused))
+    (λ c. search (rules, register_accepted, register_refused))
     (λ c. search rules)
-    (λ c. search (rules, register-accepted, register-refused)))
+    (λ c. search (rules, register_accepted, register_refused)))

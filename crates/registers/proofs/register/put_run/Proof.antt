@@ -1,5 +1,5 @@
 -- `registers::register::put_run` meets its contract. Assumes nothing.
-use Rattle.registers.proofs.RegisterLaws.{register-run}
+use Rattle.registers.proofs.RegisterLaws.{register_run}
 use borrow.Author.Rules.{rules}
 use Rattle.registers.proofs.register.put_run.Statement.{statement}
 use Rattle.registers.proofs.register.put_run.Tie as tie
@@ -15,4 +15,4 @@ put_run_spec =
     (λ c κs. search rules)
     (λ c κs. search rules)
     (λ c. search rules)
-    (λ c. search (rules, register-run)))
+    (λ c. search (rules, register_run)))

@@ -1,5 +1,5 @@
 -- `registers::register::put_start` meets its contract. Assumes nothing.
-use Rattle.registers.proofs.RegisterLaws.{start-line}
+use Rattle.registers.proofs.RegisterLaws.{start_line}
 use borrow.Author.Rules.{rules}
 use Rattle.registers.proofs.register.put_start.Statement.{statement}
 use Rattle.registers.proofs.register.put_start.Tie as tie
@@ -11,4 +11,4 @@ put_start_spec =
     (λ c κs. search rules)
     (λ c κs. search rules)
     (λ c. search rules)
-    (λ c. search (rules, start-line)))
+    (λ c. search (rules, start_line)))

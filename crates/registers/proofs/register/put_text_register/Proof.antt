@@ -1,5 +1,5 @@
 -- `registers::register::put_text_register` meets its contract. Assumes nothing.
-use Rattle.registers.proofs.RegisterLaws.{text-accepted, text-refused}
+use Rattle.registers.proofs.RegisterLaws.{text_accepted, text_refused}
 use borrow.Author.Rules.{rules}
 use Rattle.registers.proofs.register.put_text_register.Statement.{statement}
 use Rattle.registers.proofs.register.put_text_register.Tie as tie
@@ -14,6 +14,6 @@ put_text_register_spec =
     (λ c. search rules)
     (λ c κs. search rules)
     (λ c. search rules)
-    (λ c. search (rules, text-accepted, text-refused))
+    (λ c. search (rules, text_accepted, text_refused))
     (λ c. search rules)
-    (λ c. search (rules, text-accepted, text-refused)))
+    (λ c. search (rules, text_accepted, text_refused)))

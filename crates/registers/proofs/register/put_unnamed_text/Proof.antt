@@ -1,5 +1,5 @@
 -- `registers::register::put_unnamed_text` meets its contract. Assumes nothing.
-use Rattle.registers.proofs.RegisterLaws.{unnamed-text-as}
+use Rattle.registers.proofs.RegisterLaws.{unnamed_text_as}
 use borrow.Author.Rules.{rules}
 use Rattle.registers.proofs.register.put_unnamed_text.Statement.{statement}
 use Rattle.registers.proofs.register.put_unnamed_text.Tie as tie
@@ -12,4 +12,4 @@ put_unnamed_text_spec =
     (λ c. search rules)
     (λ c κs. search rules)
     (λ c. search rules)
-    (λ c. search (rules, unnamed-text-as)))
+    (λ c. search (rules, unnamed_text_as)))

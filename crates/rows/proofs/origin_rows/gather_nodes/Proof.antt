@@ -2,7 +2,7 @@
 use Prim.Native.Nat.{◌-◌}
 use Rattle.net.specs.Records.{with_counts, with_format}
 use Rattle.rows.specs.Progress.{NodesRuling}
-use Rattle.rows.proofs.OriginLaws.{nodes-begin, nodes-more, nodes-end}
+use Rattle.rows.proofs.OriginLaws.{nodes_begin, nodes_more, nodes_end}
 use borrow.Author.Rules.{rules}
 use Rattle.rows.proofs.origin_rows.gather_nodes.Statement.{statement}
 use Rattle.rows.proofs.origin_rows.gather_nodes.Tie as tie
@@ -23,7 +23,7 @@ gather_nodes_spec =
     (λ c κs. search rules)
     (λ c κs. search rules)
     (λ c κs. search rules)
-    (λ c. search (rules, nodes-begin))
+    (λ c. search (rules, nodes_begin))
     (λ c κs. search rules)
     (λ c κs. search rules)
     (λ c. search rules)
@@ -31,5 +31,5 @@ gather_nodes_spec =
     (λ c.
     let read = c.before.before in
     let test = read.before in
-    nodes-more _ _ _ _ _ _ _ _ test.loop-test.true test.before.loop.invariant read.read-node-rows.ensures c.with-rows2.ensures)
-    (λ c. search (rules, nodes-end)))
+    nodes_more _ _ _ _ _ _ _ _ test.loop-test.true test.before.loop.invariant read.read-node-rows.ensures c.with-rows2.ensures)
+    (λ c. search (rules, nodes_end)))

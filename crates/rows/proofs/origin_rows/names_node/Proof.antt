@@ -1,5 +1,5 @@
 -- `rows::origin_rows::names_node` meets its contract. Assumes nothing.
-use Rattle.rows.proofs.OriginLaws.{names-here}
+use Rattle.rows.proofs.OriginLaws.{names_here}
 use borrow.Author.Rules.{rules}
 use Rattle.rows.proofs.origin_rows.names_node.Statement.{statement}
 use Rattle.rows.proofs.origin_rows.names_node.Tie as tie
@@ -10,4 +10,4 @@ names_node_spec =
     (tie.spec
     (λ c κs. search rules)
     (λ c κs. search rules)
-    (λ c. search (rules, names-here)))
+    (λ c. search (rules, names_here)))

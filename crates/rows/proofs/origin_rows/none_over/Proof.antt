@@ -1,5 +1,5 @@
 -- `rows::origin_rows::none_over` meets its contract. Assumes nothing.
-use Rattle.rows.proofs.OriginLaws.{over-read}
+use Rattle.rows.proofs.OriginLaws.{over_read}
 use borrow.Author.Rules.{rules}
 use Rattle.rows.proofs.origin_rows.none_over.Statement.{statement}
 use Rattle.rows.proofs.origin_rows.none_over.Tie as tie
@@ -11,4 +11,4 @@ none_over_spec =
     (λ c κs. search rules)
     (λ c κs. search rules)
     (λ c κs. search rules)
-    (λ c. search (rules, over-read, c.require-that.ensures)))
+    (λ c. search (rules, over_read, c.require-that.ensures)))

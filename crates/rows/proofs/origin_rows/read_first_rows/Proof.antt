@@ -6,7 +6,7 @@ use Rattle.net.specs.Choice.{both}
 use Rattle.rows.specs.OriginRows.{names_node}
 use Rattle.rows.specs.Progress.{holds_at, FirstRowing}
 use Rattle.rows.proofs.AllRowsLaws.{fewer_left, has_place}
-use Rattle.rows.proofs.OriginLaws.{first-begin, first_more, first-end}
+use Rattle.rows.proofs.OriginLaws.{first_begin, first_more, first_end}
 use borrow.Author.Rules.{rules}
 use Rattle.rows.proofs.origin_rows.read_first_rows.Statement.{statement}
 use Rattle.rows.proofs.origin_rows.read_first_rows.Tie as tie
@@ -29,7 +29,7 @@ read_first_rows_spec =
     (λ c κs. search rules)
     (λ c. search rules)
     (λ c κs. search rules)
-    (λ c. search (rules, first-begin))
+    (λ c. search (rules, first_begin))
     (λ c κs. search rules)
     (λ c. search (rules, has_place))
     (λ c. search (rules, has_place))
@@ -41,4 +41,4 @@ read_first_rows_spec =
     (λ c. search (rules, first_more))
     (λ c κs. search rules)
     (λ c κs. search rules)
-    (λ c. search (rules, first-end, c.require-that.ensures)))
+    (λ c. search (rules, first_end, c.require-that.ensures)))

@@ -1,6 +1,6 @@
 -- `rows::origin_rows::read_origin_row` meets its contract. Assumes nothing.
 use Rattle.text.specs.Bytes.{bytes}
-use Rattle.rows.proofs.OriginLaws.{origin-row-read}
+use Rattle.rows.proofs.OriginLaws.{origin_row_read}
 use borrow.Author.Rules.{rules}
 use Rattle.rows.proofs.origin_rows.read_origin_row.Statement.{statement}
 use Rattle.rows.proofs.origin_rows.read_origin_row.Tie as tie
@@ -17,4 +17,4 @@ read_origin_row_spec =
     (λ c. search rules)
     (λ c κs. search rules)
     (λ c κs. search rules)
-    (λ c. search (rules, origin-row-read)))
+    (λ c. search (rules, origin_row_read)))

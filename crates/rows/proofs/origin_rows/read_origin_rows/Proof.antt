@@ -1,5 +1,5 @@
 -- `rows::origin_rows::read_origin_rows` meets its contract. Assumes nothing.
-use Rattle.rows.proofs.OriginLaws.{few_nodes, judged-nodes}
+use Rattle.rows.proofs.OriginLaws.{few_nodes, judged_nodes}
 use borrow.Author.Rules.{rules}
 use Rattle.rows.proofs.origin_rows.read_origin_rows.Statement.{statement}
 use Rattle.rows.proofs.origin_rows.read_origin_rows.Tie as tie
@@ -12,4 +12,4 @@ read_origin_rows_spec =
     (λ c κs. search rules)
     (λ c κs. search (rules, few_nodes))
     (λ c κs. search rules)
-    (λ c. search (rules, judged-nodes, c.require-that.ensures)))
+    (λ c. search (rules, judged_nodes, c.require-that.ensures)))

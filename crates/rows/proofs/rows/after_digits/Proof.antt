@@ -2,7 +2,7 @@
 use Prim.Native.Nat.{◌-◌}
 use lib.ListN.{length}
 use Rattle.rows.specs.Progress.{Digits}
-use Rattle.rows.proofs.RowLaws.{digits_begin, digits_more, digits-stop, digits_end}
+use Rattle.rows.proofs.RowLaws.{digits_begin, digits_more, digits_stop, digits_end}
 use borrow.Author.Rules.{rules}
 use Rattle.rows.proofs.rows.after_digits.Statement.{statement}
 use Rattle.rows.proofs.rows.after_digits.Tie as tie
@@ -25,5 +25,5 @@ after_digits_spec =
     (λ c. search rules)
     (λ c. search rules)
     (λ c. search (rules, digits_more))
-    (λ c. search (rules, digits-stop))
+    (λ c. search (rules, digits_stop))
     (λ c. search (rules, digits_end)))

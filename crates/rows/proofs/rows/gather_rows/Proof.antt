@@ -6,7 +6,7 @@ use Rattle.net.specs.Choice.{both}
 use Rattle.net.specs.Records.{with_counts, with_format}
 use Rattle.rows.specs.Rows.{is_row}
 use Rattle.rows.specs.Progress.{holds_at, Ruling}
-use Rattle.rows.proofs.AllRowsLaws.{fewer_left, has_place, ruling_begin, ruling-more, gathered}
+use Rattle.rows.proofs.AllRowsLaws.{fewer_left, has_place, ruling_begin, ruling_more, gathered}
 use borrow.Author.Rules.{rules}
 use Rattle.rows.proofs.rows.gather_rows.Statement.{statement}
 use Rattle.rows.proofs.rows.gather_rows.Tie as tie
@@ -33,7 +33,7 @@ gather_rows_spec =
     (λ c. search (rules, has_place))
     (λ c κs. search rules)
     (λ c. search (rules, fewer_left))
-    (λ c. search (rules, ruling-more))
+    (λ c. search (rules, ruling_more))
     (λ c κs. search rules)
     (λ c κs. search rules)
     (λ c. search (rules, gathered, c.require-that.ensures)))

@@ -1,5 +1,5 @@
 -- `rows::rows::opens_with` meets its contract. Assumes nothing.
-use Rattle.rows.proofs.RowLaws.{opens-is, opens_none}
+use Rattle.rows.proofs.RowLaws.{opens_is, opens_none}
 use borrow.Author.Rules.{rules}
 use Rattle.rows.proofs.rows.opens_with.Statement.{statement}
 use Rattle.rows.proofs.rows.opens_with.Tie as tie
@@ -12,5 +12,5 @@ opens_with_spec =
     (λ c κs. search rules)
     (λ c κs. search rules)
     (λ c κs. search rules)
-    (λ c. search (rules, opens-is))
+    (λ c. search (rules, opens_is))
     (λ c. search (rules, opens_none)))

@@ -1,5 +1,5 @@
 -- `rows::rows::read_grant` meets its contract. Assumes nothing.
-use Rattle.rows.proofs.RowLaws.{grant-more, grant_none}
+use Rattle.rows.proofs.RowLaws.{grant_more, grant_none}
 use borrow.Author.Rules.{rules}
 use Rattle.rows.proofs.rows.read_grant.Statement.{statement}
 use Rattle.rows.proofs.rows.read_grant.Tie as tie
@@ -14,5 +14,5 @@ read_grant_spec =
     (λ c. search rules)
     (λ c. search rules)
     (λ c. search rules)
-    (λ c. search (rules, grant-more))
+    (λ c. search (rules, grant_more))
     (λ c. search (rules, grant_none)))

@@ -1,7 +1,7 @@
 -- `rows::rows::read_grants` meets its contract. Assumes nothing.
 use Prim.Native.Nat.{◌-◌}
 use Rattle.rows.specs.Progress.{Granting}
-use Rattle.rows.proofs.RowLaws.{granting_begin, granting-more, granting-end}
+use Rattle.rows.proofs.RowLaws.{granting_begin, granting_more, granting_end}
 use borrow.Author.Rules.{rules}
 use Rattle.rows.proofs.rows.read_grants.Statement.{statement}
 use Rattle.rows.proofs.rows.read_grants.Tie as tie
@@ -22,5 +22,5 @@ read_grants_spec =
     (λ c κs. search rules)
     (λ c. search rules)
     (λ c. search rules)
-    (λ c. search (rules, granting-more))
-    (λ c. search (rules, granting-end)))
+    (λ c. search (rules, granting_more))
+    (λ c. search (rules, granting_end)))

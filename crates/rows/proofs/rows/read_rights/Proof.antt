@@ -1,5 +1,5 @@
 -- `rows::rows::read_rights` meets its contract. Assumes nothing.
-use Rattle.rows.proofs.RowLaws.{rights-read}
+use Rattle.rows.proofs.RowLaws.{rights_read}
 use borrow.Author.Rules.{rules}
 use Rattle.rows.proofs.rows.read_rights.Statement.{statement}
 use Rattle.rows.proofs.rows.read_rights.Tie as tie
@@ -14,4 +14,4 @@ read_rights_spec =
     (λ c κs. search rules)
     (λ c κs. search rules)
     (λ c κs. search rules)
-    (λ c. search (rules, rights-read, c.require-that.ensures)))
+    (λ c. search (rules, rights_read, c.require-that.ensures)))

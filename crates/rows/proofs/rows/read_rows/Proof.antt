@@ -1,5 +1,5 @@
 -- `rows::rows::read_rows` meets its contract. Assumes nothing.
-use Rattle.rows.proofs.AllRowsLaws.{few_gathered, judged-rows}
+use Rattle.rows.proofs.AllRowsLaws.{few_gathered, judged_rows}
 use borrow.Author.Rules.{rules}
 use Rattle.rows.proofs.rows.read_rows.Statement.{statement}
 use Rattle.rows.proofs.rows.read_rows.Tie as tie
@@ -12,4 +12,4 @@ read_rows_spec =
     (λ c κs. search rules)
     (λ c κs. search (rules, few_gathered))
     (λ c κs. search rules)
-    (λ c. judged-rows _ _ _ _ _ (search rules) (c.before.before.require-that.ensures _) (search rules) (c.require-that2.ensures _)))
+    (λ c. judged_rows _ _ _ _ _ (search rules) (c.before.before.require-that.ensures _) (search rules) (c.require-that2.ensures _)))

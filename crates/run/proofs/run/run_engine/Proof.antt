@@ -1,5 +1,5 @@
 -- `run::run::run_engine` meets its contract. Assumes nothing.
-use Rattle.run.proofs.CallLaws.{made-finish, short-finish, made_left}
+use Rattle.run.proofs.CallLaws.{made_finish, short_finish, made_left}
 use borrow.Author.Rules.{rules}
 use Rattle.run.proofs.run.run_engine.Statement.{statement}
 use Rattle.run.proofs.run.run_engine.Tie as tie
@@ -12,6 +12,6 @@ run_engine_spec =
     (λ c κs. search rules)
     (λ c κs. search rules)
     (λ c. search rules)
-    (λ c. (search (rules, made-finish), search (rules, made_left)))
+    (λ c. (search (rules, made_finish), search (rules, made_left)))
     (λ c. search rules)
-    (λ c. (search (rules, short-finish), search (rules, made_left))))
+    (λ c. (search (rules, short_finish), search (rules, made_left))))

@@ -2,7 +2,7 @@
 use Prim.Native.Nat.{◌-◌}
 use lib.ListN.{length}
 use Rattle.season.specs.Counting.{no_counts}
-use Rattle.season.proofs.CountLaws.{Counting, counting_begin, counting-turn, counting_end}
+use Rattle.season.proofs.CountLaws.{Counting, counting_begin, counting_turn, counting_end}
 use borrow.Author.Rules.{rules}
 use Rattle.season.proofs.counts.count.Statement.{statement}
 use Rattle.season.proofs.counts.count.Tie as tie
@@ -26,5 +26,5 @@ count_spec =
     (λ c κs. search rules)
     (λ c. search rules)
     (λ c. search rules)
-    (λ c. search (rules, counting-turn))
+    (λ c. search (rules, counting_turn))
     (λ c. search (rules, counting_end)))

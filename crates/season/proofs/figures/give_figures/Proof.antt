@@ -1,5 +1,5 @@
 -- `season::figures::give_figures` meets its contract. Assumes nothing.
-use Rattle.season.proofs.FigureLaws.{gave_none, gave_many, gave-figures}
+use Rattle.season.proofs.FigureLaws.{gave_none, gave_many, gave_figures}
 use borrow.Author.Rules.{rules}
 use Rattle.season.proofs.figures.give_figures.Statement.{statement}
 use Rattle.season.proofs.figures.give_figures.Tie as tie
@@ -12,4 +12,4 @@ give_figures_spec =
     (λ c. search (rules, gave_none))
     (λ c. search (rules, gave_many))
     (λ c. search rules)
-    (λ c. search (rules, gave-figures)))
+    (λ c. search (rules, gave_figures)))

@@ -1,5 +1,5 @@
 -- `season::figures::put_best` meets its contract. Assumes nothing.
-use Rattle.season.proofs.FigureLaws.{best_none, best-some}
+use Rattle.season.proofs.FigureLaws.{best_none, best_some}
 use borrow.Author.Rules.{rules}
 use Rattle.season.proofs.figures.put_best.Statement.{statement}
 use Rattle.season.proofs.figures.put_best.Tie as tie
@@ -14,6 +14,6 @@ put_best_spec =
     (λ c. search rules)
     (λ c κs. search rules)
     (λ c. search rules)
-    (λ c. search (rules, best_none, best-some))
+    (λ c. search (rules, best_none, best_some))
     (λ c. search rules)
-    (λ c. search (rules, best_none, best-some)))
+    (λ c. search (rules, best_none, best_some)))

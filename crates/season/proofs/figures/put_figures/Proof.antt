@@ -6,7 +6,7 @@ use Rattle.text.specs.Joined.{joined}
 use Rattle.text.specs.Writing.{Wrote}
 use Rattle.text.proofs.WritingLaws.{wrote_length}
 use Rattle.lines.specs.Words.{printed}
-use Rattle.lines.proofs.WordLaws.{printed_none, printed_both, parts_none, parts_more, parts-end}
+use Rattle.lines.proofs.WordLaws.{printed_none, printed_both, parts_none, parts_more, parts_end}
 use Rattle.season.specs.Sums.{no_tally, tally_at, tally_line, figures_from}
 use borrow.Author.Rules.{rules}
 use Rattle.season.proofs.figures.put_figures.Statement.{statement}
@@ -34,4 +34,4 @@ put_figures_spec =
     (λ c. search rules)
     (λ c. search (rules, parts_more printed printed_none printed_both))
     (λ c. search (rules, wrote_length))
-    (λ c. search (rules, parts-end printed printed_none printed_both)))
+    (λ c. search (rules, parts_end printed printed_none printed_both)))

@@ -1,5 +1,5 @@
 -- `season::figures::put_fraction` meets its contract. Assumes nothing.
-use Rattle.season.proofs.FigureLaws.{fraction-word}
+use Rattle.season.proofs.FigureLaws.{fraction_word_law}
 use borrow.Author.Rules.{rules}
 use Rattle.season.proofs.figures.put_fraction.Statement.{statement}
 use Rattle.season.proofs.figures.put_fraction.Tie as tie
@@ -13,4 +13,4 @@ put_fraction_spec =
     (λ c. search rules)
     (λ c κs. search rules)
     (λ c. search rules)
-    (λ c. search (rules, fraction-word)))
+    (λ c. search (rules, fraction_word_law)))

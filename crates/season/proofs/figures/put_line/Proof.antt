@@ -1,6 +1,6 @@
 -- `season::figures::put_line` meets its contract. Assumes nothing.
 use Rattle.text.specs.Bytes.{bytes}
-use Rattle.lines.proofs.WordLaws.{line-word-then}
+use Rattle.lines.proofs.WordLaws.{line_word_then}
 use Rattle.season.specs.Sums.{tally_line}
 use Rattle.season.proofs.FigureLaws.{number_word}
 use borrow.Author.Rules.{rules}
@@ -18,4 +18,4 @@ put_line_spec =
     (λ c κs. search rules)
     (λ c κs. search rules)
     (λ c. search rules)
-    (λ c. search (rules, line-word-then, number_word)))
+    (λ c. search (rules, line_word_then, number_word)))

@@ -1,5 +1,5 @@
 -- `season::figures::put_lowest` meets its contract. Assumes nothing.
-use Rattle.season.proofs.FigureLaws.{lowest-word}
+use Rattle.season.proofs.FigureLaws.{lowest_word}
 use borrow.Author.Rules.{rules}
 use Rattle.season.proofs.figures.put_lowest.Statement.{statement}
 use Rattle.season.proofs.figures.put_lowest.Tie as tie
@@ -11,4 +11,4 @@ put_lowest_spec =
     (λ c κs. search rules)
     (λ c κs. search rules)
     (λ c. search rules)
-    (λ c. search (rules, lowest-word)))
+    (λ c. search (rules, lowest_word)))

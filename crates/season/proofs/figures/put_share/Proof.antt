@@ -1,5 +1,5 @@
 -- `season::figures::put_share` meets its contract. Assumes nothing.
-use Rattle.season.proofs.FigureLaws.{share-none, share-some}
+use Rattle.season.proofs.FigureLaws.{share_none, share_some}
 use borrow.Author.Rules.{rules}
 use Rattle.season.proofs.figures.put_share.Statement.{statement}
 use Rattle.season.proofs.figures.put_share.Tie as tie
@@ -11,6 +11,6 @@ put_share_spec =
     (λ c κs. search rules)
     (λ c κs. search rules)
     (λ c. search rules)
-    (λ c. search (rules, share-none, share-some))
+    (λ c. search (rules, share_none, share_some))
     (λ c. search rules)
-    (λ c. search (rules, share-none, share-some)))
+    (λ c. search (rules, share_none, share_some)))

@@ -1,6 +1,6 @@
 -- `season::figures::put_tally` meets its contract. Assumes nothing.
 use Rattle.season.specs.Sums.{tally_words}
-use Rattle.season.proofs.FigureLaws.{three-words}
+use Rattle.season.proofs.FigureLaws.{three_words}
 use borrow.Author.Rules.{rules}
 use Rattle.season.proofs.figures.put_tally.Statement.{statement}
 use Rattle.season.proofs.figures.put_tally.Tie as tie
@@ -14,4 +14,4 @@ put_tally_spec =
     (λ c κs. search rules)
     (λ c κs. search rules)
     (λ c. search rules)
-    (λ c. search (rules, three-words)))
+    (λ c. search (rules, three_words)))

@@ -1,6 +1,6 @@
 -- `season::figures::write_figures` meets its contract. Assumes nothing.
 use Rattle.run.proofs.FirstPicks.{first_count}
-use Rattle.season.proofs.FigureLaws.{figures_fit, figures-gave}
+use Rattle.season.proofs.FigureLaws.{figures_fit, figures_gave}
 use borrow.Author.Rules.{rules}
 use Rattle.season.proofs.figures.write_figures.Statement.{statement}
 use Rattle.season.proofs.figures.write_figures.Tie as tie
@@ -16,4 +16,4 @@ write_figures_spec =
     (λ c. search (rules, figures_fit, first_count))
     (λ c κs. search rules)
     (λ c. search rules)
-    (λ c. search (rules, figures-gave)))
+    (λ c. search (rules, figures_gave)))

@@ -2,7 +2,7 @@
 use Prim.Native.Nat.{◌≤◌, ◌-◌}
 use mathlib.Core.Path.{◌≡◌}
 use Rattle.step.specs.Sharing.{node_in, given_below}
-use Rattle.step.proofs.SharingLaws.{given_none, given-more, given_all}
+use Rattle.step.proofs.SharingLaws.{given_none, given_more, given_all}
 use borrow.Author.Rules.{rules}
 use Rattle.step.proofs.sharing.give_all.Statement.{statement}
 use Rattle.step.proofs.sharing.give_all.Tie as tie
@@ -29,5 +29,5 @@ give_all_spec =
     (λ c. search rules)
     (λ c. search rules)
     (λ c. search rules)
-    (λ c. search (rules, given-more))
+    (λ c. search (rules, given_more))
     (λ c. search (rules, given_all)))

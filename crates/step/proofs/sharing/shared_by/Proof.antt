@@ -1,6 +1,6 @@
 -- `step::sharing::shared_by` meets its contract. Assumes nothing.
 use Rattle.step.specs.Sharing.{node_in}
-use Rattle.step.proofs.SharingLaws.{shared-as}
+use Rattle.step.proofs.SharingLaws.{shared_as}
 use borrow.Author.Rules.{rules}
 use Rattle.step.proofs.sharing.shared_by.Statement.{statement}
 use Rattle.step.proofs.sharing.shared_by.Tie as tie
@@ -20,4 +20,4 @@ shared_by_spec =
     (λ c. search rules)
     (λ c κs. search rules)
     (λ c κs. search rules)
-    (λ c. search (rules, shared-as)))
+    (λ c. search (rules, shared_as)))

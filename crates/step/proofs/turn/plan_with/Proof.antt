@@ -1,5 +1,5 @@
 -- `step::turn::plan_with` meets its contract. Assumes nothing.
-use Rattle.step.proofs.TurnLaws.{drawn-as}
+use Rattle.step.proofs.TurnLaws.{drawn_as}
 use borrow.Author.Rules.{rules}
 use Rattle.step.proofs.turn.plan_with.Statement.{statement}
 use Rattle.step.proofs.turn.plan_with.Tie as tie
@@ -11,4 +11,4 @@ plan_with_spec =
     (λ c κs. search rules)
     (λ c κs. search rules)
     (λ c κs. search rules)
-    (λ c. search (rules, drawn-as)))
+    (λ c. search (rules, drawn_as)))

@@ -1,6 +1,6 @@
 -- `step::turn::seat_of` meets its contract. Assumes nothing.
 use Rattle.net.specs.Records.{process_at}
-use Rattle.step.proofs.TurnLaws.{seat-as}
+use Rattle.step.proofs.TurnLaws.{seat_as}
 use borrow.Author.Rules.{rules}
 use Rattle.step.proofs.turn.seat_of.Statement.{statement}
 use Rattle.step.proofs.turn.seat_of.Tie as tie
@@ -15,4 +15,4 @@ seat_of_spec =
     (λ c. search rules)
     (λ c κs. search rules)
     (λ c κs. search rules)
-    (λ c. search (rules, seat-as)))
+    (λ c. search (rules, seat_as)))

@@ -1,6 +1,6 @@
 -- `step::turn::seat_plan` meets its contract. Assumes nothing.
 use Rattle.net.proofs.Laws.{if_call, if_not_call}
-use Rattle.step.proofs.TurnLaws.{planned-by, refusing_as}
+use Rattle.step.proofs.TurnLaws.{planned_by, refusing_as}
 use Rattle.step.specs.Turn.{seat_plan}
 use borrow.Author.Rules.{rules}
 use Rattle.step.proofs.turn.seat_plan.Statement.{statement}
@@ -16,5 +16,5 @@ seat_plan_spec =
     (λ c κs. search rules)
     (λ c κs. search rules)
     (λ c κs. search rules)
-    (λ c. search (rules, if_call, planned-by))
+    (λ c. search (rules, if_call, planned_by))
     (λ c. search (rules, if_not_call, refusing_as)))

@@ -1,5 +1,5 @@
 -- `terms::loading::action_at` meets its contract. Assumes nothing.
-use Rattle.terms.proofs.LoadingLaws.{action-loaded}
+use Rattle.terms.proofs.LoadingLaws.{action_loaded}
 use borrow.Author.Rules.{rules}
 use Rattle.terms.proofs.loading.action_at.Statement.{statement}
 use Rattle.terms.proofs.loading.action_at.Tie as tie
@@ -12,4 +12,4 @@ action_at_spec =
     (λ c. search rules)
     (λ c κs. search rules)
     (λ c κs. search rules)
-    (λ c. search (rules, action-loaded)))
+    (λ c. search (rules, action_loaded)))

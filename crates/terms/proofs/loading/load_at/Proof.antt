@@ -1,5 +1,5 @@
 -- `terms::loading::load_at` meets its contract. Assumes nothing.
-use Rattle.terms.proofs.LoadingLaws.{instruction-loaded}
+use Rattle.terms.proofs.LoadingLaws.{instruction_loaded}
 use borrow.Author.Rules.{rules}
 use Rattle.terms.proofs.loading.load_at.Statement.{statement}
 use Rattle.terms.proofs.loading.load_at.Tie as tie
@@ -11,4 +11,4 @@ load_at_spec =
     (λ c. search rules)
     (λ c κs. search rules)
     (λ c κs. search rules)
-    (λ c. search (rules, instruction-loaded)))
+    (λ c. search (rules, instruction_loaded)))

@@ -1,5 +1,5 @@
 -- `terms::loading::with_template` meets its contract. Assumes nothing.
-use Rattle.terms.proofs.LoadingLaws.{template-loaded}
+use Rattle.terms.proofs.LoadingLaws.{template_loaded}
 use borrow.Author.Rules.{rules}
 use Rattle.terms.proofs.loading.with_template.Statement.{statement}
 use Rattle.terms.proofs.loading.with_template.Tie as tie
@@ -18,4 +18,4 @@ with_template_spec =
     (λ c κs. search rules)
     (λ c. search rules)
     (λ c κs. search rules)
-    (λ c. search (rules, template-loaded)))
+    (λ c. search (rules, template_loaded)))

@@ -4,7 +4,7 @@ use mathlib.Core.List.{[], ◌∷◌}
 use Rattle.net.specs.Records.{pattern_at}
 use Rattle.text.specs.Joined.{joined}
 use Rattle.text.specs.Writing.{Wrote}
-use Rattle.text.proofs.WritingLaws.{joined_end, joined-more, joined_none, wrote_length}
+use Rattle.text.proofs.WritingLaws.{joined_end, joined_more, joined_none, wrote_length}
 use Rattle.terms.specs.Table.{pattern_word}
 use borrow.Author.Rules.{rules}
 use Rattle.terms.proofs.table.put_patterns.Statement.{statement}
@@ -29,6 +29,6 @@ put_patterns_spec =
     (λ c κs. search rules)
     (λ c. search rules)
     (λ c. search rules)
-    (λ c. search (rules, joined-more))
+    (λ c. search (rules, joined_more))
     (λ c. search (rules, wrote_length))
     (λ c. search (rules, joined_end)))

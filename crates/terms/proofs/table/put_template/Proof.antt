@@ -1,5 +1,5 @@
 -- `terms::table::put_template` meets its contract. Assumes nothing.
-use Rattle.text.proofs.WritingLaws.{wrote-one-then, wrote_length}
+use Rattle.text.proofs.WritingLaws.{wrote_one_then, wrote_length}
 use Rattle.terms.specs.Table.{template_words}
 use borrow.Author.Rules.{rules}
 use Rattle.terms.proofs.table.put_template.Statement.{statement}
@@ -13,4 +13,4 @@ put_template_spec =
     (λ c κs. search rules)
     (λ c κs. search rules)
     (λ c. search (rules, wrote_length))
-    (λ c. search (rules, wrote-one-then)))
+    (λ c. search (rules, wrote_one_then)))

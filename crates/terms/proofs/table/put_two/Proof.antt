@@ -1,5 +1,5 @@
 -- `terms::table::put_two` meets its contract. Assumes nothing.
-use Rattle.text.proofs.WritingLaws.{wrote-one-then, wrote_length}
+use Rattle.text.proofs.WritingLaws.{wrote_one_then, wrote_length}
 use borrow.Author.Rules.{rules}
 use Rattle.terms.proofs.table.put_two.Statement.{statement}
 use Rattle.terms.proofs.table.put_two.Tie as tie
@@ -11,4 +11,4 @@ put_two_spec =
     (λ c κs. search rules)
     (λ c κs. search rules)
     (λ c. search (rules, wrote_length))
-    (λ c. search (rules, wrote-one-then)))
+    (λ c. search (rules, wrote_one_then)))

@@ -1,5 +1,5 @@
 -- `terms::table::store_plain` meets its contract. Assumes nothing.
-use Rattle.terms.proofs.TableLaws.{stored-plain}
+use Rattle.terms.proofs.TableLaws.{stored_plain}
 use borrow.Author.Rules.{rules}
 use Rattle.terms.proofs.table.store_plain.Statement.{statement}
 use Rattle.terms.proofs.table.store_plain.Tie as tie
@@ -11,4 +11,4 @@ store_plain_spec =
     (λ c κs. search rules)
     (λ c κs. search rules)
     (λ c. search rules)
-    (λ c. search (rules, stored-plain)))
+    (λ c. search (rules, stored_plain)))

@@ -2,7 +2,7 @@
 use native.Mathlib.Omega.{arith}
 use borrow.Author.Rules.{rules}
 use Rattle.text.proofs.WritingLaws.{wrote_length}
-use Rattle.text.proofs.DecimalLaws.{wrote_digit, wrote-digits}
+use Rattle.text.proofs.DecimalLaws.{wrote_digit, wrote_digits}
 use Prim.Native.Nat.{ℕ, ◌<◌}
 use borrow.Fn.Kinds.{In}
 use borrow.Fn.PlainCycle.{Measures, is, falls, and}
@@ -68,7 +68,7 @@ put_decimal_returns : (t : ℕ) → put-decimal-lts.Need-returns (
   put_decimal_below t,
   put-decimal.Post,
 ) (put_decimal_at t) put-decimal.Post
-put_decimal_returns t c = search (rules, wrote_digit, wrote-digits)
+put_decimal_returns t c = search (rules, wrote_digit, wrote_digits)
 
 -- src/decimal.rt
 put_decimal_same_length_2 : (t : ℕ) → put-decimal-lts.Need-same-length-2 (
@@ -86,7 +86,7 @@ put_decimal_returns_2 : (t : ℕ) → put-decimal-lts.Need-returns-2 (
   put_decimal_below t,
   put-decimal.Post,
 ) (put_decimal_at t) put-decimal.Post
-put_decimal_returns_2 t c = search (rules, wrote_digit, wrote-digits)
+put_decimal_returns_2 t c = search (rules, wrote_digit, wrote_digits)
 
 pub +put-decimal-spec : {M : Type 1} → statement M
 +put-decimal-spec = close μ-put-decimal λ t. put-decimal-lts.spec (

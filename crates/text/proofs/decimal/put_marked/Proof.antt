@@ -1,5 +1,5 @@
 -- `text::decimal::put_marked` meets its contract. Assumes nothing.
-use Rattle.text.proofs.WritingLaws.{wrote_length, wrote-one-then}
+use Rattle.text.proofs.WritingLaws.{wrote_length, wrote_one_then}
 use borrow.Author.Rules.{rules}
 use Rattle.text.proofs.decimal.put_marked.Statement.{statement}
 use Rattle.text.proofs.decimal.put_marked.Tie as tie
@@ -11,4 +11,4 @@ put_marked_spec =
     (λ c κs. search rules)
     (λ c κs. search rules)
     (λ c. search (rules, wrote_length))
-    (λ c. search (rules, wrote-one-then)))
+    (λ c. search (rules, wrote_one_then)))

@@ -1,5 +1,5 @@
 -- `text::signed::complement` meets its contract. Assumes nothing.
-use Rattle.text.proofs.SignedLaws.{above_fits, above_within, cast-above, cast_up, complement-below, complement_up}
+use Rattle.text.proofs.SignedLaws.{above_fits, above_within, cast_above, cast_up, complement_below, complement_up}
 use Rattle.text.proofs.signed.complement.Statement.{statement}
 use Rattle.text.proofs.signed.complement.Tie as tie
 
@@ -9,7 +9,7 @@ complement_spec =
     (tie.spec
     (λ c. cast_up _ c.before.ranges.x c.if1.true)
     (λ c. above_fits _ c.before.ranges.x c.if1.false)
-    (λ c. cast-above _ c.before.ranges.x c.if1.false)
+    (λ c. cast_above _ c.before.ranges.x c.if1.false)
     (λ c. above_within _ c.before.ranges.x c.if1.false)
     (λ c. complement_up _ c.before.ranges.x c.if1.true)
-    (λ c. complement-below _ c.before.ranges.x c.if1.false))
+    (λ c. complement_below _ c.before.ranges.x c.if1.false))

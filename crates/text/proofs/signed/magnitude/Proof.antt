@@ -1,5 +1,5 @@
 -- `text::signed::magnitude` meets its contract. Assumes nothing.
-use Rattle.text.proofs.SignedLaws.{cast_up, above_fits, cast-above, above_more, magnitude_below}
+use Rattle.text.proofs.SignedLaws.{cast_up, above_fits, cast_above, above_more, magnitude_below}
 use borrow.Author.Rules.{rules}
 use Rattle.text.proofs.signed.magnitude.Statement.{statement}
 use Rattle.text.proofs.signed.magnitude.Tie as tie
@@ -10,7 +10,7 @@ magnitude_spec =
     (tie.spec
     (λ c. cast_up _ c.before.ranges.x c.if1.true)
     (λ c. above_fits _ c.before.ranges.x c.if1.false)
-    (λ c. cast-above _ c.before.ranges.x c.if1.false)
+    (λ c. cast_above _ c.before.ranges.x c.if1.false)
     (λ c. above_more _ c.before.ranges.x c.if1.false)
     (λ c. search rules)
     (λ c. magnitude_below _ c.before.ranges.x c.if1.false))

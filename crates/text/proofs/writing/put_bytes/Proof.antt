@@ -2,7 +2,7 @@
 use Prim.Native.Nat.{◌-◌, ◌≤◌}
 use lib.ListN.{length, take}
 use Rattle.text.specs.Writing.{Wrote}
-use Rattle.text.proofs.WritingLaws.{wrote_nothing, wrote_length, wrote-more, wrote-all}
+use Rattle.text.proofs.WritingLaws.{wrote_nothing, wrote_length, wrote_more, wrote_all}
 use borrow.Author.Rules.{rules}
 use Rattle.text.proofs.writing.put_bytes.Statement.{statement}
 use Rattle.text.proofs.writing.put_bytes.Tie as tie
@@ -24,6 +24,6 @@ put_bytes_spec =
     (λ c κs. search rules)
     (λ c. search rules)
     (λ c. search rules)
-    (λ c. search (rules, wrote-more))
+    (λ c. search (rules, wrote_more))
     (λ c. search (rules, wrote_length))
-    (λ c. search (rules, wrote-all)))
+    (λ c. search (rules, wrote_all)))

@@ -3,7 +3,7 @@ use Rattle.read_back.specs.NetSource.{body_of}
 use Rattle.sources.specs.Printed.{line_text, newline}
 use Rattle.text.proofs.WritingLaws.{wrote_then}
 use Rattle.text.specs.Bytes.{bytes}
-use Rattle.text_writer.proofs.PartLaws.{line-alone, marked_then}
+use Rattle.text_writer.proofs.PartLaws.{line_alone, marked_then}
 use borrow.Author.Rules.{rules}
 use Rattle.text_writer.proofs.code.put_definition.Statement.{statement}
 use Rattle.text_writer.proofs.code.put_definition.Tie as tie
@@ -19,4 +19,4 @@ put_definition_spec =
     (λ c κs. search rules)
     (λ c κs. search rules)
     (λ c. search rules)
-    (λ c. search (rules, line-alone, marked_then, wrote_then) depth 8))
+    (λ c. search (rules, line_alone, marked_then, wrote_then) depth 8))

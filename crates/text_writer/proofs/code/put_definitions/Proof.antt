@@ -3,7 +3,7 @@ use Prim.Native.Nat.{◌-◌, ◌≤◌}
 use mathlib.Core.List.{[], ◌∷◌}
 use Rattle.net.specs.Records.{instruction_at, place_of}
 use Rattle.layout.proofs.CountLaws.{few_code}
-use Rattle.lines.proofs.WordLaws.{parts_none, parts_more, parts-end}
+use Rattle.lines.proofs.WordLaws.{parts_none, parts_more, parts_end}
 use Rattle.read_back.specs.NetSource.{listed, definition_at, definitions_of}
 use Rattle.sources.specs.Printed.{lines_text}
 use Rattle.text.proofs.WritingLaws.{wrote_length}
@@ -35,4 +35,4 @@ put_definitions_spec =
     (λ c. search rules)
     (λ c. search (rules, parts_more lines_text lines_none lines_both))
     (λ c. search (rules, wrote_length))
-    (λ c. search (rules, parts-end lines_text lines_none lines_both)))
+    (λ c. search (rules, parts_end lines_text lines_none lines_both)))

@@ -1,6 +1,6 @@
 -- `text_writer::code::put_eval` meets its contract. Assumes nothing.
 use Rattle.text.specs.Bytes.{bytes}
-use Rattle.text_writer.proofs.PartLaws.{eval-parts}
+use Rattle.text_writer.proofs.PartLaws.{eval_parts}
 use borrow.Author.Rules.{rules}
 use Rattle.text_writer.proofs.code.put_eval.Statement.{statement}
 use Rattle.text_writer.proofs.code.put_eval.Tie as tie
@@ -16,4 +16,4 @@ put_eval_spec =
     (λ c. search rules)
     (λ c κs. search rules)
     (λ c. search rules)
-    (λ c. search (rules, eval-parts)))
+    (λ c. search (rules, eval_parts)))

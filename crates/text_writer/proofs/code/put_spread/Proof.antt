@@ -1,6 +1,6 @@
 -- `text_writer::code::put_spread` meets its contract. Assumes nothing.
 use Rattle.text.specs.Bytes.{bytes}
-use Rattle.text_writer.proofs.PartLaws.{spread-parts}
+use Rattle.text_writer.proofs.PartLaws.{spread_parts}
 use borrow.Author.Rules.{rules}
 use Rattle.text_writer.proofs.code.put_spread.Statement.{statement}
 use Rattle.text_writer.proofs.code.put_spread.Tie as tie
@@ -17,4 +17,4 @@ put_spread_spec =
     (λ c. search rules)
     (λ c κs. search rules)
     (λ c. search rules)
-    (λ c. search (rules, spread-parts)))
+    (λ c. search (rules, spread_parts)))

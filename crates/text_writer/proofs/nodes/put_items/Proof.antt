@@ -8,7 +8,7 @@ use Rattle.text.proofs.WritingLaws.{wrote_length}
 use Rattle.text.specs.Bytes.{bytes}
 use Rattle.text.specs.Writing.{Wrote}
 use Rattle.text_writer.proofs.Lengths.{fields_long}
-use Rattle.text_writer.proofs.ListLaws.{separated_none, separated_more, separated-end}
+use Rattle.text_writer.proofs.ListLaws.{separated_none, separated_more, separated_end}
 use borrow.Author.Rules.{rules}
 use Rattle.text_writer.proofs.nodes.put_items.Statement.{statement}
 use Rattle.text_writer.proofs.nodes.put_items.Tie as tie
@@ -34,4 +34,4 @@ put_items_spec =
     (λ c. search rules)
     (λ c. (search (rules, separated_more), search rules))
     (λ c. search (rules, wrote_length))
-    (λ c. search (rules, separated-end)))
+    (λ c. search (rules, separated_end)))

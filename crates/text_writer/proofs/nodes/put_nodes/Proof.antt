@@ -2,7 +2,7 @@
 use Prim.Native.Nat.{◌-◌, ◌≤◌}
 use Rattle.net.specs.Records.{node_at, address_of}
 use Rattle.layout.proofs.CountLaws.{few_node}
-use Rattle.lines.proofs.WordLaws.{parts_none, parts_more, parts_then, parts-end}
+use Rattle.lines.proofs.WordLaws.{parts_none, parts_more, parts_then, parts_end}
 use Rattle.read_back.specs.NetSource.{lines_at}
 use Rattle.sources.specs.Printed.{lines_text}
 use Rattle.text.proofs.WritingLaws.{wrote_length}
@@ -36,4 +36,4 @@ put_nodes_spec =
     (λ c. search rules)
     (λ c. (search (rules, parts_more lines_text lines_none lines_both, parts_then lines_text lines_none lines_both), search rules))
     (λ c. search (rules, wrote_length))
-    (λ c. search (rules, parts-end lines_text lines_none lines_both)))
+    (λ c. search (rules, parts_end lines_text lines_none lines_both)))

@@ -3,7 +3,7 @@ use Prim.Native.Nat.{◌-◌, ◌≤◌}
 use mathlib.Core.List.{[], ◌∷◌}
 use Rattle.net.specs.Choice.{choose}
 use Rattle.net.specs.Records.{process_at}
-use Rattle.lines.proofs.WordLaws.{parts_none, parts_more, parts-end}
+use Rattle.lines.proofs.WordLaws.{parts_none, parts_more, parts_end}
 use Rattle.linking.specs.Source.{process}
 use Rattle.read_back.specs.NetSource.{named, process_lines}
 use Rattle.sources.specs.Printed.{lines_text}
@@ -36,4 +36,4 @@ put_processes_spec =
     (λ c. search rules)
     (λ c. search (rules, parts_more lines_text lines_none lines_both))
     (λ c. search (rules, wrote_length))
-    (λ c. search (rules, parts-end lines_text lines_none lines_both)))
+    (λ c. search (rules, parts_end lines_text lines_none lines_both)))

@@ -1,6 +1,6 @@
 -- `text_writer::nodes::put_tuple` meets its contract. Assumes nothing.
 use Rattle.sources.specs.Printed.{tuple_text}
-use Rattle.text.proofs.WritingLaws.{wrote_then, wrote-one-then}
+use Rattle.text.proofs.WritingLaws.{wrote_then, wrote_one_then}
 use Rattle.text.specs.Bytes.{bytes}
 use borrow.Author.Rules.{rules}
 use Rattle.text_writer.proofs.nodes.put_tuple.Statement.{statement}
@@ -15,4 +15,4 @@ put_tuple_spec =
     (λ c κs. search rules)
     (λ c κs. search rules)
     (λ c. search rules)
-    (λ c. search (rules, wrote-one-then, wrote_then)))
+    (λ c. search (rules, wrote_one_then, wrote_then)))

@@ -2,7 +2,7 @@
 use Rattle.sources.specs.Printed.{address_text, line_text, newline}
 use Rattle.text.proofs.WritingLaws.{wrote_then}
 use Rattle.text.specs.Bytes.{bytes}
-use Rattle.text_writer.proofs.PartLaws.{line-alone}
+use Rattle.text_writer.proofs.PartLaws.{line_alone}
 use borrow.Author.Rules.{rules}
 use Rattle.text_writer.proofs.nodes.put_tuple_line.Statement.{statement}
 use Rattle.text_writer.proofs.nodes.put_tuple_line.Tie as tie
@@ -19,4 +19,4 @@ put_tuple_line_spec =
     (λ c κs. search rules)
     (λ c κs. search rules)
     (λ c. search rules)
-    (λ c. search (rules, line-alone, wrote_then) depth 8))
+    (λ c. search (rules, line_alone, wrote_then) depth 8))

@@ -3,7 +3,7 @@ use Prim.Native.Nat.{◌-◌, ◌≤◌}
 use mathlib.Core.List.{[], ◌∷◌}
 use Rattle.net.specs.Records.{tuple_at, marked, zero_tuple}
 use Rattle.layout.proofs.CountLaws.{few_fields}
-use Rattle.lines.proofs.WordLaws.{parts_none, parts_more, parts-end}
+use Rattle.lines.proofs.WordLaws.{parts_none, parts_more, parts_end}
 use Rattle.linking.specs.Source.{tuple}
 use Rattle.read_back.specs.NetSource.{listed, tuple_lines}
 use Rattle.sources.specs.Printed.{lines_text}
@@ -36,4 +36,4 @@ put_tuples_spec =
     (λ c. search rules)
     (λ c. search (rules, parts_more lines_text lines_none lines_both, unmarked))
     (λ c. search (rules, wrote_length))
-    (λ c. search (rules, parts-end lines_text lines_none lines_both)))
+    (λ c. search (rules, parts_end lines_text lines_none lines_both)))

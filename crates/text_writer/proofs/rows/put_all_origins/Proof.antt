@@ -3,10 +3,10 @@ use Prim.Native.Nat.{◌-◌, ◌≤◌}
 use Rattle.net.specs.Records.{node_at, address_of}
 use Rattle.read_back.specs.NetSource.{origin_rows_of}
 use Rattle.sources.specs.Printed.{node_text}
-use Rattle.text.proofs.WritingLaws.{joined_none, joined-more, wrote_length}
+use Rattle.text.proofs.WritingLaws.{joined_none, joined_more, wrote_length}
 use Rattle.text.specs.Joined.{joined}
 use Rattle.text.specs.Writing.{Wrote}
-use Rattle.text_writer.proofs.ListLaws.{numbered-end}
+use Rattle.text_writer.proofs.ListLaws.{numbered_end}
 use Rattle.text_writer.proofs.PartLaws.{nodes_numbered}
 use borrow.Author.Rules.{rules}
 use Rattle.text_writer.proofs.rows.put_all_origins.Statement.{statement}
@@ -31,6 +31,6 @@ put_all_origins_spec =
     (λ c κs. search rules)
     (λ c. search rules)
     (λ c. search rules)
-    (λ c. search (rules, joined-more))
+    (λ c. search (rules, joined_more))
     (λ c. search (rules, wrote_length))
-    (λ c. search (rules, numbered-end nodes_numbered)))
+    (λ c. search (rules, numbered_end nodes_numbered)))

@@ -1,7 +1,7 @@
 -- `text_writer::rows::put_grant` meets its contract. Assumes nothing.
-use Rattle.text.proofs.WritingLaws.{wrote_then, wrote-one-then}
+use Rattle.text.proofs.WritingLaws.{wrote_then, wrote_one_then}
 use Rattle.text.specs.Bytes.{bytes}
-use Rattle.text_writer.proofs.PartLaws.{grant_left, grant-shown}
+use Rattle.text_writer.proofs.PartLaws.{grant_left, grant_shown}
 use borrow.Author.Rules.{rules}
 use Rattle.text_writer.proofs.rows.put_grant.Statement.{statement}
 use Rattle.text_writer.proofs.rows.put_grant.Tie as tie
@@ -18,4 +18,4 @@ put_grant_spec =
     (λ c κs. search rules)
     (λ c. search (rules, grant_left))
     (λ c. search rules)
-    (λ c. search (rules, grant-shown, wrote_then, wrote-one-then) depth 8))
+    (λ c. search (rules, grant_shown, wrote_then, wrote_one_then) depth 8))

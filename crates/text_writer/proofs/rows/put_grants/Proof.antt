@@ -2,11 +2,11 @@
 use Prim.Native.Nat.{◌-◌, ◌≤◌}
 use Rattle.net.specs.Records.{no_rights, rights_at, address_of}
 use Rattle.sources.specs.Printed.{grant_text}
-use Rattle.text.proofs.WritingLaws.{joined_none, joined-more, wrote_length}
+use Rattle.text.proofs.WritingLaws.{joined_none, joined_more, wrote_length}
 use Rattle.text.specs.Joined.{joined}
 use Rattle.text.specs.Writing.{Wrote}
 use Rattle.text_writer.proofs.Lengths.{rights_long}
-use Rattle.text_writer.proofs.ListLaws.{numbered-all}
+use Rattle.text_writer.proofs.ListLaws.{numbered_all}
 use Rattle.text_writer.proofs.PartLaws.{grants_numbered}
 use borrow.Author.Rules.{rules}
 use Rattle.text_writer.proofs.rows.put_grants.Statement.{statement}
@@ -31,6 +31,6 @@ put_grants_spec =
     (λ c κs. search rules)
     (λ c. search rules)
     (λ c. search rules)
-    (λ c. search (rules, joined-more))
+    (λ c. search (rules, joined_more))
     (λ c. search (rules, wrote_length))
-    (λ c. search (rules, numbered-all grants_numbered no_rights, rights_long)))
+    (λ c. search (rules, numbered_all grants_numbered no_rights, rights_long)))

@@ -3,10 +3,10 @@ use Prim.Native.Nat.{◌-◌, ◌≤◌}
 use Rattle.net.specs.Records.{row_at, address_of}
 use Rattle.read_back.specs.NetSource.{origin_rows_of}
 use Rattle.sources.specs.Printed.{origin_row_text}
-use Rattle.text.proofs.WritingLaws.{joined_none, joined-more, wrote_length}
+use Rattle.text.proofs.WritingLaws.{joined_none, joined_more, wrote_length}
 use Rattle.text.specs.Joined.{joined}
 use Rattle.text.specs.Writing.{Wrote}
-use Rattle.text_writer.proofs.PartLaws.{origins-end}
+use Rattle.text_writer.proofs.PartLaws.{origins_end}
 use borrow.Author.Rules.{rules}
 use Rattle.text_writer.proofs.rows.put_origins.Statement.{statement}
 use Rattle.text_writer.proofs.rows.put_origins.Tie as tie
@@ -30,6 +30,6 @@ put_origins_spec =
     (λ c κs. search rules)
     (λ c. search rules)
     (λ c. search rules)
-    (λ c. search (rules, joined-more))
+    (λ c. search (rules, joined_more))
     (λ c. search (rules, wrote_length))
-    (λ c. search (rules, origins-end)))
+    (λ c. search (rules, origins_end)))

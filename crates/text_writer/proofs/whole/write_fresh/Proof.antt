@@ -1,6 +1,6 @@
 -- `text_writer::whole::write_fresh` meets its contract. Assumes nothing.
 use Rattle.writer.proofs.PackLaws.{fresh_counts}
-use Rattle.text_writer.proofs.TextLaws.{text_fit, text_count, text-packed, text_placed}
+use Rattle.text_writer.proofs.TextLaws.{text_fit, text_count, text_packed, text_placed}
 use borrow.Author.Rules.{rules}
 use Rattle.text_writer.proofs.whole.write_fresh.Statement.{statement}
 use Rattle.text_writer.proofs.whole.write_fresh.Tie as tie
@@ -16,4 +16,4 @@ write_fresh_spec =
     (λ c. search (rules, text_count))
     (λ c κs. search rules)
     (λ c. search rules)
-    (λ c. (search (rules, text-packed), search (rules, text_placed))))
+    (λ c. (search (rules, text_packed), search (rules, text_placed))))

@@ -1,7 +1,7 @@
 -- `writer::bytes::byte_at` meets its contract. Assumes nothing.
 use Prim.Native.Nat.{◌-◌, ◌<◌, ◌≤◌}
 use mathlib.Core.Path.{◌≡◌}
-use Rattle.writer.proofs.ByteLaws.{number_done, number_next, number_start, number-within}
+use Rattle.writer.proofs.ByteLaws.{number_done, number_next, number_start, number_within}
 use Rattle.written.specs.ImageOf.{number_in}
 use borrow.Author.Rules.{rules}
 use Rattle.writer.proofs.bytes.byte_at.Statement.{statement}
@@ -26,6 +26,6 @@ byte_at_spec =
     (λ c. search rules)
     (λ c. search rules)
     (λ c. search rules)
-    (λ c. search (rules, number_next, number-within))
+    (λ c. search (rules, number_next, number_within))
     (λ c. search rules)
     (λ c. search (rules, number_done)))

@@ -2,7 +2,7 @@
 use Prim.Native.Nat.{◌-◌, ◌≤◌}
 use lib.ListN.{length}
 use mathlib.Core.Path.{◌≡◌}
-use Rattle.writer.proofs.ByteLaws.{bytes-done, bytes_next, bytes_start}
+use Rattle.writer.proofs.ByteLaws.{bytes_done, bytes_next, bytes_start}
 use Rattle.text.specs.Buffer.{over}
 use Rattle.writer.specs.Packing.{bytes_in}
 use borrow.Author.Rules.{rules}
@@ -29,4 +29,4 @@ put_bytes_spec =
     (λ c. search rules)
     (λ c. search (rules, bytes_next))
     (λ c. search rules)
-    (λ c. search (rules, bytes-done)))
+    (λ c. search (rules, bytes_done)))

@@ -1,5 +1,5 @@
 -- `writer::pack::write_fresh` meets its contract. Assumes nothing.
-use Rattle.writer.proofs.PackLaws.{fresh_counts, fresh_end, fresh-packed, fresh-placed}
+use Rattle.writer.proofs.PackLaws.{fresh_counts, fresh_end, fresh_packed, fresh_placed}
 use borrow.Author.Rules.{rules}
 use Rattle.writer.proofs.pack.write_fresh.Statement.{statement}
 use Rattle.writer.proofs.pack.write_fresh.Tie as tie
@@ -13,4 +13,4 @@ write_fresh_spec =
     (λ c. search rules)
     (λ c κs. search (rules, fresh_end))
     (λ c. search rules)
-    (λ c. (search (rules, fresh-packed), search (rules, fresh-placed))))
+    (λ c. (search (rules, fresh_packed), search (rules, fresh_placed))))

@@ -1,5 +1,5 @@
 -- `net::node::Node::free_slot` meets its contract. Assumes nothing.
-use Rattle.net.proofs.FirstLaws.{Left, first_start, first-again, first_here, first-none}
+use Rattle.net.proofs.FirstLaws.{Left, first_start, first_again, first_here, first_none}
 use Rattle.net.specs.Records.{process_at, free_slot, Slot}
 use Prim.Native.Nat.{◌-◌}
 use mathlib.Core.Bool.{not}
@@ -26,5 +26,5 @@ free_slot_spec =
     (λ c. search (rules, first_here))
     (λ c. search rules)
     (λ c. search rules)
-    (λ c. search (rules, first-again))
-    (λ c. search (rules, first-none)))
+    (λ c. search (rules, first_again))
+    (λ c. search (rules, first_none)))

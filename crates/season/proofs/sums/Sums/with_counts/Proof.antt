@@ -3,7 +3,7 @@ use Prim.Native.Nat.{◌-◌}
 use Rattle.net.specs.Records.{node_at}
 use Rattle.season.specs.Season.{left_in}
 use Rattle.season.specs.Sums.{no_tally, tally_at}
-use Rattle.season.proofs.CountLaws.{Tallying, tallying_begin, tallying-turn, tallying-end}
+use Rattle.season.proofs.CountLaws.{Tallying, tallying_begin, tallying_turn, tallying_end}
 use borrow.Author.Rules.{rules}
 use Rattle.season.proofs.sums.Sums.with_counts.Statement.{statement}
 use Rattle.season.proofs.sums.Sums.with_counts.Tie as tie
@@ -37,5 +37,5 @@ with_counts_spec =
     (λ c. search rules)
     (λ c. search rules)
     (λ c. search rules)
-    (λ c. search (rules, tallying-turn))
-    (λ c. search (rules, tallying-end)))
+    (λ c. search (rules, tallying_turn))
+    (λ c. search (rules, tallying_end)))

@@ -1,5 +1,5 @@
 -- `season::sums::Sums::with_run` meets its contract. Assumes nothing.
-use Rattle.season.proofs.AddLaws.{added_by, added-as}
+use Rattle.season.proofs.AddLaws.{added_by, added_as}
 use borrow.Author.Rules.{rules}
 use Rattle.season.proofs.sums.Sums.with_run.Statement.{statement}
 use Rattle.season.proofs.sums.Sums.with_run.Tie as tie
@@ -17,7 +17,7 @@ with_run_spec =
     (λ c. search rules)
     (λ c. search rules)
     (λ c. search rules)
-    (λ c. search (rules, added-as))
-    (λ c. search (rules, added-as))
-    (λ c. search (rules, added-as))
-    (λ c. search (rules, added-as)))
+    (λ c. search (rules, added_as))
+    (λ c. search (rules, added_as))
+    (λ c. search (rules, added_as))
+    (λ c. search (rules, added_as)))

@@ -1,5 +1,5 @@
 -- `step::machine::Machine::share` meets its contract. Assumes nothing.
-use Rattle.step.proofs.SharingLaws.{shared-net}
+use Rattle.step.proofs.SharingLaws.{shared_net}
 use borrow.Author.Rules.{rules}
 use Rattle.step.proofs.machine.Machine.share.Statement.{statement}
 use Rattle.step.proofs.machine.Machine.share.Tie as tie
@@ -9,4 +9,4 @@ share_spec =
     tie.close
     (tie.spec
     (λ c κs. search rules)
-    (λ c. search (rules, shared-net)))
+    (λ c. search (rules, shared_net)))
