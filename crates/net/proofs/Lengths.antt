@@ -3,7 +3,7 @@
 -- Assumes nothing.
 use Prim.Native.Nat.{ℕ, zero, suc, ◌<◌}
 use mathlib.Core.Path.{◌≡◌}
-use mathlib.Core.List.{List, [], ◌∷◌, map}
+use mathlib.Core.List.{List, [], ◌∷◌}
 use native.Mathlib.Nat.{not-suc-le-zero, le_of_suc-le-suc}
 use native.Mathlib.Omega.{arith}
 use lib.ListN.{length, get_or}
@@ -11,79 +11,75 @@ use mir.Val.{Val}
 use denote.Array.{Array, each}
 use denote.Laws.{Is}
 use denote.Shadow.{shadow}
-use denote.Struct.Declared.{Declared, field}
-use Rattle.net.proofs.Laws.{length_mapped}
+use denote.RattleType.{RattleType}
 use Rattle.net.specs.contracts.instruction.Instruction as instruction
-use Rattle.net.specs.contracts.instruction.TemplateField as templateField
+use Rattle.net.specs.contracts.instruction.TemplateField as template_field
 use Rattle.net.specs.contracts.network.Net as net
 use Rattle.net.specs.contracts.node.Node as node
 use Rattle.net.specs.contracts.policy.Rights as rights
 use Rattle.net.specs.contracts.policy.Row as row
 use Rattle.net.specs.contracts.process.Process as process
-use Rattle.net.specs.contracts.tuple.Field as tupleField
+use Rattle.net.specs.contracts.tuple.Field as tuple_field
 use Rattle.net.specs.contracts.tuple.Tuple as tuple
 use Rattle.net.specs.contracts.tuple.Variable as variable
 use Rattle.net.specs.Records.{Tuple, Row, Process, Node, Instruction, Net, row_at, process_at, tuple_at, node_at, instruction_at}
 use Rattle.net.specs.Shape.{ShapedTuple, ShapedRow, ShapedProcess, ShapedNode, ShapedInstruction, Shaped}
 
 -- ---- an array of a declared type
-module _ (T : Declared) where
-  pub long : (xs : List T.D) (n : ℕ) (vs : List Val) → Is (Array (field T).row n) (map T.to xs) vs → length xs ≡ n
-  long xs n vs h = length_mapped T.to xs n h.1.0.1
+module _ (R : RattleType) where
+  pub long : (xs : List R.Denot) (n : ℕ) (vs : List Val) → Is (Array R n) xs vs → length xs ≡ n
+  long xs n vs h = h.1.0.1
 
-  module _ (P : T.D → Type 0) (known : (x : T.D) (vs : List Val) → Is (field T).row (T.to x) vs → P x) where
+  module _ (P : R.Denot → Type 0) (known : (x : R.Denot) (vs : List Val) → Is R x vs → P x) where
     at :
-        (xs : List T.D) (us : List Val) → shadow (each (field T).row.Denot (field T).row.own_val (map T.to xs) us)
-        → (d : T.D) (i : ℕ) → i < length xs → P (get_or xs i d)
+        (xs : List R.Denot) (us : List Val) → shadow (each R.Denot R.own_val xs us)
+        → (d : R.Denot) (i : ℕ) → i < length xs → P (get_or xs i d)
     at [] us h d i l = absurd (not-suc-le-zero l)
     at (x ∷ xs) [] h d i l = absurd h
     at (x ∷ xs) (u ∷ us) h d zero l = known x _ h.0
     at (x ∷ xs) (u ∷ us) h d (suc i) l = at xs us h.1 d i (le_of_suc-le-suc l)
 
     pub element :
-        (xs : List T.D) (n : ℕ) (vs : List Val) → Is (Array (field T).row n) (map T.to xs) vs
-        → (d : T.D) (i : ℕ) → i < n → P (get_or xs i d)
+        (xs : List R.Denot) (n : ℕ) (vs : List Val) → Is (Array R n) xs vs
+        → (d : R.Denot) (i : ℕ) → i < n → P (get_or xs i d)
     element xs n vs h d i l = at xs h.0 h.1.1 d i (omega (arith, long xs n vs h))
 
 -- ---- type by type
-tuple_shaped : (t : Tuple) (vs : List Val) → Is (field tuple.the_type).row ((tuple.the_type).to t) vs → ShapedTuple t
-tuple_shaped t vs h = record { fields_are = long tupleField.the_type t.fields 4 _ h.1.1.1.0 }
+tuple_shaped : (t : Tuple) (vs : List Val) → Is tuple.the_row t vs → ShapedTuple t
+tuple_shaped t vs h = record { fields_are = long tuple_field.the_row t.fields 4 _ h.1.1.1.0 }
 
-process_shaped :
-    (p : Process) (vs : List Val) → Is (field process.the_type).row ((process.the_type).to p) vs → ShapedProcess p
-process_shaped p vs h = record { variables_are = long variable.the_type p.variables 8 _ h.1.1.1.1.1.0 }
+process_shaped : (p : Process) (vs : List Val) → Is process.the_row p vs → ShapedProcess p
+process_shaped p vs h = record { variables_are = long variable.the_row p.variables 8 _ h.1.1.1.1.1.0 }
 
-instruction_shaped :
-    (c : Instruction) (vs : List Val) → Is (field instruction.the_type).row ((instruction.the_type).to c) vs
-    → ShapedInstruction c
-instruction_shaped c vs h = record { template_is = long templateField.the_type c.template 4 _ h.1.1.1.1.0 }
+instruction_shaped : (c : Instruction) (vs : List Val) → Is instruction.the_row c vs → ShapedInstruction c
+instruction_shaped c vs h = record { template_is = long template_field.the_row c.template 4 _ h.1.1.1.1.0 }
 
-row_shaped : (r : Row) (vs : List Val) → Is (field row.the_type).row ((row.the_type).to r) vs → ShapedRow r
-row_shaped r vs h = record { rights_are = long rights.the_type r.rights 16 _ h.1.1.1.0 }
+row_shaped : (r : Row) (vs : List Val) → Is row.the_row r vs → ShapedRow r
+row_shaped r vs h = record { rights_are = long rights.the_row r.rights 16 _ h.1.1.1.0 }
 
-node_shaped : (x : Node) (vs : List Val) → Is (field node.the_type).row ((node.the_type).to x) vs → ShapedNode x
+node_shaped : (x : Node) (vs : List Val) → Is node.the_row x vs → ShapedNode x
 unfolding row_at process_at tuple_at
 node_shaped x vs h =
     let rows-known = h.1.1.0 in
     let processes-known = h.1.1.1.0 in
     let tuples-known = h.1.1.1.1.1.0 in
     record {
-      rows_are = long row.the_type x.rows 16 _ rows-known;
-      processes_are = long process.the_type x.processes 4 _ processes-known;
-      tuples_are = long tuple.the_type x.tuples 16 _ tuples-known;
-      each_row = λ o. element row.the_type ShapedRow row_shaped x.rows 16 _ rows-known _ o.0;
-      each_process = element process.the_type ShapedProcess process_shaped x.processes 4 _ processes-known _;
-      each_tuple = element tuple.the_type ShapedTuple tuple_shaped x.tuples 16 _ tuples-known _;
+      rows_are = long row.the_row x.rows 16 _ rows-known;
+      processes_are = long process.the_row x.processes 4 _ processes-known;
+      tuples_are = long tuple.the_row x.tuples 16 _ tuples-known;
+      each_row = λ o. element row.the_row ShapedRow row_shaped x.rows 16 _ rows-known _ o.0;
+      each_process = element process.the_row ShapedProcess process_shaped x.processes 4 _ processes-known _;
+      each_tuple = element tuple.the_row ShapedTuple tuple_shaped x.tuples 16 _ tuples-known _;
     }
 
-pub net_shaped : (s : Net) (vs : List Val) → Is (field net.the_type).row ((net.the_type).to s) vs → Shaped s
+pub net_shaped : (s : Net) (vs : List Val) → Is net.the_row s vs → Shaped s
 unfolding node_at instruction_at
 net_shaped s vs h =
     let nodes-known = h.1.1.1.1.1.0 in
     let code-known = h.1.1.1.1.1.1.0 in
     record {
-      nodes_are = long node.the_type s.nodes 16 _ nodes-known;
-      code_is = long instruction.the_type s.code 512 _ code-known;
-      each_node = λ a. element node.the_type ShapedNode node_shaped s.nodes 16 _ nodes-known _ a.0;
-      each_instruction = λ p. element instruction.the_type ShapedInstruction instruction_shaped s.code 512 _ code-known _ p.0;
+      nodes_are = long node.the_row s.nodes 16 _ nodes-known;
+      code_is = long instruction.the_row s.code 512 _ code-known;
+      each_node = λ a. element node.the_row ShapedNode node_shaped s.nodes 16 _ nodes-known _ a.0;
+      each_instruction = λ p. element instruction.the_row ShapedInstruction instruction_shaped s.code 512 _ code-known _ p.0;
     }
