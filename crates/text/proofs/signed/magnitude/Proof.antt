@@ -8,9 +8,9 @@ pub magnitude_spec : {M : Type 1} → statement M
 magnitude_spec =
     tie.close
     (tie.spec
-    (λ c. cast_up _ c.before.ranges.x c.if1.true)
-    (λ c. above_fits _ c.before.ranges.x c.if1.false)
-    (λ c. cast_above _ c.before.ranges.x c.if1.false)
-    (λ c. above_more _ c.before.ranges.x c.if1.false)
+    (λ c. cast_up _ c.before.ranges.x c.if-x-ge0.true)
+    (λ c. above_fits _ c.before.ranges.x c.if-x-ge0.false)
+    (λ c. cast_above _ c.before.ranges.x c.if-x-ge0.false)
+    (λ c. above_more _ c.before.ranges.x c.if-x-ge0.false)
     (λ c. search rules)
-    (λ c. magnitude_below _ c.before.ranges.x c.if1.false))
+    (λ c. magnitude_below _ c.before.ranges.x c.if-x-ge0.false))
