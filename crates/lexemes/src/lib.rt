@@ -1,4 +1,5 @@
 // The smallest parts of the planners' notation, read: bytes and words, numbers.
 #![tactic(auto)]
+
 pub mod numbers;
 pub mod words;

@@ -13,4 +13,4 @@ read_longer_spec =
     (λ c. search rules)
     (λ c κs. search rules)
     (λ c κs. search rules)
-    (λ c. search (rules, longer_read, c.before.require-that.ensures)))
+    (λ c. search (rules, longer_read, c.before.require_that-next.ensures)))

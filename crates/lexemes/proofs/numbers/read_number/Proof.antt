@@ -12,4 +12,4 @@ read_number_spec =
     (λ c κs. search rules)
     (λ c κs. search rules)
     (λ c κs. search rules)
-    (λ c. search (rules, number_read, c.before.before.require-that.ensures)))
+    (λ c. search (rules, number_read, c.before.before.require_that-next.ensures)))

@@ -9,7 +9,7 @@ byte_after_spec =
     tie.close
     (tie.spec
     (λ c κs. search rules)
-    (λ c. let inside = c.before.stands.ensures.1 c.if1.true in search rules)
+    (λ c. let inside = c.before.stands.ensures.1 c.if-stands.true in search rules)
     (λ c κs. search rules)
     (λ c. search (rules, byte_there))
     (λ c. search (rules, byte_missing)))

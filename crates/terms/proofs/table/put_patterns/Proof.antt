@@ -10,19 +10,19 @@ use borrow.Author.Rules.{rules}
 use Rattle.terms.proofs.table.put_patterns.Statement.{statement}
 use Rattle.terms.proofs.table.put_patterns.Tie as tie
 
-abbrev invariant-loop : tie.invariant-loop
-invariant-loop table₀ at c next₀ i₀ table next i = Wrote table₀ at (joined i (λ j. pattern_word (pattern_at c j) ∷ [])) table next × (i ≤ 4)
+abbrev invariant-loop-i : tie.invariant-loop-i
+invariant-loop-i table₀ at c next₀ i₀ table next i = Wrote table₀ at (joined i (λ j. pattern_word (pattern_at c j) ∷ [])) table next × (i ≤ 4)
 
-abbrev decreases-loop : tie.decreases-loop
-decreases-loop table₀ at c next₀ i₀ table next i = 4 - i
+abbrev decreases-loop-i : tie.decreases-loop-i
+decreases-loop-i table₀ at c next₀ i₀ table next i = 4 - i
 
 pub put_patterns_spec : {M : Type 1} → statement M
 unfolding pattern_at
 put_patterns_spec =
     tie.close
     (tie.spec
-    invariant-loop
-    decreases-loop
+    invariant-loop-i
+    decreases-loop-i
     (λ c. search (rules, joined_none))
     (λ c. search rules)
     (λ c. search rules)
