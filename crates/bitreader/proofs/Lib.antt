@@ -3,5 +3,3 @@ pub mod Budget
 pub mod EndingLaws
 pub mod FieldsWithin
 pub mod Following
-pub mod ReaderRecord
-pub mod WalkLaws

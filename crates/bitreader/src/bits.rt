@@ -75,8 +75,7 @@ pub struct NumberRead {
     pub next: usize,
 }
 
-// Thin functions, proved by hand: a record that holds a slice is outside what the checker covers. `read_number` serves every
-// other caller.
+// Thin functions. `read_number` serves every other caller.
 impl<'a> BitReader<'a> {
     // The reader of an image, at its first bit.
     fn new(image: &'a [u8]) -> BitReader<'a>

@@ -1,5 +1,6 @@
 // The bit reader, the fields that stand in several places of an image, and its end.
 #![tactic(auto)]
+
 pub mod bits;
 pub mod ending;
 pub mod fields;

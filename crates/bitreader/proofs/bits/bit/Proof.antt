@@ -11,7 +11,7 @@ bit_spec =
     tie.close
     (tie.spec
     (λ c. search rules)
-    (λ c. omega (arith, c.shared-slice-known.given (c.before.before.args.p / 8)))
+    (λ c. omega (arith, c.shared_slice_known-1.given (c.before.before.args.p / 8)))
     (λ c. search rules)
     (λ c. search rules)
     (λ c. search (rules, bit_in))

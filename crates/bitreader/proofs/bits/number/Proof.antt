@@ -6,18 +6,18 @@ use borrow.Author.Rules.{rules}
 use Rattle.bitreader.proofs.bits.number.Statement.{statement}
 use Rattle.bitreader.proofs.bits.number.Tie as tie
 
-abbrev invariant-loop : tie.invariant-loop
-invariant-loop s p w v₀ i₀ v i = (i ≤ w) × Number (seen s) p i v
+abbrev invariant-loop-i : tie.invariant-loop-i
+invariant-loop-i s p w v₀ i₀ v i = (i ≤ w) × Number (seen s) p i v
 
-abbrev decreases-loop : tie.decreases-loop
-decreases-loop s p w v₀ i₀ v i = w - i
+abbrev decreases-loop-i : tie.decreases-loop-i
+decreases-loop-i s p w v₀ i₀ v i = w - i
 
 pub number_spec : {M : Type 1} → statement M
 number_spec =
     tie.close
     (tie.spec
-    invariant-loop
-    decreases-loop
+    invariant-loop-i
+    decreases-loop-i
     (λ c. search (rules, number_none))
     (λ c. search rules)
     (λ c κs. search rules)

@@ -13,5 +13,5 @@ read_ending_spec =
     (λ c κs. search rules)
     (λ c κs. search rules)
     (λ c. search rules)
-    (λ c. search (rules, ending_at, c.require-that.ensures))
+    (λ c. search (rules, ending_at, c.require_that.ensures))
     (λ c. search (rules, passed_failed)))
