@@ -1,10 +1,14 @@
 // What the programs do with files and with the streams that they are started with. What fails is named on standard
 // error: what could not be done, with which file, and why.
 #![tactic(auto)]
-ghost use Rattle.std.specs.Prelude.{◌≡◌};
-ghost use Rattle.io.specs.Counts.{IsPrefixLen};
 
-use libc::{STDERR_FILENO, STDIN_FILENO, STDOUT_FILENO};
+ghost use Rattle.std.specs.Prelude.{◌≡◌};
+ghost use Rattle.files.specs.Counts.{IsPrefixLen};
+
+use std::fmt::InlineText;
+use std::fs::{File, OpenOptions};
+use std::io::{ErrorKind, Print, Read, Write};
+use std::{fs, io, str};
 
 // What was read: how many bytes stand at the start of the buffer, and whether a read failed before the input's end
 // or the buffer's.
@@ -14,87 +18,120 @@ pub struct Loaded {
     pub failed: bool,
 }
 
-// Writes to standard error.
-pub fn say(text: &[u8]) {
-    io::write_all(STDERR_FILENO, text);
+// Writes to standard error. What cannot be written there cannot be told either.
+pub fn say(rt: &HostRuntime, text: &[u8]) {
+    let _ = rt.stderr().write_all(text);
 }
 
 // Writes the first n bytes of a buffer to standard error, where it has so many.
-pub fn say_first(buffer: &[u8], n: usize) {
+pub fn say_first(rt: &HostRuntime, buffer: &[u8], n: usize) {
     if n <= buffer.len() {
-        say(&buffer[..n]);
+        say(rt, &buffer[..n]);
     }
 }
 
-// Writes a line to standard error: what cannot be done, with which file, and errno's text.
-fn complain(what: &[u8], name: &[u8]) {
-    say(what);
-    os::fail(name);
+// Writes to standard error why something failed: the system's text, which std gives with the error's number after it.
+fn say_why(rt: &HostRuntime, error: io::Error) {
+    let shown = InlineText::<256>::of(error);
+    let text = shown.as_str();
+    match text.split_once(" (os error ") {
+        Some((why, _)) => say(rt, why.as_bytes()),
+        None => say(rt, text.as_bytes()),
+    }
 }
 
-// What was read up to a read that gave nothing: the end of the input, or a failure, which is named.
-fn ended(count: usize, failed: bool, name: &[u8]) -> Loaded
+// Writes a line to standard error: what cannot be done, with which file, and why.
+fn complain(rt: &HostRuntime, what: &[u8], name: &[u8], error: io::Error) {
+    say(rt, what);
+    say(rt, name);
+    say(rt, b": ");
+    say_why(rt, error);
+    say(rt, b"\n");
+}
+
+// What was read before a read failed, which is named.
+fn broken(rt: &HostRuntime, count: usize, name: &[u8], error: io::Error) -> Loaded
     ensures { result.count ≡ count }
 {
-    if failed {
-        complain(b"cannot read ", name);
+    complain(rt, b"cannot read ", name, error);
+    Loaded {
+        count,
+        failed: true,
     }
-    Loaded { count, failed }
 }
 
-// Fills the buffer from a descriptor, as far as the input goes.
-fn fill(fd: i32, name: &[u8], buffer: &mut [u8]) -> Loaded
+// Fills the buffer from a reader, as far as the input goes.
+fn fill<R: Read>(rt: &HostRuntime, reader: &mut R, name: &[u8], buffer: &mut [u8]) -> Loaded
     ensures { IsPrefixLen result.count buffer.new }
 {
     let mut count = 0;
     while count < buffer.len() {
-        let got = libc::read(fd, &mut buffer[count..]);
-        let more = io::count(got, &buffer[count..]);
-        if more == 0 {
-            return ended(count, got < 0, name);
+        match reader.read(&mut buffer[count..]) {
+            Ok(more) => {
+                if more == 0 {
+                    return Loaded {
+                        count,
+                        failed: false,
+                    };
+                }
+                count += more;
+            }
+            Err(error) => return broken(rt, count, name, error),
         }
-        count += more;
     }
-    ended(count, false, name)
+    Loaded {
+        count,
+        failed: false,
+    }
 }
 
 // What a file that cannot be opened gives: nothing where there is none of that name; any other failure is named.
-fn unopened(name: &[u8]) -> Loaded
+fn unopened(rt: &HostRuntime, name: &[u8], error: io::Error) -> Loaded
     ensures { result.count ≡ 0 }
 {
-    let failed = os::errno() != libc::ENOENT;
+    let failed = error.kind() != ErrorKind::NotFound;
     if failed {
-        complain(b"cannot open ", name);
+        complain(rt, b"cannot open ", name, error);
     }
     Loaded { count: 0, failed }
 }
 
+// A name as a path, which is text.
+fn path_of(name: &[u8]) -> io::Result<&str> {
+    match str::from_utf8(name) {
+        Ok(path) => Ok(path),
+        Err(_) => Err(io::Error::from(ErrorKind::InvalidFilename)),
+    }
+}
+
+// Opens a file to be read.
+fn open(rt: &HostRuntime, name: &[u8]) -> io::Result<File> {
+    File::open(rt, path_of(name)?)
+}
+
 // Fills the buffer from a file's start. A missing file counts as empty.
-pub fn read_file(path: &[u8], buffer: &mut [u8]) -> Loaded
+pub fn read_file(rt: &HostRuntime, path: &[u8], buffer: &mut [u8]) -> Loaded
     ensures { IsPrefixLen result.count buffer.new }
 {
-    let fd = os::open_read(path);
-    if fd < 0 {
-        return unopened(path);
+    match open(rt, path) {
+        Ok(mut file) => fill(rt, &mut file, path, buffer),
+        Err(error) => unopened(rt, path, error),
     }
-    let loaded = fill(fd, path, buffer);
-    libc::close(fd);
-    loaded
 }
 
 // No program takes a longer text: one that is cut off could be another net.
 pub const LONGEST_TEXT: usize = 1000000;
 
 // What was read of a text file, one byte more than a text may have at most. A longer file is named, and counts as failed.
-fn whole_text(loaded: Loaded, name: &[u8]) -> Loaded
+fn whole_text(rt: &HostRuntime, loaded: Loaded, name: &[u8]) -> Loaded
     ensures { result.count ≡ loaded.count }
 {
     let count = loaded.count;
     if count <= LONGEST_TEXT {
         return loaded;
     }
-    say(name);
-    say(b" is longer than 1000000 bytes\n");
+    say(rt, name);
+    say(rt, b" is longer than 1000000 bytes\n");
     Loaded {
         count,
         failed: true,
@@ -102,24 +139,24 @@ fn whole_text(loaded: Loaded, name: &[u8]) -> Loaded
 }
 
 // Fills the buffer from a text file. A missing file counts as empty.
-pub fn read_text_file(path: &[u8], buffer: &mut [u8; LONGEST_TEXT + 1]) -> Loaded
+pub fn read_text_file(rt: &HostRuntime, path: &[u8], buffer: &mut [u8; LONGEST_TEXT + 1]) -> Loaded
     ensures { IsPrefixLen result.count buffer.new }
 {
-    let loaded = read_file(path, buffer);
-    whole_text(loaded, path)
+    let loaded = read_file(rt, path, buffer);
+    whole_text(rt, loaded, path)
 }
 
 // Fills the buffer from standard input, as far as it goes.
-fn read_input(buffer: &mut [u8]) -> Loaded
+fn read_input(rt: &HostRuntime, buffer: &mut [u8]) -> Loaded
     ensures { IsPrefixLen result.count buffer.new }
 {
-    fill(STDIN_FILENO, b"standard input", buffer)
+    fill(rt, &mut rt.stdin(), b"standard input", buffer)
 }
 
 // Fills the first n bytes of a buffer from standard input; false where fewer come, or where the buffer has fewer.
-pub fn read_first(buffer: &mut [u8], n: usize) -> bool {
+pub fn read_first(rt: &HostRuntime, buffer: &mut [u8], n: usize) -> bool {
     if n <= buffer.len() {
-        let loaded = read_input(&mut buffer[..n]);
+        let loaded = read_input(rt, &mut buffer[..n]);
         loaded.count == n
     } else {
         false
@@ -135,14 +172,14 @@ fn number_of(low: u8, high: u8) -> usize {
 
 // Fills the buffer with what comes next on standard input: its length in two bytes, lower first, then its bytes. Failed
 // where there is not all of it, as at the end of the input, or where the buffer is shorter.
-pub fn read_next(buffer: &mut [u8]) -> Loaded
+pub fn read_next(rt: &HostRuntime, buffer: &mut [u8]) -> Loaded
     ensures { IsPrefixLen result.count buffer.new }
 {
     let mut head = [0u8; 2];
-    if read_first(&mut head, 2) {
+    if read_first(rt, &mut head, 2) {
         let count = number_of(head[0], head[1]);
         if count <= buffer.len() {
-            let there = read_first(buffer, count);
+            let there = read_first(rt, buffer, count);
             return Loaded {
                 count,
                 failed: !there,
@@ -156,59 +193,91 @@ pub fn read_next(buffer: &mut [u8]) -> Loaded
 }
 
 // Prints bytes; false where that fails.
-pub fn print(bytes: &[u8]) -> bool {
-    let printed = io::write_all(STDOUT_FILENO, bytes);
-    if !printed {
-        complain(b"cannot write ", b"standard output");
+pub fn print(rt: &HostRuntime, bytes: &[u8]) -> bool {
+    match rt.stdout().write_all(bytes) {
+        Ok(()) => true,
+        Err(error) => {
+            complain(rt, b"cannot write ", b"standard output", error);
+            false
+        }
     }
-    printed
 }
 
 // Prints the first n bytes of a buffer; false where that fails, or where it has fewer.
-pub fn print_first(buffer: &[u8], n: usize) -> bool {
+pub fn print_first(rt: &HostRuntime, buffer: &[u8], n: usize) -> bool {
     if n <= buffer.len() {
-        print(&buffer[..n])
+        print(rt, &buffer[..n])
     } else {
         false
     }
 }
 
-// Writes bytes to a descriptor as far as the device; false where that fails, which is named.
-fn write_out(fd: i32, name: &[u8], bytes: &[u8]) -> bool {
-    let written = io::write_all(fd, bytes) && libc::fsync(fd) == 0;
-    if !written {
-        complain(b"cannot write ", name);
+// Writes bytes to a file as far as the device.
+fn write_out(file: &mut File, bytes: &[u8]) -> io::Result<()> {
+    file.write_all(bytes)?;
+    file.sync_all()
+}
+
+// Makes a file with these bytes, where there is none of that name; false where that fails, which is named.
+fn make_new(rt: &HostRuntime, path: &str, bytes: &[u8]) -> bool {
+    match OpenOptions::new()
+        .write(true)
+        .create_new(true)
+        .open(rt, path)
+    {
+        Ok(mut file) => match write_out(&mut file, bytes) {
+            Ok(()) => true,
+            Err(error) => {
+                complain(rt, b"cannot write ", path.as_bytes(), error);
+                false
+            }
+        },
+        Err(error) => {
+            complain(rt, b"cannot make ", path.as_bytes(), error);
+            false
+        }
     }
-    written
 }
 
 // Makes a file with these bytes, where one of that name may be left from before; false where that fails, which is named.
-fn make_file(path: &[u8], bytes: &[u8]) -> bool {
-    os::unlink(path);
-    let fd = os::create(path);
-    if fd < 0 {
-        complain(b"cannot make ", path);
-        return false;
-    }
-    let written = write_out(fd, path, bytes);
-    libc::close(fd);
-    written
+fn make_file(rt: &HostRuntime, path: &str, bytes: &[u8]) -> bool {
+    let _ = fs::remove_file(rt, path);
+    make_new(rt, path, bytes)
 }
 
 // Gives a file that was made the name of another, which it replaces; false where that fails, which is named.
-fn put_in_place(made: &[u8], path: &[u8]) -> bool {
-    let put = os::rename(made, path) == 0;
-    if !put {
-        complain(b"cannot replace ", path);
+fn put_in_place(rt: &HostRuntime, made: &str, path: &str) -> bool {
+    match fs::rename(rt, made, path) {
+        Ok(()) => true,
+        Err(error) => {
+            complain(rt, b"cannot replace ", path.as_bytes(), error);
+            false
+        }
     }
-    put
+}
+
+// Replaces a file, by names that are text.
+fn replace(rt: &HostRuntime, path: &str, meanwhile: &str, bytes: &[u8]) -> bool {
+    let done = make_file(rt, meanwhile, bytes) && put_in_place(rt, meanwhile, path);
+    if !done {
+        let _ = fs::remove_file(rt, meanwhile);
+    }
+    done
 }
 
 // Writes a file whole, by another name that it has meanwhile. Where that fails, which is named, the file is as it was.
-pub fn replace_file(path: &[u8], meanwhile: &[u8], bytes: &[u8]) -> bool {
-    let done = make_file(meanwhile, bytes) && put_in_place(meanwhile, path);
-    if !done {
-        os::unlink(meanwhile);
+pub fn replace_file(rt: &HostRuntime, path: &[u8], meanwhile: &[u8], bytes: &[u8]) -> bool {
+    match path_of(path) {
+        Ok(place) => match path_of(meanwhile) {
+            Ok(made) => replace(rt, place, made, bytes),
+            Err(error) => {
+                complain(rt, b"cannot make ", meanwhile, error);
+                false
+            }
+        },
+        Err(error) => {
+            complain(rt, b"cannot replace ", path, error);
+            false
+        }
     }
-    done
 }
