@@ -6,7 +6,6 @@ use mathlib.Core.List.{List, []}
 use lib.ListN.{get_or, replicate}
 use mir.Val.{Val}
 use denote.Laws.{Is}
-use denote.Struct.Declared.{field}
 use Rattle.net.specs.contracts.network.Net as net
 use Rattle.net.specs.Records.{address_of, place_of, node_at, process_at, tuple_at, variable_at, field_at, instruction_at}
 use Rattle.net.specs.Shape.{Shaped}
@@ -31,7 +30,7 @@ pub record Fits (s : Net) : Type 0 where
   pub readings_fit : (q : ℕ) → q < 512 → RangedTemplate (instruction_at s.code (place_of q))
 
 unfoldable pub NetFits : Type 0
-NetFits = (s : Net) (vs : List Val) → Is (field net.the_type).row ((net.the_type).to s) vs → Fits s
+NetFits = (s : Net) (vs : List Val) → Is net.the_row s vs → Fits s
 
 -- ---- the words
 pub record Loaded (s : Net) : Type 0 where
