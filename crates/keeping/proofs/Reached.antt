@@ -59,6 +59,7 @@ unfolding meet_all
 all_met_marked q (p ∷ ps) s h (Memᴰ.head e) low =
     marked_meet_all q (meet s p) ps (rw e (met_marked s p h (rw e at low)))
 all_met_marked q (p ∷ ps) s h (Memᴰ.tail m) low = all_met_marked q ps (meet s p) (measured_meet _ s p h) m low
+all_met_marked {k = k} q [] s h x3 low = elim x3 [ ]
 
 -- ---- the search: what is marked or waits satisfies R, and what is marked waits or satisfies C
 record Good (R C : Place → Type 0) (s : Search) : Type 0 where

@@ -132,11 +132,11 @@ module _ (code : List Instruction) (p : Place) (a : Locality) (row : Row) where
   visited marks w ws ok u = record {
     turns = suc u.turns;
     left = u.left - 1;
-    whole = omega (arith, u.whole, u.decreases.left);
+    whole = omega (arith, u.whole, u.measured.left);
     met = ap (visit code) u.met ∙ sym (visits_last code u.turns (started_at p));
     measured =
         measured_meet_all (u.left - 1) (record { marks = marks; waiting = ws }) _
-        (record { long = u.decreases.long; left = omega (arith, u.decreases.left) });
+        (record { long = u.measured.long; left = omega (arith, u.measured.left) });
     judged = judged_first code a row ok marks w ws u.judged;
   }
 
@@ -207,7 +207,7 @@ turned_less marks waiting count action marks' waiting' r v = v.fewer
 pub marks_long : (code : List Instruction) (p : Place) (a : Locality) (row : Row) (marks : List Bool) (waiting : List ℕ) (count : ℕ) (ok : Bool)
     → Underway code p a row (search_of marks waiting count) ok → length marks ≡ 512
 unfolding search_of
-marks_long code p a row marks waiting count ok u = u.decreases.long
+marks_long code p a row marks waiting count ok u = u.measured.long
 
 module _ (code : List Instruction) (p : Place) (a : Locality) (row : Row)
     (marks : List Bool) (waiting : List ℕ) (count : ℕ) (ok : Bool)
@@ -258,9 +258,9 @@ module _ (code : List Instruction) (p : Place) (a : Locality) (row : Row)
   unfolding search_of
   on_top m long enough = record {
     some = some;
-    long = u.decreases.long;
+    long = u.measured.long;
     enough = omega arith;
-    room = omega (arith, left_is u.left marks waiting count u.decreases, u.whole);
+    room = omega (arith, left_is u.left marks waiting count u.measured, u.whole);
     low = place_low;
     marked = place_marked;
   }

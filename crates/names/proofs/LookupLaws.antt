@@ -3,7 +3,7 @@ use Prim.Native.Nat.{ℕ, ◌+◌, ◌<◌}
 use mathlib.Core.Path.{◌≡◌, refl, sym, ap, subst, ◌∙◌}
 use mathlib.Core.List.{List}
 use lib.ListN.{length}
-use denote.Ref.{Bor, MutBor}
+use denote.Ref.{Bor}
 use Rattle.net.proofs.Laws.{if_eq, if_ne}
 use Rattle.net.specs.declared.locality.Locality.{Locality}
 use Rattle.names.specs.Names.{Found, Stretch, of_site, of_office, size_at, first_of, list_fault, names_fault, found_in, no_name, stretch_for}
@@ -73,7 +73,7 @@ module _ (number : ℕ) (site office r : Bor (List ℕ)) (a : Locality) where
 
 -- the number is that of the two lists
 pub named_tested :
-    (number : ℕ) (site office r : MutBor (List ℕ)) (a : Locality) → number ≡ names_fault site.now office.now
+    (number : ℕ) (site office r : Bor (List ℕ)) (a : Locality) → number ≡ names_fault site.now office.now
     → NamedAfter number site office a r → Named site office a r
 unfolding name_of stretch_of
 named_tested number site office r a e h = record {

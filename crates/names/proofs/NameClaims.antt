@@ -115,6 +115,7 @@ name_outcome site office a {sites} {offices} z e w =
 first_text : {list : List ℕ} {entries : List Entry} {text : List ℕ} (a : ℕ) → Entries list entries → FirstFor a entries text → Text text
 first_text a (entry_then t e) here = t
 first_text a (entry_then t e) (later n f) = first_text a e f
+first_text {text = text} a no_entries x4 = elim x4 [ ]
 
 never_empty : {list : List ℕ} {entries : List Entry} (a : ℕ) → Entries list entries → FirstFor a entries [] → ⊥
 never_empty a e f = let t = (first_text a e f).some in omega arith

@@ -1,6 +1,6 @@
 -- What is promised of a reference that is handed back: which part of which lent list it is.
 use Rattle.std.specs.Prelude.{ℕ, ◌+◌, ◌<◌, ◌≡◌, List, length, take, drop}
-use Rattle.std.specs.Borrow.{Bor, MutBor}
+use Rattle.std.specs.Borrow.{Bor}
 use Rattle.net.specs.declared.locality.Locality.{Locality}
 use Rattle.names.specs.Names.{Found, Stretch, of_site, of_office, size_at, found_in, stretch_for, stretch_after, name_after}
 use Rattle.names.specs.Names.{stretch_of, name_of}
@@ -22,7 +22,7 @@ pub record NamedAfter (number : ℕ) (site office : Bor (List ℕ)) (a : Localit
   pub stands : PartOfOne site office (stretch_after number site.now office.now a) r
 
 -- the name of an address
-pub record Named (site office : MutBor (List ℕ)) (a : Locality) (r : MutBor (List ℕ)) : Type 0 where
+pub record Named (site office : Bor (List ℕ)) (a : Locality) (r : Bor (List ℕ)) : Type 0 where
   pub is : r.now ≡ name_of site.now office.now a
   pub stands : PartOfOne site office (stretch_of site.now office.now a) r
 

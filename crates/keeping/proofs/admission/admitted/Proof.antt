@@ -16,35 +16,35 @@ use borrow.Author.Rules.{rules}
 use Rattle.keeping.proofs.admission.admitted.Statement.{statement}
 use Rattle.keeping.proofs.admission.admitted.Tie as tie
 
-abbrev invariant-loop2 : tie.invariant-loop2
-invariant-loop2 net slots ok node slot host a row start past marks₀ waiting₀ count₀ within₀ marks waiting count within =
+abbrev invariant-loop-count : tie.invariant-loop-count
+invariant-loop-count net slots ok node slot host a row start past marks₀ waiting₀ count₀ within₀ marks waiting count within =
     Underway net.code (place_of start) a row (search_of marks waiting count) within × (length waiting ≡ length waiting₀)
 
-abbrev decreases-loop2 : tie.decreases-loop2
-decreases-loop2 net slots ok node slot host a row start past marks₀ waiting₀ count₀ within₀ marks waiting count within =
+abbrev decreases-loop-count : tie.decreases-loop-count
+decreases-loop-count net slots ok node slot host a row start past marks₀ waiting₀ count₀ within₀ marks waiting count within =
     count + unmarked marks
 
-abbrev invariant-loop : tie.invariant-loop
-invariant-loop net slots ok₀ node₀ slot₀ ok node slot = (slot ≤ slots) × (ok ≡ all slot (admits_slot net)) × Held net node slot
+abbrev invariant-loop-slot : tie.invariant-loop-slot
+invariant-loop-slot net slots ok₀ node₀ slot₀ ok node slot = (slot ≤ slots) × (ok ≡ all slot (admits_slot net)) × Held net node slot
 
-abbrev decreases-loop : tie.decreases-loop
-decreases-loop net slots ok₀ node₀ slot₀ ok node slot = slots - slot
+abbrev decreases-loop-slot : tie.decreases-loop-slot
+decreases-loop-slot net slots ok₀ node₀ slot₀ ok node slot = slots - slot
 
 -- the node is that of the slot's address: read at its first slot, and held since at the others
-here : (c : tie.Joined1 invariant-loop2 decreases-loop2 invariant-loop decreases-loop)
-    → Here c.before.before.before.before.before.args.t1 c.if1.node c.before.before.loop.slot
+here : (c : tie.Joined-slot-eq0 invariant-loop-count decreases-loop-count invariant-loop-slot decreases-loop-slot)
+    → Here c.before.before.before.before.before.args.net c.if-slot-eq0.node c.before.before.loop-slot.slot
 unfolding node_at
-here c = ⊎_elim (λ w. record { is = search rules }) (λ w. search (w.0.left, held_here)) c.if1.branch
+here c = ⊎_elim (λ w. record { is = search rules }) (λ w. search (w.0.left, held_here)) c.if-slot-eq0.branch
 
 pub admitted_spec : {M : Type 1} → statement M
 unfolding instruction_at process_at node_at
 admitted_spec =
     tie.close
     (tie.spec
-    invariant-loop2
-    decreases-loop2
-    invariant-loop
-    decreases-loop
+    invariant-loop-count
+    decreases-loop-count
+    invariant-loop-slot
+    decreases-loop-slot
     (λ c κs. search rules)
     (λ c κs. search rules)
     (λ c. search (rules, all_none, none_held))
@@ -74,5 +74,5 @@ admitted_spec =
     (λ c. search rules)
     (λ c.
     let h = here c.before.before in
-    (search rules, ⊎_elim (λ w. search (h, busy_turn)) (λ w. search (h, free_turn)) c.if2.branch, here_held _ _ _ h))
+    (search rules, ⊎_elim (λ w. search (h, busy_turn)) (λ w. search (h, free_turn)) c.if-process.branch, here_held _ _ _ h))
     (λ c. search (rules, slots_end)))

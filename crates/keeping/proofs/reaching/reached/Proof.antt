@@ -10,19 +10,19 @@ use borrow.Author.Rules.{rules}
 use Rattle.keeping.proofs.reaching.reached.Statement.{statement}
 use Rattle.keeping.proofs.reaching.reached.Tie as tie
 
-abbrev invariant-loop : tie.invariant-loop
-invariant-loop code marks₀ start waiting₀ count₀ marks waiting count = Way code (place_of start) (search_of marks waiting count) × (length waiting ≡ length waiting₀)
+abbrev invariant-loop-count : tie.invariant-loop-count
+invariant-loop-count code marks₀ start waiting₀ count₀ marks waiting count = Way code (place_of start) (search_of marks waiting count) × (length waiting ≡ length waiting₀)
 
-abbrev decreases-loop : tie.decreases-loop
-decreases-loop code marks₀ start waiting₀ count₀ marks waiting count = count + unmarked marks
+abbrev decreases-loop-count : tie.decreases-loop-count
+decreases-loop-count code marks₀ start waiting₀ count₀ marks waiting count = count + unmarked marks
 
 pub reached_spec : {M : Type 1} → statement M
 unfolding instruction_at
 reached_spec =
     tie.close
     (tie.spec
-    invariant-loop
-    decreases-loop
+    invariant-loop-count
+    decreases-loop-count
     (λ c. search rules)
     (λ c. search (rules, none_marked))
     (λ c. search rules)

@@ -11,19 +11,19 @@ use borrow.Author.Rules.{rules}
 use Rattle.keeping.proofs.rights.keeps.Statement.{statement}
 use Rattle.keeping.proofs.rights.keeps.Tie as tie
 
-abbrev invariant-loop : tie.invariant-loop
-invariant-loop a row code start marks₀ waiting₀ count₀ ok₀ marks waiting count ok = Underway code (place_of start) a row (search_of marks waiting count) ok × (length waiting ≡ length waiting₀)
+abbrev invariant-loop-count : tie.invariant-loop-count
+invariant-loop-count a row code start marks₀ waiting₀ count₀ ok₀ marks waiting count ok = Underway code (place_of start) a row (search_of marks waiting count) ok × (length waiting ≡ length waiting₀)
 
-abbrev decreases-loop : tie.decreases-loop
-decreases-loop a row code start marks₀ waiting₀ count₀ ok₀ marks waiting count ok = count + unmarked marks
+abbrev decreases-loop-count : tie.decreases-loop-count
+decreases-loop-count a row code start marks₀ waiting₀ count₀ ok₀ marks waiting count ok = count + unmarked marks
 
 pub keeps_spec : {M : Type 1} → statement M
 unfolding instruction_at
 keeps_spec =
     tie.close
     (tie.spec
-    invariant-loop
-    decreases-loop
+    invariant-loop-count
+    decreases-loop-count
     (λ c. search rules)
     (λ c. search (rules, none_reached))
     (λ c. search rules)

@@ -10,19 +10,19 @@ use borrow.Author.Rules.{rules}
 use Rattle.keeping.proofs.rights.may_put_all.Statement.{statement}
 use Rattle.keeping.proofs.rights.may_put_all.Tie as tie
 
-abbrev invariant-loop : tie.invariant-loop
-invariant-loop row g ok₀ l₀ ok l = (l ≤ 16) × (ok ≡ all l (λ i. implies (member g (address_of i)) (may_put row (address_of i))))
+abbrev invariant-loop-l : tie.invariant-loop-l
+invariant-loop-l row g ok₀ l₀ ok l = (l ≤ 16) × (ok ≡ all l (λ i. implies (member g (address_of i)) (may_put row (address_of i))))
 
-abbrev decreases-loop : tie.decreases-loop
-decreases-loop row g ok₀ l₀ ok l = 16 - l
+abbrev decreases-loop-l : tie.decreases-loop-l
+decreases-loop-l row g ok₀ l₀ ok l = 16 - l
 
 pub may_put_all_spec : {M : Type 1} → statement M
 unfolding may_put_all all_members
 may_put_all_spec =
     tie.close
     (tie.spec
-    invariant-loop
-    decreases-loop
+    invariant-loop-l
+    decreases-loop-l
     (λ c. search (rules, all_none))
     (λ c. search rules)
     (λ c κs. search rules)

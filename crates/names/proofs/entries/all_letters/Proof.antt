@@ -9,19 +9,19 @@ use borrow.Author.Rules.{rules}
 use Rattle.names.proofs.entries.all_letters.Statement.{statement}
 use Rattle.names.proofs.entries.all_letters.Tie as tie
 
-abbrev invariant-loop : tie.invariant-loop
-invariant-loop text ok₀ i₀ ok i = (i ≤ length text) × (ok ≡ all i (letter_at text))
+abbrev invariant-loop-i : tie.invariant-loop-i
+invariant-loop-i text ok₀ i₀ ok i = (i ≤ length text) × (ok ≡ all i (letter_at text))
 
-abbrev decreases-loop : tie.decreases-loop
-decreases-loop text ok₀ i₀ ok i = length text - i
+abbrev decreases-loop-i : tie.decreases-loop-i
+decreases-loop-i text ok₀ i₀ ok i = length text - i
 
 pub all_letters_spec : {M : Type 1} → statement M
 unfolding letter_at all_letters
 all_letters_spec =
     tie.close
     (tie.spec
-    invariant-loop
-    decreases-loop
+    invariant-loop-i
+    decreases-loop-i
     (λ c. search (rules, all_none))
     (λ c. search rules)
     (λ c κs. search rules)

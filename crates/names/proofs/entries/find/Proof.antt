@@ -8,18 +8,18 @@ use borrow.Author.Rules.{rules}
 use Rattle.names.proofs.entries.find.Statement.{statement}
 use Rattle.names.proofs.entries.find.Tie as tie
 
-abbrev invariant-loop : tie.invariant-loop
-invariant-loop list wanted at₀ at = Left list (found_among list (address_of wanted)) at
+abbrev invariant-loop-at : tie.invariant-loop-at
+invariant-loop-at list wanted at₀ at = Left list (found_among list (address_of wanted)) at
 
-abbrev decreases-loop : tie.decreases-loop
-decreases-loop list wanted at₀ at = length list - at
+abbrev decreases-loop-at : tie.decreases-loop-at
+decreases-loop-at list wanted at₀ at = length list - at
 
 pub find_spec : {M : Type 1} → statement M
 find_spec =
     tie.close
     (tie.spec
-    invariant-loop
-    decreases-loop
+    invariant-loop-at
+    decreases-loop-at
     (λ c. search (rules, left_all))
     (λ c. search rules)
     (λ c. search (rules, found_here))

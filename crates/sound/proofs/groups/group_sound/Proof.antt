@@ -11,19 +11,19 @@ use borrow.Author.Rules.{rules}
 use Rattle.sound.proofs.groups.group_sound.Statement.{statement}
 use Rattle.sound.proofs.groups.group_sound.Tie as tie
 
-abbrev invariant-loop : tie.invariant-loop
-invariant-loop n g ok₀ l₀ ok l = (l ≤ 16) × (ok ≡ all l (λ i. implies (member g (address_of i)) (ltb i n)))
+abbrev invariant-loop-l : tie.invariant-loop-l
+invariant-loop-l n g ok₀ l₀ ok l = (l ≤ 16) × (ok ≡ all l (λ i. implies (member g (address_of i)) (ltb i n)))
 
-abbrev decreases-loop : tie.decreases-loop
-decreases-loop n g ok₀ l₀ ok l = 16 - l
+abbrev decreases-loop-l : tie.decreases-loop-l
+decreases-loop-l n g ok₀ l₀ ok l = 16 - l
 
 pub group_sound_spec : {M : Type 1} → statement M
 unfolding group_sound all_members
 group_sound_spec =
     tie.close
     (tie.spec
-    invariant-loop
-    decreases-loop
+    invariant-loop-l
+    decreases-loop-l
     (λ c. search (rules, all_none))
     (λ c. search rules)
     (λ c κs. search rules)

@@ -9,19 +9,19 @@ use borrow.Author.Rules.{rules}
 use Rattle.sound.proofs.rows.each_sound.Statement.{statement}
 use Rattle.sound.proofs.rows.each_sound.Tie as tie
 
-abbrev invariant-loop : tie.invariant-loop
-invariant-loop n node ok₀ i₀ ok i = (i ≤ 16) × (ok ≡ all i (λ m. row_sound n (row_at node (address_of m))))
+abbrev invariant-loop-o : tie.invariant-loop-o
+invariant-loop-o n node ok₀ i₀ ok i = (i ≤ 16) × (ok ≡ all i (λ m. row_sound n (row_at node (address_of m))))
 
-abbrev decreases-loop : tie.decreases-loop
-decreases-loop n node ok₀ i₀ ok i = 16 - i
+abbrev decreases-loop-o : tie.decreases-loop-o
+decreases-loop-o n node ok₀ i₀ ok i = 16 - i
 
 pub each_sound_spec : {M : Type 1} → statement M
 unfolding row_at
 each_sound_spec =
     tie.close
     (tie.spec
-    invariant-loop
-    decreases-loop
+    invariant-loop-o
+    decreases-loop-o
     (λ c. search (rules, all_none))
     (λ c. search rules)
     (λ c. search rules)

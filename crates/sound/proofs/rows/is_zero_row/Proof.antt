@@ -9,19 +9,19 @@ use borrow.Author.Rules.{rules}
 use Rattle.sound.proofs.rows.is_zero_row.Statement.{statement}
 use Rattle.sound.proofs.rows.is_zero_row.Tie as tie
 
-abbrev invariant-loop : tie.invariant-loop
-invariant-loop row ok₀ l₀ ok l = (l ≤ 16) × (ok ≡ all l (λ m. is_none (rights_at row (address_of m))))
+abbrev invariant-loop-l : tie.invariant-loop-l
+invariant-loop-l row ok₀ l₀ ok l = (l ≤ 16) × (ok ≡ all l (λ m. is_none (rights_at row (address_of m))))
 
-abbrev decreases-loop : tie.decreases-loop
-decreases-loop row ok₀ l₀ ok l = 16 - l
+abbrev decreases-loop-l : tie.decreases-loop-l
+decreases-loop-l row ok₀ l₀ ok l = 16 - l
 
 pub is_zero_row_spec : {M : Type 1} → statement M
 unfolding is_zero_row rights_at
 is_zero_row_spec =
     tie.close
     (tie.spec
-    invariant-loop
-    decreases-loop
+    invariant-loop-l
+    decreases-loop-l
     (λ c. search (rules, all_none))
     (λ c. search rules)
     (λ c. search rules)

@@ -9,19 +9,19 @@ use borrow.Author.Rules.{rules}
 use Rattle.sound.proofs.rows.no_rows.Statement.{statement}
 use Rattle.sound.proofs.rows.no_rows.Tie as tie
 
-abbrev invariant-loop : tie.invariant-loop
-invariant-loop node ok₀ i₀ ok i = (i ≤ 16) × (ok ≡ all i (λ m. is_zero_row (row_at node (address_of m))))
+abbrev invariant-loop-o : tie.invariant-loop-o
+invariant-loop-o node ok₀ i₀ ok i = (i ≤ 16) × (ok ≡ all i (λ m. is_zero_row (row_at node (address_of m))))
 
-abbrev decreases-loop : tie.decreases-loop
-decreases-loop node ok₀ i₀ ok i = 16 - i
+abbrev decreases-loop-o : tie.decreases-loop-o
+decreases-loop-o node ok₀ i₀ ok i = 16 - i
 
 pub no_rows_spec : {M : Type 1} → statement M
 unfolding no_rows row_at
 no_rows_spec =
     tie.close
     (tie.spec
-    invariant-loop
-    decreases-loop
+    invariant-loop-o
+    decreases-loop-o
     (λ c. search (rules, all_none))
     (λ c. search rules)
     (λ c. search rules)

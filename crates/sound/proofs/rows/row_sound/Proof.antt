@@ -10,19 +10,19 @@ use borrow.Author.Rules.{rules}
 use Rattle.sound.proofs.rows.row_sound.Statement.{statement}
 use Rattle.sound.proofs.rows.row_sound.Tie as tie
 
-abbrev invariant-loop : tie.invariant-loop
-invariant-loop n row ok₀ l₀ ok l = (l ≤ 16) × (ok ≡ all l (λ m. implies (leb n m) (is_none (rights_at row (address_of m)))))
+abbrev invariant-loop-l : tie.invariant-loop-l
+invariant-loop-l n row ok₀ l₀ ok l = (l ≤ 16) × (ok ≡ all l (λ m. implies (leb n m) (is_none (rights_at row (address_of m)))))
 
-abbrev decreases-loop : tie.decreases-loop
-decreases-loop n row ok₀ l₀ ok l = 16 - l
+abbrev decreases-loop-l : tie.decreases-loop-l
+decreases-loop-l n row ok₀ l₀ ok l = 16 - l
 
 pub row_sound_spec : {M : Type 1} → statement M
 unfolding row_sound rights_at
 row_sound_spec =
     tie.close
     (tie.spec
-    invariant-loop
-    decreases-loop
+    invariant-loop-l
+    decreases-loop-l
     (λ c. search (rules, all_none))
     (λ c. search rules)
     (λ c. search rules)

@@ -9,19 +9,19 @@ use borrow.Author.Rules.{rules}
 use Rattle.sound.proofs.rows.rows_as.Statement.{statement}
 use Rattle.sound.proofs.rows.rows_as.Tie as tie
 
-abbrev invariant-loop : tie.invariant-loop
-invariant-loop first node ok₀ i₀ ok i = (i ≤ 16) × (ok ≡ all i (λ m. same_row (row_at node (address_of m)) first))
+abbrev invariant-loop-o : tie.invariant-loop-o
+invariant-loop-o first node ok₀ i₀ ok i = (i ≤ 16) × (ok ≡ all i (λ m. same_row (row_at node (address_of m)) first))
 
-abbrev decreases-loop : tie.decreases-loop
-decreases-loop first node ok₀ i₀ ok i = 16 - i
+abbrev decreases-loop-o : tie.decreases-loop-o
+decreases-loop-o first node ok₀ i₀ ok i = 16 - i
 
 pub rows_as_spec : {M : Type 1} → statement M
 unfolding row_at
 rows_as_spec =
     tie.close
     (tie.spec
-    invariant-loop
-    decreases-loop
+    invariant-loop-o
+    decreases-loop-o
     (λ c. search (rules, all_none))
     (λ c. search rules)
     (λ c. search rules)

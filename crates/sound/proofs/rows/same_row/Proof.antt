@@ -9,19 +9,19 @@ use borrow.Author.Rules.{rules}
 use Rattle.sound.proofs.rows.same_row.Statement.{statement}
 use Rattle.sound.proofs.rows.same_row.Tie as tie
 
-abbrev invariant-loop : tie.invariant-loop
-invariant-loop row other created ok₀ i₀ ok i = (i ≤ 16) × (ok ≡ all i (λ m. same_rights (rights_at row (address_of m)) (rights_at other (address_of m))))
+abbrev invariant-loop-l : tie.invariant-loop-l
+invariant-loop-l row other created ok₀ i₀ ok i = (i ≤ 16) × (ok ≡ all i (λ m. same_rights (rights_at row (address_of m)) (rights_at other (address_of m))))
 
-abbrev decreases-loop : tie.decreases-loop
-decreases-loop row other created ok₀ i₀ ok i = 16 - i
+abbrev decreases-loop-l : tie.decreases-loop-l
+decreases-loop-l row other created ok₀ i₀ ok i = 16 - i
 
 pub same_row_spec : {M : Type 1} → statement M
 unfolding same_row rights_at
 same_row_spec =
     tie.close
     (tie.spec
-    invariant-loop
-    decreases-loop
+    invariant-loop-l
+    decreases-loop-l
     (λ c κs. search rules)
     (λ c. search (rules, all_none))
     (λ c. search rules)

@@ -10,19 +10,19 @@ use borrow.Author.Rules.{rules}
 use Rattle.sound.proofs.rows.unused_barred.Statement.{statement}
 use Rattle.sound.proofs.rows.unused_barred.Tie as tie
 
-abbrev invariant-loop : tie.invariant-loop
-invariant-loop n node ok₀ i₀ ok i = (i ≤ 16) × (ok ≡ all i (λ m. implies (leb n m) (is_zero_row (row_at node (address_of m)))))
+abbrev invariant-loop-o : tie.invariant-loop-o
+invariant-loop-o n node ok₀ i₀ ok i = (i ≤ 16) × (ok ≡ all i (λ m. implies (leb n m) (is_zero_row (row_at node (address_of m)))))
 
-abbrev decreases-loop : tie.decreases-loop
-decreases-loop n node ok₀ i₀ ok i = 16 - i
+abbrev decreases-loop-o : tie.decreases-loop-o
+decreases-loop-o n node ok₀ i₀ ok i = 16 - i
 
 pub unused_barred_spec : {M : Type 1} → statement M
 unfolding unused_barred row_at
 unused_barred_spec =
     tie.close
     (tie.spec
-    invariant-loop
-    decreases-loop
+    invariant-loop-o
+    decreases-loop-o
     (λ c. search (rules, all_none))
     (λ c. search rules)
     (λ c. search rules)

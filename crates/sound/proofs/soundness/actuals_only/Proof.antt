@@ -10,19 +10,19 @@ use borrow.Author.Rules.{rules}
 use Rattle.sound.proofs.soundness.actuals_only.Statement.{statement}
 use Rattle.sound.proofs.soundness.actuals_only.Tie as tie
 
-abbrev invariant-loop : tie.invariant-loop
-invariant-loop c ok₀ i₀ ok i = (i ≤ 4) × (ok ≡ all i (λ m. implies (ltb m c.count) (is_actual (pattern_at c m))))
+abbrev invariant-loop-i : tie.invariant-loop-i
+invariant-loop-i c ok₀ i₀ ok i = (i ≤ 4) × (ok ≡ all i (λ m. implies (ltb m c.count) (is_actual (pattern_at c m))))
 
-abbrev decreases-loop : tie.decreases-loop
-decreases-loop c ok₀ i₀ ok i = 4 - i
+abbrev decreases-loop-i : tie.decreases-loop-i
+decreases-loop-i c ok₀ i₀ ok i = 4 - i
 
 pub actuals_only_spec : {M : Type 1} → statement M
 unfolding actuals_only pattern_at
 actuals_only_spec =
     tie.close
     (tie.spec
-    invariant-loop
-    decreases-loop
+    invariant-loop-i
+    decreases-loop-i
     (λ c. search (rules, all_none))
     (λ c. search rules)
     (λ c. search rules)

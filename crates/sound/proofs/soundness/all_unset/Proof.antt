@@ -9,19 +9,19 @@ use borrow.Author.Rules.{rules}
 use Rattle.sound.proofs.soundness.all_unset.Statement.{statement}
 use Rattle.sound.proofs.soundness.all_unset.Tie as tie
 
-abbrev invariant-loop : tie.invariant-loop
-invariant-loop p ok₀ v₀ ok v = (v ≤ 8) × (ok ≡ all v (λ m. is_unset (variable_at p m)))
+abbrev invariant-loop-v : tie.invariant-loop-v
+invariant-loop-v p ok₀ v₀ ok v = (v ≤ 8) × (ok ≡ all v (λ m. is_unset (variable_at p m)))
 
-abbrev decreases-loop : tie.decreases-loop
-decreases-loop p ok₀ v₀ ok v = 8 - v
+abbrev decreases-loop-v : tie.decreases-loop-v
+decreases-loop-v p ok₀ v₀ ok v = 8 - v
 
 pub all_unset_spec : {M : Type 1} → statement M
 unfolding all_unset variable_at
 all_unset_spec =
     tie.close
     (tie.spec
-    invariant-loop
-    decreases-loop
+    invariant-loop-v
+    decreases-loop-v
     (λ c. search (rules, all_none))
     (λ c. search rules)
     (λ c. search rules)

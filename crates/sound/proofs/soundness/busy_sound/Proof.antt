@@ -9,19 +9,19 @@ use borrow.Author.Rules.{rules}
 use Rattle.sound.proofs.soundness.busy_sound.Statement.{statement}
 use Rattle.sound.proofs.soundness.busy_sound.Tie as tie
 
-abbrev invariant-loop : tie.invariant-loop
-invariant-loop n k p ok₀ v₀ ok v = (v ≤ 8) × (ok ≡ all v (λ m. value_sound n (variable_at p m)))
+abbrev invariant-loop-v : tie.invariant-loop-v
+invariant-loop-v n k p ok₀ v₀ ok v = (v ≤ 8) × (ok ≡ all v (λ m. value_sound n (variable_at p m)))
 
-abbrev decreases-loop : tie.decreases-loop
-decreases-loop n k p ok₀ v₀ ok v = 8 - v
+abbrev decreases-loop-v : tie.decreases-loop-v
+decreases-loop-v n k p ok₀ v₀ ok v = 8 - v
 
 pub busy_sound_spec : {M : Type 1} → statement M
 unfolding variable_at
 busy_sound_spec =
     tie.close
     (tie.spec
-    invariant-loop
-    decreases-loop
+    invariant-loop-v
+    decreases-loop-v
     (λ c. search (rules, all_none))
     (λ c. search rules)
     (λ c. search rules)

@@ -10,20 +10,20 @@ use borrow.Author.Rules.{rules}
 use Rattle.sound.proofs.soundness.fields_sound.Statement.{statement}
 use Rattle.sound.proofs.soundness.fields_sound.Tie as tie
 
-abbrev invariant-loop : tie.invariant-loop
-invariant-loop n t counted ok₀ i₀ ok i =
+abbrev invariant-loop-i : tie.invariant-loop-i
+invariant-loop-i n t counted ok₀ i₀ ok i =
     (i ≤ 4) × (ok ≡ all i (λ m. choose (ltb m t.count) (item_sound n (field_at t m)) (is_zero_item (field_at t m))))
 
-abbrev decreases-loop : tie.decreases-loop
-decreases-loop n t counted ok₀ i₀ ok i = 4 - i
+abbrev decreases-loop-i : tie.decreases-loop-i
+decreases-loop-i n t counted ok₀ i₀ ok i = 4 - i
 
 pub fields_sound_spec : {M : Type 1} → statement M
 unfolding fields_sound field_at
 fields_sound_spec =
     tie.close
     (tie.spec
-    invariant-loop
-    decreases-loop
+    invariant-loop-i
+    decreases-loop-i
     (λ c κs. search rules)
     (λ c. search (rules, all_none))
     (λ c. search rules)

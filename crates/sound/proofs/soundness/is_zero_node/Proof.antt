@@ -9,19 +9,19 @@ use borrow.Author.Rules.{rules}
 use Rattle.sound.proofs.soundness.is_zero_node.Statement.{statement}
 use Rattle.sound.proofs.soundness.is_zero_node.Tie as tie
 
-abbrev invariant-loop : tie.invariant-loop
-invariant-loop node ok₀ i₀ ok i = (i ≤ 4) × (ok ≡ all i (λ m. is_free (process_at node m)))
+abbrev invariant-loop-i : tie.invariant-loop-i
+invariant-loop-i node ok₀ i₀ ok i = (i ≤ 4) × (ok ≡ all i (λ m. is_free (process_at node m)))
 
-abbrev decreases-loop : tie.decreases-loop
-decreases-loop node ok₀ i₀ ok i = 4 - i
+abbrev decreases-loop-i : tie.decreases-loop-i
+decreases-loop-i node ok₀ i₀ ok i = 4 - i
 
 pub is_zero_node_spec : {M : Type 1} → statement M
 unfolding is_zero_node process_at
 is_zero_node_spec =
     tie.close
     (tie.spec
-    invariant-loop
-    decreases-loop
+    invariant-loop-i
+    decreases-loop-i
     (λ c. search (rules, all_none))
     (λ c. search rules)
     (λ c. search rules)

@@ -9,19 +9,19 @@ use borrow.Author.Rules.{rules}
 use Rattle.sound.proofs.soundness.node_sound.Statement.{statement}
 use Rattle.sound.proofs.soundness.node_sound.Tie as tie
 
-abbrev invariant-loop : tie.invariant-loop
-invariant-loop f n k node ok₀ i₀ ok i = (i ≤ 4) × (ok ≡ all i (λ m. process_sound n k (process_at node m)))
+abbrev invariant-loop-i : tie.invariant-loop-i
+invariant-loop-i f n k node ok₀ i₀ ok i = (i ≤ 4) × (ok ≡ all i (λ m. process_sound n k (process_at node m)))
 
-abbrev decreases-loop : tie.decreases-loop
-decreases-loop f n k node ok₀ i₀ ok i = 4 - i
+abbrev decreases-loop-i : tie.decreases-loop-i
+decreases-loop-i f n k node ok₀ i₀ ok i = 4 - i
 
 pub node_sound_spec : {M : Type 1} → statement M
 unfolding node_sound process_at
 node_sound_spec =
     tie.close
     (tie.spec
-    invariant-loop
-    decreases-loop
+    invariant-loop-i
+    decreases-loop-i
     (λ c. search (rules, all_none))
     (λ c. search rules)
     (λ c. search rules)

@@ -10,24 +10,24 @@ use borrow.Author.Rules.{rules}
 use Rattle.sound.proofs.soundness.nodes_sound.Statement.{statement}
 use Rattle.sound.proofs.soundness.nodes_sound.Tie as tie
 
-abbrev invariant-loop : tie.invariant-loop
-invariant-loop net ok₀ a₀ ok a =
+abbrev invariant-loop-a : tie.invariant-loop-a
+invariant-loop-a net ok₀ a₀ ok a =
     (a ≤ 16) ×
     (ok ≡ all a
     (λ m. choose (ltb m net.addresses)
     (node_sound net.format net.addresses net.length (node_at net (address_of m)))
     (is_zero_node (node_at net (address_of m)))))
 
-abbrev decreases-loop : tie.decreases-loop
-decreases-loop net ok₀ a₀ ok a = 16 - a
+abbrev decreases-loop-a : tie.decreases-loop-a
+decreases-loop-a net ok₀ a₀ ok a = 16 - a
 
 pub nodes_sound_spec : {M : Type 1} → statement M
 unfolding nodes_sound node_at
 nodes_sound_spec =
     tie.close
     (tie.spec
-    invariant-loop
-    decreases-loop
+    invariant-loop-a
+    decreases-loop-a
     (λ c. search (rules, all_none))
     (λ c. search rules)
     (λ c. search rules)

@@ -9,19 +9,19 @@ use borrow.Author.Rules.{rules}
 use Rattle.sound.proofs.soundness.stores_none.Statement.{statement}
 use Rattle.sound.proofs.soundness.stores_none.Tie as tie
 
-abbrev invariant-loop : tie.invariant-loop
-invariant-loop node ok₀ i₀ ok i = (i ≤ 16) × (ok ≡ all i (λ m. is_zero_tuple (tuple_at node m)))
+abbrev invariant-loop-i : tie.invariant-loop-i
+invariant-loop-i node ok₀ i₀ ok i = (i ≤ 16) × (ok ≡ all i (λ m. is_zero_tuple (tuple_at node m)))
 
-abbrev decreases-loop : tie.decreases-loop
-decreases-loop node ok₀ i₀ ok i = 16 - i
+abbrev decreases-loop-i : tie.decreases-loop-i
+decreases-loop-i node ok₀ i₀ ok i = 16 - i
 
 pub stores_none_spec : {M : Type 1} → statement M
 unfolding tuple_at
 stores_none_spec =
     tie.close
     (tie.spec
-    invariant-loop
-    decreases-loop
+    invariant-loop-i
+    decreases-loop-i
     (λ c. search (rules, all_none))
     (λ c. search rules)
     (λ c. search rules)

@@ -10,22 +10,22 @@ use borrow.Author.Rules.{rules}
 use Rattle.sound.proofs.soundness.template_sound.Statement.{statement}
 use Rattle.sound.proofs.soundness.template_sound.Tie as tie
 
-abbrev invariant-loop : tie.invariant-loop
-invariant-loop n c counted ok₀ i₀ ok i =
+abbrev invariant-loop-i : tie.invariant-loop-i
+invariant-loop-i n c counted ok₀ i₀ ok i =
     (i ≤ 4) ×
     (ok ≡ all i
     (λ m. choose (ltb m c.count) (pattern_sound n (pattern_at c m)) (is_zero_pattern (pattern_at c m))))
 
-abbrev decreases-loop : tie.decreases-loop
-decreases-loop n c counted ok₀ i₀ ok i = 4 - i
+abbrev decreases-loop-i : tie.decreases-loop-i
+decreases-loop-i n c counted ok₀ i₀ ok i = 4 - i
 
 pub template_sound_spec : {M : Type 1} → statement M
 unfolding template_sound pattern_at
 template_sound_spec =
     tie.close
     (tie.spec
-    invariant-loop
-    decreases-loop
+    invariant-loop-i
+    decreases-loop-i
     (λ c κs. search rules)
     (λ c. search (rules, all_none))
     (λ c. search rules)

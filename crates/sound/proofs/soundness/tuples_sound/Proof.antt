@@ -10,22 +10,22 @@ use borrow.Author.Rules.{rules}
 use Rattle.sound.proofs.soundness.tuples_sound.Statement.{statement}
 use Rattle.sound.proofs.soundness.tuples_sound.Tie as tie
 
-abbrev invariant-loop : tie.invariant-loop
-invariant-loop n node ok₀ i₀ ok i =
+abbrev invariant-loop-i : tie.invariant-loop-i
+invariant-loop-i n node ok₀ i₀ ok i =
     (i ≤ 16) ×
     (ok ≡ all i
     (λ m. choose (ltb m node.stored) (tuple_sound n (tuple_at node m)) (is_zero_tuple (tuple_at node m))))
 
-abbrev decreases-loop : tie.decreases-loop
-decreases-loop n node ok₀ i₀ ok i = 16 - i
+abbrev decreases-loop-i : tie.decreases-loop-i
+decreases-loop-i n node ok₀ i₀ ok i = 16 - i
 
 pub tuples_sound_spec : {M : Type 1} → statement M
 unfolding tuples_sound tuple_at
 tuples_sound_spec =
     tie.close
     (tie.spec
-    invariant-loop
-    decreases-loop
+    invariant-loop-i
+    decreases-loop-i
     (λ c. search (rules, all_none))
     (λ c. search rules)
     (λ c. search rules)

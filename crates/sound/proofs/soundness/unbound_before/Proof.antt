@@ -10,19 +10,19 @@ use borrow.Author.Rules.{rules}
 use Rattle.sound.proofs.soundness.unbound_before.Statement.{statement}
 use Rattle.sound.proofs.soundness.unbound_before.Tie as tie
 
-abbrev invariant-loop : tie.invariant-loop
-invariant-loop i v c ok₀ j₀ ok j = (j ≤ 4) × (ok ≡ all j (λ m. implies (ltb m i) (binds_not v (pattern_at c m))))
+abbrev invariant-loop-j : tie.invariant-loop-j
+invariant-loop-j i v c ok₀ j₀ ok j = (j ≤ 4) × (ok ≡ all j (λ m. implies (ltb m i) (binds_not v (pattern_at c m))))
 
-abbrev decreases-loop : tie.decreases-loop
-decreases-loop i v c ok₀ j₀ ok j = 4 - j
+abbrev decreases-loop-j : tie.decreases-loop-j
+decreases-loop-j i v c ok₀ j₀ ok j = 4 - j
 
 pub unbound_before_spec : {M : Type 1} → statement M
 unfolding unbound_before pattern_at
 unbound_before_spec =
     tie.close
     (tie.spec
-    invariant-loop
-    decreases-loop
+    invariant-loop-j
+    decreases-loop-j
     (λ c. search (rules, all_none))
     (λ c. search rules)
     (λ c. search rules)
