@@ -10,18 +10,18 @@ use Rattle.net.proofs.AllLaws.{all_none, all_more, all_end}
 use Rattle.matching.proofs.template.all_defined.Statement.{statement}
 use Rattle.matching.proofs.template.all_defined.Tie as tie
 
-abbrev invariant-loop : tie.invariant-loop
-invariant-loop p c ok₀ i₀ ok i = (i ≤ 4) × (ok ≡ all i (λ j. implies (ltb j c.count) (defined_field p (pattern_at c j))))
+abbrev invariant-loop-i : tie.invariant-loop-i
+invariant-loop-i p c ok₀ i₀ ok i = (i ≤ 4) × (ok ≡ all i (λ j. implies (ltb j c.count) (defined_field p (pattern_at c j))))
 
-abbrev decreases-loop : tie.decreases-loop
-decreases-loop p c ok₀ i₀ ok i = 4 - i
+abbrev decreases-loop-i : tie.decreases-loop-i
+decreases-loop-i p c ok₀ i₀ ok i = 4 - i
 
 pub all_defined_spec : {M : Type 1} → statement M
 all_defined_spec =
     tie.close
     (tie.spec
-    invariant-loop
-    decreases-loop
+    invariant-loop-i
+    decreases-loop-i
     (λ c. search (rules, all_none))
     (λ c κs. search rules)
     (λ c. search rules)

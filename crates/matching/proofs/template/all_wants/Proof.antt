@@ -12,24 +12,24 @@ use Rattle.matching.proofs.MatchingLaws.{wants_none}
 use Rattle.matching.proofs.template.all_wants.Statement.{statement}
 use Rattle.matching.proofs.template.all_wants.Tie as tie
 
-abbrev invariant-loop : tie.invariant-loop
-invariant-loop host p c ws₀ i₀ ws i =
+abbrev invariant-loop-i : tie.invariant-loop-i
+invariant-loop-i host p c ws₀ i₀ ws i =
     (i ≤ 4)
     × (ws
     ≡ fold i
     (λ j x. choose (ltb j c.count) (set x j (record { want = want_of host p (pattern_at c j) })) x)
     (replicate 4 zero_wanted))
 
-abbrev decreases-loop : tie.decreases-loop
-decreases-loop host p c ws₀ i₀ ws i = 4 - i
+abbrev decreases-loop-i : tie.decreases-loop-i
+decreases-loop-i host p c ws₀ i₀ ws i = 4 - i
 
 pub all_wants_spec : {M : Type 1} → statement M
 unfolding wants_of
 all_wants_spec =
     tie.close
     (tie.spec
-    invariant-loop
-    decreases-loop
+    invariant-loop-i
+    decreases-loop-i
     (λ c κs. search rules)
     (λ c. search (rules, fold_none, wants_none))
     (λ c κs. search rules)

@@ -10,19 +10,19 @@ use Rattle.net.proofs.FoldLaws.{fold_none, fold_more, fold_end}
 use Rattle.matching.proofs.template.bound.Statement.{statement}
 use Rattle.matching.proofs.template.bound.Tie as tie
 
-abbrev invariant-loop : tie.invariant-loop
-invariant-loop t e q₀ i₀ q i = (i ≤ 4) × (q ≡ fold i (λ j x. choose (ltb j e.count) (bound_field x (field_at t j) (want_at e j)) x) q₀)
+abbrev invariant-loop-i : tie.invariant-loop-i
+invariant-loop-i t e q₀ i₀ q i = (i ≤ 4) × (q ≡ fold i (λ j x. choose (ltb j e.count) (bound_field x (field_at t j) (want_at e j)) x) q₀)
 
-abbrev decreases-loop : tie.decreases-loop
-decreases-loop t e q₀ i₀ q i = 4 - i
+abbrev decreases-loop-i : tie.decreases-loop-i
+decreases-loop-i t e q₀ i₀ q i = 4 - i
 
 pub bound_spec : {M : Type 1} → statement M
 unfolding bound_of
 bound_spec =
     tie.close
     (tie.spec
-    invariant-loop
-    decreases-loop
+    invariant-loop-i
+    decreases-loop-i
     (λ c. search (rules, fold_none))
     (λ c κs. search rules)
     (λ c. search rules)

@@ -9,19 +9,19 @@ use Rattle.net.proofs.FirstLaws.{Left, first_start, first_again, first_here, fir
 use Rattle.matching.proofs.template.oldest.Statement.{statement}
 use Rattle.matching.proofs.template.oldest.Tie as tie
 
-abbrev invariant-loop : tie.invariant-loop
-invariant-loop e n i₀ i = Left 16 (λ j. both (ltb j n.stored) (fits_of (tuple_at n j) e)) Found.At Found.Nothing i
+abbrev invariant-loop-i : tie.invariant-loop-i
+invariant-loop-i e n i₀ i = Left 16 (λ j. both (ltb j n.stored) (fits_of (tuple_at n j) e)) Found.At Found.Nothing i
 
-abbrev decreases-loop : tie.decreases-loop
-decreases-loop e n i₀ i = 16 - i
+abbrev decreases-loop-i : tie.decreases-loop-i
+decreases-loop-i e n i₀ i = 16 - i
 
 pub oldest_spec : {M : Type 1} → statement M
 unfolding oldest_of tuple_at
 oldest_spec =
     tie.close
     (tie.spec
-    invariant-loop
-    decreases-loop
+    invariant-loop-i
+    decreases-loop-i
     (λ c. search (rules, first_start))
     (λ c. search rules)
     (λ c. search rules)
