@@ -30,6 +30,7 @@
 // A value is a reading in two's complement, an address or a variable. In all 27,668 bytes, of which the
 // first 12,820 are the format, the counts and the nodes.
 #![tactic(auto)]
+
 use crate::bytes::{put_count, put_two};
 use crate::code::put_instruction;
 use crate::nodes::put_node;

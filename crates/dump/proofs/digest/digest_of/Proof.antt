@@ -3,18 +3,18 @@ use Rattle.std.proofs.Common.{◌-◌, length, rules}
 use Rattle.dump.proofs.digest.digest_of.Statement.{statement}
 use Rattle.dump.proofs.digest.digest_of.Tie as tie
 
-abbrev invariant-loop : tie.invariant-loop
-invariant-loop s digest₀ i₀ digest i = Unit {0}
+abbrev invariant-loop-i : tie.invariant-loop-i
+invariant-loop-i s digest₀ i₀ digest i = Unit {0}
 
-abbrev decreases-loop : tie.decreases-loop
-decreases-loop s digest₀ i₀ digest i = length s - i
+abbrev decreases-loop-i : tie.decreases-loop-i
+decreases-loop-i s digest₀ i₀ digest i = length s - i
 
 pub digest_of_spec : {M : Type 1} → statement M
 digest_of_spec =
     tie.close
     (tie.spec
-    invariant-loop
-    decreases-loop
+    invariant-loop-i
+    decreases-loop-i
     (λ c. tt)
     (λ c. search rules)
     (λ c κs. search rules)

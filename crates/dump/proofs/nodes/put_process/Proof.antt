@@ -3,18 +3,18 @@ use Rattle.std.proofs.Common.{◌≡◌, ◌-◌, length, rules}
 use Rattle.dump.proofs.nodes.put_process.Statement.{statement}
 use Rattle.dump.proofs.nodes.put_process.Tie as tie
 
-abbrev invariant-loop : tie.invariant-loop
-invariant-loop out₀ at process busy placed next₀ i₀ out next i = length out ≡ length out₀
+abbrev invariant-loop-i : tie.invariant-loop-i
+invariant-loop-i out₀ at process busy placed next₀ i₀ out next i = length out ≡ length out₀
 
-abbrev decreases-loop : tie.decreases-loop
-decreases-loop out₀ at process busy placed next₀ i₀ out next i = 8 - i
+abbrev decreases-loop-i : tie.decreases-loop-i
+decreases-loop-i out₀ at process busy placed next₀ i₀ out next i = 8 - i
 
 pub put_process_spec : {M : Type 1} → statement M
 put_process_spec =
     tie.close
     (tie.spec
-    invariant-loop
-    decreases-loop
+    invariant-loop-i
+    decreases-loop-i
     (λ c κs. search rules)
     (λ c κs. search rules)
     (λ c κs. search rules)
