@@ -4,30 +4,32 @@
 // more than the longest image has decides everything, as does one more than the longest listing (proved: `FirstBytesDecide` of
 // `accepted` and of `listing`), and of picks.bin the first 65,536 picks count.
 #![tactic(auto)]
+
 use check::same;
 use files::{print, print_first, read_file, say};
 use image::reader::LONGEST_IMAGE;
 use listing::checking::{Age, Checked, LONGEST_LISTING, check_listing, line_of, number_of};
+use std::env::{Env, FillError};
 use text::decimal::{put_decimal, put_marked};
 use text::writing::put;
 
 // Prints a number and a line.
-fn print_fault(number: usize, i: usize) {
+fn print_fault(rt: &HostRuntime, number: usize, i: usize) {
     let mut line = [0u8; 48];
     let first = put_decimal(&mut line, 0, number);
     let second = put_marked(&mut line, first, 32, i);
     let end = put(&mut line, second, 10);
-    print_first(&line, end);
+    print_first(rt, &line, end);
 }
 
 // Prints an answer.
-fn print_checked(checked: Checked) {
+fn print_checked(rt: &HostRuntime, checked: Checked) {
     let number = number_of(checked);
     if number == 0 {
-        print(b"0\n");
+        print(rt, b"0\n");
     } else {
         let i = line_of(checked);
-        print_fault(number, i);
+        print_fault(rt, number, i);
     }
 }
 
@@ -37,13 +39,13 @@ fn listing_room() -> [u8; LONGEST_LISTING + 1] {
 }
 
 // Reads the files, and checks the listing.
-fn check_files(age: Age) {
+fn check_files(rt: &HostRuntime, age: Age) {
     let mut image = [0u8; LONGEST_IMAGE + 1];
     let mut picks = [0u8; 65536];
     let mut text = listing_room();
-    let net = read_file(b"net.bin", &mut image);
-    let list = read_file(b"picks.bin", &mut picks);
-    let listing = read_file(b"listing.txt", &mut text);
+    let net = read_file(rt, b"net.bin", &mut image);
+    let list = read_file(rt, b"picks.bin", &mut picks);
+    let listing = read_file(rt, b"listing.txt", &mut text);
     if net.failed || list.failed || listing.failed {
         return;
     }
@@ -51,26 +53,39 @@ fn check_files(age: Age) {
     let k = list.count;
     let m = listing.count;
     let checked = check_listing(&image[..n], &picks[..k], &text[..m], age);
-    print_checked(checked);
+    print_checked(rt, checked);
 }
 
 // Goes by what the argument calls the listing.
-fn check_called(word: &[u8]) {
+fn check_called(rt: &HostRuntime, word: &[u8]) {
     if same(word, b"old") {
-        check_files(Age::Old);
+        check_files(rt, Age::Old);
     } else if same(word, b"new") {
-        check_files(Age::New);
+        check_files(rt, Age::New);
     } else {
-        say(b"check_listing takes one argument, old or new\n");
+        say(rt, b"check_listing takes one argument, old or new\n");
     }
 }
 
-fn main() {
+// Whether there is an argument of a number.
+fn is_given(rt: &HostRuntime, i: usize) -> bool {
+    let mut none = [0u8; 0];
+    !matches!(rt.arg(i, &mut none), Err(FillError::NotPresent))
+}
+
+// Goes by the one argument, of which no more than four bytes count.
+fn check_argument(rt: &HostRuntime) {
     let mut word = [0u8; 4];
-    let n = os::arg(1, &mut word);
-    if os::arg_count() == 2 {
-        check_called(&word[..n]);
+    match rt.arg(1, &mut word) {
+        Ok(n) => check_called(rt, &word[..n]),
+        Err(_) => check_called(rt, b""),
+    }
+}
+
+fn main(rt: HostRuntime) {
+    if is_given(&rt, 1) && !is_given(&rt, 2) {
+        check_argument(&rt);
     } else {
-        check_called(b"");
+        check_called(&rt, b"");
     }
 }

@@ -3,6 +3,7 @@
 // one edge that no image shows. What is printed is compared with what the Rust model gives. A missing file counts as
 // empty; where one cannot be read, nothing is printed.
 #![tactic(auto)]
+
 ghost use Rattle.std.specs.Prelude.{◌≤◌};
 
 use files::{print, print_first, read_file, say};
@@ -59,26 +60,26 @@ fn after(edges: &[u8], at: usize) -> usize {
 }
 
 // Prints the register of an image and its picks; false where that fails.
-fn print_register(image: &[u8], picks: &[u8]) -> bool {
+fn print_register(rt: &HostRuntime, image: &[u8], picks: &[u8]) -> bool {
     let mut out = [0u8; 65536];
     let written = register(image, picks, &mut out);
     match written {
-        Registered::Written(n) => print_first(&out, n),
+        Registered::Written(n) => print_first(rt, &out, n),
         Registered::NoRoom => {
-            say(b"no room for a register\n");
+            say(rt, b"no room for a register\n");
             false
         }
     }
 }
 
 // Prints the edge that starts at a place; false where that fails.
-fn print_edge(edges: &[u8], at: usize) -> bool {
+fn print_edge(rt: &HostRuntime, edges: &[u8], at: usize) -> bool {
     let image = after(edges, at);
     let picks = after(edges, image);
-    print(b"edge ")
-        && print(part_at(edges, at))
-        && print(b"\n")
-        && print_register(part_at(edges, image), part_at(edges, picks))
+    print(rt, b"edge ")
+        && print(rt, part_at(edges, at))
+        && print(rt, b"\n")
+        && print_register(rt, part_at(edges, image), part_at(edges, picks))
 }
 
 // The place after the edge that starts at a place.
@@ -89,10 +90,10 @@ fn after_edge(edges: &[u8], at: usize) -> usize {
 }
 
 // Prints each edge; false where that fails. No list has so many that the turns run out.
-fn print_edges(edges: &[u8]) -> bool {
+fn print_edges(rt: &HostRuntime, edges: &[u8]) -> bool {
     let mut at = 0;
     let mut turns = 1000usize;
-    while turns > 0 && at < edges.len() && print_edge(edges, at) {
+    while turns > 0 && at < edges.len() && print_edge(rt, edges, at) {
         at = after_edge(edges, at);
         turns -= 1;
     }
@@ -110,35 +111,35 @@ fn without_creation(start: Net) -> Net {
 }
 
 // Prints the line of a first pick of address 0, slot 0.
-fn print_answer(answer: Answer) -> bool {
+fn print_answer(rt: &HostRuntime, answer: Answer) -> bool {
     match answer {
-        Answer::NoRight => print(b"pick 1 0 0 4\n"),
-        Answer::NoRoom => print(b"pick 1 0 0 3\n"),
-        _ => print(b"pick 1 0 0 other\n"),
+        Answer::NoRight => print(rt, b"pick 1 0 0 4\n"),
+        Answer::NoRoom => print(rt, b"pick 1 0 0 3\n"),
+        _ => print(rt, b"pick 1 0 0 other\n"),
     }
 }
 
 // Prints what such a pick is answered in a net that no image gives.
-fn print_barred(image: &[u8]) -> bool {
+fn print_barred(rt: &HostRuntime, image: &[u8]) -> bool {
     let opened = read_image(image);
     let net = without_creation(opened.net);
     let machine = Machine { net };
     let picked = machine.pick(0);
     let answer = picked.answer;
-    print(b"edge creation at 16 addresses, n withdrawn\n") && print_answer(answer)
+    print(rt, b"edge creation at 16 addresses, n withdrawn\n") && print_answer(rt, answer)
 }
 
-fn main() {
+fn main(rt: HostRuntime) {
     let mut edges = [0u8; 65536];
     let mut image = [0u8; LONGEST_IMAGE + 1];
-    let list = read_file(b"edges.bin", &mut edges);
-    let barred = read_file(b"creation.bin", &mut image);
+    let list = read_file(&rt, b"edges.bin", &mut edges);
+    let barred = read_file(&rt, b"creation.bin", &mut image);
     if list.failed || barred.failed {
         return;
     }
     let n = list.count;
     let k = barred.count;
-    if print_edges(&edges[..n]) {
-        print_barred(&image[..k]);
+    if print_edges(&rt, &edges[..n]) {
+        print_barred(&rt, &image[..k]);
     }
 }

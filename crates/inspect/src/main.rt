@@ -4,13 +4,14 @@
 // number of the refusal; the bit at which the field at fault begins, 4 bytes little-endian, 0 where the image is accepted;
 // then the net as the crate `dump` lays it out. It ends where the input does.
 #![tactic(auto)]
+
 use dump::bytes::put_four;
 use dump::put_net;
 use files::{print, read_next};
 use image::reader::{number_of, place_of, read_image};
 
 // Writes what is made of one image; false where that fails.
-fn answer(image: &[u8]) -> bool {
+fn answer(rt: &HostRuntime, image: &[u8]) -> bool {
     let opened = read_image(image);
     let answer = opened.answer;
     let net = opened.net;
@@ -19,21 +20,22 @@ fn answer(image: &[u8]) -> bool {
     let place = place_of(answer) % 4294967296;
     put_four(&mut out, 1, place as u32);
     put_net(&mut out, 5, net);
-    print(&out)
+    print(rt, &out)
 }
 
 // Reads one image and writes what is made of it; false at the end of the input.
-fn take_turn() -> bool {
+fn take_turn(rt: &HostRuntime) -> bool {
     let mut image = [0u8; 65535];
-    let next = read_next(&mut image);
+    let next = read_next(rt, &mut image);
     let n = next.count;
-    !next.failed && answer(&image[..n])
+    !next.failed && answer(rt, &image[..n])
 }
 
 // A proved loop has to end, and nothing says that the input does: no run uses up these turns.
-fn main() {
-    let mut turns = u64::MAX;
-    while turns > 0 && take_turn() {
-        turns -= 1;
+fn main(rt: HostRuntime) {
+    for _ in 0..u64::MAX {
+        if !take_turn(&rt) {
+            break;
+        }
     }
 }

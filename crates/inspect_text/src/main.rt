@@ -3,6 +3,7 @@
 // byte, 0 accepted, else the number of the refusal, then the net as the crate `dump` lays it out. It ends where the input
 // does.
 #![tactic(auto)]
+
 ghost use Rattle.std.specs.Prelude.{◌≡◌};
 ghost use Rattle.notation.specs.Text.{number_of};
 
@@ -21,28 +22,29 @@ fn number_of(answer: Verdict) -> u8
 }
 
 // Writes what is made of one text; false where that fails.
-fn answer(text: &[u8]) -> bool {
+fn answer(rt: &HostRuntime, text: &[u8]) -> bool {
     let opened = read_text(text);
     let answer = opened.answer;
     let net = opened.net;
     let mut out = [0u8; 27669];
     out[0] = number_of(answer);
     put_net(&mut out, 1, net);
-    print(&out)
+    print(rt, &out)
 }
 
 // Reads one text and writes what is made of it; false at the end of the input.
-fn take_turn() -> bool {
+fn take_turn(rt: &HostRuntime) -> bool {
     let mut text = [0u8; 65535];
-    let next = read_next(&mut text);
+    let next = read_next(rt, &mut text);
     let n = next.count;
-    !next.failed && answer(&text[..n])
+    !next.failed && answer(rt, &text[..n])
 }
 
 // A proved loop has to end, and nothing says that the input does: no run uses up these turns.
-fn main() {
-    let mut turns = u64::MAX;
-    while turns > 0 && take_turn() {
-        turns -= 1;
+fn main(rt: HostRuntime) {
+    for _ in 0..u64::MAX {
+        if !take_turn(&rt) {
+            break;
+        }
     }
 }

@@ -2,6 +2,7 @@
 // and prints the register. A missing file counts as empty; where one cannot be read, nothing is printed. Of net.bin one byte more
 // than the longest image has decides everything (proved: `FirstBytesDecide`), and of the others the first 65,536 bytes count.
 #![tactic(auto)]
+
 use files::read_file;
 use image::reader::LONGEST_IMAGE;
 use printing::{LONGEST_LIST, print_written, say_names};
@@ -10,26 +11,27 @@ use registers::room::room;
 
 // Prints the register, made in the lent buffer.
 fn print_register<'a>(
+    rt: &HostRuntime,
     image: &[u8],
     picks: &[u8],
     site: &'a [u8],
     office: &'a [u8],
     out: &mut [u8],
 ) {
-    say_names(site, office);
+    say_names(rt, site, office);
     let written = named_register(image, picks, site, office, out);
-    print_written(written, out);
+    print_written(rt, written, out);
 }
 
-fn main() {
+fn main(rt: HostRuntime) {
     let mut image = [0u8; LONGEST_IMAGE + 1];
     let mut picks = [0u8; 65536];
     let mut site = [0u8; LONGEST_LIST];
     let mut office = [0u8; LONGEST_LIST];
-    let net = read_file(b"net.bin", &mut image);
-    let list = read_file(b"picks.bin", &mut picks);
-    let own = read_file(b"site.bin", &mut site);
-    let common = read_file(b"office.bin", &mut office);
+    let net = read_file(&rt, b"net.bin", &mut image);
+    let list = read_file(&rt, b"picks.bin", &mut picks);
+    let own = read_file(&rt, b"site.bin", &mut site);
+    let common = read_file(&rt, b"office.bin", &mut office);
     if net.failed || list.failed || own.failed || common.failed {
         return;
     }
@@ -38,5 +40,12 @@ fn main() {
     let i = own.count;
     let j = common.count;
     let mut out = room();
-    print_register(&image[..n], &picks[..k], &site[..i], &office[..j], &mut out);
+    print_register(
+        &rt,
+        &image[..n],
+        &picks[..k],
+        &site[..i],
+        &office[..j],
+        &mut out,
+    );
 }

@@ -4,12 +4,15 @@
 // more than the longest image has decides everything (proved: `FirstBytesDecide`), and of picks.bin the first 65,536 picks
 // count.
 #![tactic(auto)]
-ghost use Rattle.io.specs.Counts.{IsPrefixLen};
+
+ghost use Rattle.std.specs.Prelude.{◌≤◌, length};
+ghost use Rattle.files.specs.Counts.{IsPrefixLen};
 
 use files::{Loaded, print, print_first, read_file, say};
 use image::reader::LONGEST_IMAGE;
 use season::figures::{Figured, room};
 use season::sums::Sums;
+use std::env::{Env, FillError};
 use text::writing::{put, put_bytes};
 
 // No folder is taken by a longer name: the system takes no longer path.
@@ -23,7 +26,7 @@ struct Progress {
 }
 
 // Reads a file of a folder, from its start. A missing file counts as empty.
-fn read_in(folder: &[u8], name: &[u8], buffer: &mut [u8]) -> Loaded
+fn read_in(rt: &HostRuntime, folder: &[u8], name: &[u8], buffer: &mut [u8]) -> Loaded
     ensures { IsPrefixLen result.count buffer.new }
 {
     let mut path = [0u8; LONGEST_PATH + 16];
@@ -31,7 +34,7 @@ fn read_in(folder: &[u8], name: &[u8], buffer: &mut [u8]) -> Loaded
     let second = put(&mut path, first, b'/');
     let end = put_bytes(&mut path, second, name);
     if end <= LONGEST_PATH + 16 {
-        read_file(&path[..end], buffer)
+        read_file(rt, &path[..end], buffer)
     } else {
         Loaded {
             count: 0,
@@ -41,11 +44,11 @@ fn read_in(folder: &[u8], name: &[u8], buffer: &mut [u8]) -> Loaded
 }
 
 // Adds the run of a folder.
-fn add_folder(sums: Sums, folder: &[u8]) -> Progress {
+fn add_folder(rt: &HostRuntime, sums: Sums, folder: &[u8]) -> Progress {
     let mut image = [0u8; LONGEST_IMAGE + 1];
     let mut picks = [0u8; 65536];
-    let net = read_in(folder, b"net.bin", &mut image);
-    let list = read_in(folder, b"picks.bin", &mut picks);
+    let net = read_in(rt, folder, b"net.bin", &mut image);
+    let list = read_in(rt, folder, b"picks.bin", &mut picks);
     if net.failed || list.failed {
         return Progress { sums, failed: true };
     }
@@ -59,56 +62,69 @@ fn add_folder(sums: Sums, folder: &[u8]) -> Progress {
 }
 
 // Adds the run of the folder that an argument names.
-fn add_argument(sums: Sums, i: usize) -> Progress {
+fn add_argument(rt: &HostRuntime, sums: Sums, i: usize) -> Progress {
     let mut folder = [0u8; LONGEST_PATH];
-    let n = os::arg(i, &mut folder);
+    let n = length_of(rt, i, &mut folder);
     if n == 0 {
-        say(b"an argument is empty or longer than 4096 bytes\n");
+        say(rt, b"an argument is empty or longer than 4096 bytes\n");
         return Progress { sums, failed: true };
     }
-    add_folder(sums, &folder[..n])
+    add_folder(rt, sums, &folder[..n])
+}
+
+// Puts an argument at the start of a buffer and gives its length; 0 where it is longer than the buffer.
+fn length_of(rt: &HostRuntime, i: usize, buffer: &mut [u8]) -> usize
+    ensures { result ≤ length buffer.new }
+{
+    rt.arg(i, buffer).unwrap_or(0)
+}
+
+// Whether there is an argument of a number.
+fn is_given(rt: &HostRuntime, i: usize) -> bool {
+    let mut none = [0u8; 0];
+    !matches!(rt.arg(i, &mut none), Err(FillError::NotPresent))
 }
 
 // Adds the runs of the folders that the arguments name, up to one that cannot be read.
-fn add_arguments() -> Progress {
+fn add_arguments(rt: &HostRuntime) -> Progress {
     let none = Sums::empty();
     let mut progress = Progress {
         sums: none,
         failed: false,
     };
-    let count = os::arg_count();
-    let mut i = 1;
-    while i < count && !progress.failed {
+    for i in 1..usize::MAX {
+        if progress.failed || !is_given(rt, i) {
+            break;
+        }
         let sums = progress.sums;
-        progress = add_argument(sums, i);
-        i += 1;
+        progress = add_argument(rt, sums, i);
     }
     progress
 }
 
 // Prints the figures.
-fn print_figures(sums: Sums) {
+fn print_figures(rt: &HostRuntime, sums: Sums) {
     let mut out = room();
     let figured = sums.figures(&mut out);
     match figured {
         Figured::Written(n) => {
-            print_first(&out, n);
+            print_first(rt, &out, n);
         }
         Figured::NoRuns => {
-            print(b"refused 44\n");
+            print(rt, b"refused 44\n");
         }
         Figured::TooMany => {
-            print(b"refused 45\n");
+            print(rt, b"refused 45\n");
         }
-        Figured::NoRoom => say(b"no room for the figures\n"),
+        Figured::NoRoom => say(rt, b"no room for the figures\n"),
     }
 }
 
-fn main() {
-    let progress = add_arguments();
+fn main(rt: HostRuntime) {
+    let progress = add_arguments(&rt);
     if progress.failed {
         return;
     }
     let sums = progress.sums;
-    print_figures(sums);
+    print_figures(&rt, sums);
 }
