@@ -5,18 +5,18 @@ use borrow.Author.Rules.{rules}
 use Rattle.lean_words.proofs.processes.busy_process.Statement.{statement}
 use Rattle.lean_words.proofs.processes.busy_process.Tie as tie
 
-abbrev invariant-loop : tie.invariant-loop
-invariant-loop words at p₀ v₀ p v = Setting words p v
+abbrev invariant-loop-v : tie.invariant-loop-v
+invariant-loop-v words at p₀ v₀ p v = Setting words p v
 
-abbrev decreases-loop : tie.decreases-loop
-decreases-loop words at p₀ v₀ p v = 8 - v
+abbrev decreases-loop-v : tie.decreases-loop-v
+decreases-loop-v words at p₀ v₀ p v = 8 - v
 
 pub busy_process_spec : {M : Type 1} → statement M
 busy_process_spec =
     tie.close
     (tie.spec
-    invariant-loop
-    decreases-loop
+    invariant-loop-v
+    decreases-loop-v
     (λ c. search rules)
     (λ c. search rules)
     (λ c κs. search rules)

@@ -11,19 +11,19 @@ use borrow.Author.Rules.{rules}
 use Rattle.lean_words.proofs.processes.busy_words.Statement.{statement}
 use Rattle.lean_words.proofs.processes.busy_words.Tie as tie
 
-abbrev invariant-loop : tie.invariant-loop
-invariant-loop p place origin words₀ v₀ words v = (v ≤ 8) × (words ≡ filled v (λ i. value_word (variable_at p i)) (replicate 16 0))
+abbrev invariant-loop-v : tie.invariant-loop-v
+invariant-loop-v p place origin words₀ v₀ words v = (v ≤ 8) × (words ≡ filled v (λ i. value_word (variable_at p i)) (replicate 16 0))
 
-abbrev decreases-loop : tie.decreases-loop
-decreases-loop p place origin words₀ v₀ words v = 8 - v
+abbrev decreases-loop-v : tie.decreases-loop-v
+decreases-loop-v p place origin words₀ v₀ words v = 8 - v
 
 pub busy_words_spec : {M : Type 1} → statement M
 unfolding variable_at
 busy_words_spec =
     tie.close
     (tie.spec
-    invariant-loop
-    decreases-loop
+    invariant-loop-v
+    decreases-loop-v
     (λ c. search (rules, filled_none))
     (λ c. search rules)
     (λ c. search rules)

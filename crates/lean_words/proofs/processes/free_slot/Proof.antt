@@ -10,19 +10,19 @@ use borrow.Author.Rules.{rules}
 use Rattle.lean_words.proofs.processes.free_slot.Statement.{statement}
 use Rattle.lean_words.proofs.processes.free_slot.Tie as tie
 
-abbrev invariant-loop : tie.invariant-loop
-invariant-loop slots k₀ k = Left 4 (λ i. leb 512 (get_or (get_or slots i []) 8 0)) (λ i. i) 4 k
+abbrev invariant-loop-k : tie.invariant-loop-k
+invariant-loop-k slots k₀ k = Left 4 (λ i. leb 512 (get_or (get_or slots i []) 8 0)) (λ i. i) 4 k
 
-abbrev decreases-loop : tie.decreases-loop
-decreases-loop slots k₀ k = 4 - k
+abbrev decreases-loop-k : tie.decreases-loop-k
+decreases-loop-k slots k₀ k = 4 - k
 
 pub free_slot_spec : {M : Type 1} → statement M
 unfolding free_slot_in
 free_slot_spec =
     tie.close
     (tie.spec
-    invariant-loop
-    decreases-loop
+    invariant-loop-k
+    decreases-loop-k
     (λ c. search (rules, first_start))
     (λ c. search rules)
     (λ c. search rules)

@@ -9,18 +9,18 @@ use borrow.Author.Rules.{rules}
 use Rattle.lean_words.proofs.rights.admits.Statement.{statement}
 use Rattle.lean_words.proofs.rights.admits.Tie as tie
 
-abbrev invariant-loop : tie.invariant-loop
-invariant-loop need row l ok₀ m₀ ok m = (m ≤ 16) × (ok ≡ all m (λ j. covered (rights_in need j) (rights_in row j)))
+abbrev invariant-loop-m : tie.invariant-loop-m
+invariant-loop-m need row l ok₀ m₀ ok m = (m ≤ 16) × (ok ≡ all m (λ j. covered (rights_in need j) (rights_in row j)))
 
-abbrev decreases-loop : tie.decreases-loop
-decreases-loop need row l ok₀ m₀ ok m = 16 - m
+abbrev decreases-loop-m : tie.decreases-loop-m
+decreases-loop-m need row l ok₀ m₀ ok m = 16 - m
 
 pub admits_spec : {M : Type 1} → statement M
 admits_spec =
     tie.close
     (tie.spec
-    invariant-loop
-    decreases-loop
+    invariant-loop-m
+    decreases-loop-m
     (λ c. search (rules, all_none))
     (λ c κs. search rules)
     (λ c. search rules)

@@ -12,19 +12,19 @@ use borrow.Author.Rules.{rules}
 use Rattle.lean_words.proofs.rights.row_flags.Statement.{statement}
 use Rattle.lean_words.proofs.rights.row_flags.Tie as tie
 
-abbrev invariant-loop : tie.invariant-loop
-invariant-loop row flags₀ l₀ flags l = (l ≤ 16) × (flags ≡ fold l (λ m fs. with_flags fs m (rights_at row (address_of m))) (replicate 65 false))
+abbrev invariant-loop-l : tie.invariant-loop-l
+invariant-loop-l row flags₀ l₀ flags l = (l ≤ 16) × (flags ≡ fold l (λ m fs. with_flags fs m (rights_at row (address_of m))) (replicate 65 false))
 
-abbrev decreases-loop : tie.decreases-loop
-decreases-loop row flags₀ l₀ flags l = 16 - l
+abbrev decreases-loop-l : tie.decreases-loop-l
+decreases-loop-l row flags₀ l₀ flags l = 16 - l
 
 pub row_flags_spec : {M : Type 1} → statement M
 unfolding with_flags rights_at
 row_flags_spec =
     tie.close
     (tie.spec
-    invariant-loop
-    decreases-loop
+    invariant-loop-l
+    decreases-loop-l
     (λ c. search (rules, fold_none))
     (λ c. search rules)
     (λ c. search rules)

@@ -11,19 +11,19 @@ use borrow.Author.Rules.{rules}
 use Rattle.lean_words.proofs.rights.row_of.Statement.{statement}
 use Rattle.lean_words.proofs.rights.row_of.Tie as tie
 
-abbrev invariant-loop : tie.invariant-loop
-invariant-loop flags row₀ l₀ row l = (l ≤ 16) × (row.rights ≡ filled l (rights_in flags) (replicate 16 no_rights))
+abbrev invariant-loop-l : tie.invariant-loop-l
+invariant-loop-l flags row₀ l₀ row l = (l ≤ 16) × (row.rights ≡ filled l (rights_in flags) (replicate 16 no_rights))
 
-abbrev decreases-loop : tie.decreases-loop
-decreases-loop flags row₀ l₀ row l = 16 - l
+abbrev decreases-loop-l : tie.decreases-loop-l
+decreases-loop-l flags row₀ l₀ row l = 16 - l
 
 pub row_of_spec : {M : Type 1} → statement M
 unfolding rights_in
 row_of_spec =
     tie.close
     (tie.spec
-    invariant-loop
-    decreases-loop
+    invariant-loop-l
+    decreases-loop-l
     (λ c κs. search rules)
     (λ c. search (rules, rights_none))
     (λ c. search rules)

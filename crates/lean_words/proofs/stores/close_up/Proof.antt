@@ -5,18 +5,18 @@ use borrow.Author.Rules.{rules}
 use Rattle.lean_words.proofs.stores.close_up.Statement.{statement}
 use Rattle.lean_words.proofs.stores.close_up.Tie as tie
 
-abbrev invariant-loop : tie.invariant-loop
-invariant-loop ts₀ i j₀ ts j = Closing ts₀ i ts j
+abbrev invariant-loop-j : tie.invariant-loop-j
+invariant-loop-j ts₀ i j₀ ts j = Closing ts₀ i ts j
 
-abbrev decreases-loop : tie.decreases-loop
-decreases-loop ts₀ i j₀ ts j = 15 - j
+abbrev decreases-loop-j : tie.decreases-loop-j
+decreases-loop-j ts₀ i j₀ ts j = 15 - j
 
 pub close_up_spec : {M : Type 1} → statement M
 close_up_spec =
     tie.close
     (tie.spec
-    invariant-loop
-    decreases-loop
+    invariant-loop-j
+    decreases-loop-j
     (λ c. search (rules, closing_none))
     (λ c. search rules)
     (λ c. search rules)

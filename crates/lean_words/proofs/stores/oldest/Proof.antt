@@ -11,19 +11,19 @@ use borrow.Author.Rules.{rules}
 use Rattle.lean_words.proofs.stores.oldest.Statement.{statement}
 use Rattle.lean_words.proofs.stores.oldest.Tie as tie
 
-abbrev invariant-loop : tie.invariant-loop
-invariant-loop ts stored want j₀ j = Left 16 (λ i. both (fits_words (get_or ts i []) want) (ltb i stored)) (λ i. i) 16 j
+abbrev invariant-loop-j : tie.invariant-loop-j
+invariant-loop-j ts stored want j₀ j = Left 16 (λ i. both (fits_words (get_or ts i []) want) (ltb i stored)) (λ i. i) 16 j
 
-abbrev decreases-loop : tie.decreases-loop
-decreases-loop ts stored want j₀ j = 16 - j
+abbrev decreases-loop-j : tie.decreases-loop-j
+decreases-loop-j ts stored want j₀ j = 16 - j
 
 pub oldest_spec : {M : Type 1} → statement M
 unfolding oldest_in
 oldest_spec =
     tie.close
     (tie.spec
-    invariant-loop
-    decreases-loop
+    invariant-loop-j
+    decreases-loop-j
     (λ c. search (rules, first_start))
     (λ c. search rules)
     (λ c. search rules)

@@ -10,18 +10,18 @@ use borrow.Author.Rules.{rules}
 use Rattle.lean_words.proofs.stores.tuple_of.Statement.{statement}
 use Rattle.lean_words.proofs.stores.tuple_of.Tie as tie
 
-abbrev invariant-loop : tie.invariant-loop
-invariant-loop words t₀ i₀ t i = (i ≤ 4) × (t.fields ≡ filled i (field_in words) (replicate 4 zero_field))
+abbrev invariant-loop-i : tie.invariant-loop-i
+invariant-loop-i words t₀ i₀ t i = (i ≤ 4) × (t.fields ≡ filled i (field_in words) (replicate 4 zero_field))
 
-abbrev decreases-loop : tie.decreases-loop
-decreases-loop words t₀ i₀ t i = 4 - i
+abbrev decreases-loop-i : tie.decreases-loop-i
+decreases-loop-i words t₀ i₀ t i = 4 - i
 
 pub tuple_of_spec : {M : Type 1} → statement M
 tuple_of_spec =
     tie.close
     (tie.spec
-    invariant-loop
-    decreases-loop
+    invariant-loop-i
+    decreases-loop-i
     (λ c κs. search rules)
     (λ c. search (rules, fields_none))
     (λ c. search rules)

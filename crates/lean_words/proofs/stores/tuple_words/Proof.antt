@@ -11,19 +11,19 @@ use borrow.Author.Rules.{rules}
 use Rattle.lean_words.proofs.stores.tuple_words.Statement.{statement}
 use Rattle.lean_words.proofs.stores.tuple_words.Tie as tie
 
-abbrev invariant-loop : tie.invariant-loop
-invariant-loop t mark words₀ i₀ words i = (i ≤ 4) × (words ≡ filled i (λ j. item_word (field_at t j)) (replicate 6 0))
+abbrev invariant-loop-i : tie.invariant-loop-i
+invariant-loop-i t mark words₀ i₀ words i = (i ≤ 4) × (words ≡ filled i (λ j. item_word (field_at t j)) (replicate 6 0))
 
-abbrev decreases-loop : tie.decreases-loop
-decreases-loop t mark words₀ i₀ words i = 4 - i
+abbrev decreases-loop-i : tie.decreases-loop-i
+decreases-loop-i t mark words₀ i₀ words i = 4 - i
 
 pub tuple_words_spec : {M : Type 1} → statement M
 unfolding field_at
 tuple_words_spec =
     tie.close
     (tie.spec
-    invariant-loop
-    decreases-loop
+    invariant-loop-i
+    decreases-loop-i
     (λ c. search (rules, filled_none))
     (λ c. search rules)
     (λ c. search rules)

@@ -8,12 +8,12 @@ pub reading_word_spec : {M : Type 1} → statement M
 reading_word_spec =
     tie.close
     (tie.spec
-    (λ c. up_cast _ c.before.ranges.x c.if1.true)
-    (λ c. up_doubled _ c.before.ranges.x c.if1.true)
-    (λ c. up_fits _ c.before.ranges.x c.if1.true)
-    (λ c. above_fits _ c.before.ranges.x c.if1.false)
-    (λ c. down_cast _ c.before.ranges.x c.if1.false)
-    (λ c. down_doubled _ c.before.ranges.x c.if1.false)
-    (λ c. down_fits _ c.before.ranges.x c.if1.false)
-    (λ c. up_is _ c.before.ranges.x c.if1.true)
-    (λ c. down_is _ c.before.ranges.x c.if1.false))
+    (λ c. up_cast _ c.before.ranges.x c.if-x-ge0.true)
+    (λ c. up_doubled _ c.before.ranges.x c.if-x-ge0.true)
+    (λ c. up_fits _ c.before.ranges.x c.if-x-ge0.true)
+    (λ c. above_fits _ c.before.ranges.x c.if-x-ge0.false)
+    (λ c. down_cast _ c.before.ranges.x c.if-x-ge0.false)
+    (λ c. down_doubled _ c.before.ranges.x c.if-x-ge0.false)
+    (λ c. down_fits _ c.before.ranges.x c.if-x-ge0.false)
+    (λ c. up_is _ c.before.ranges.x c.if-x-ge0.true)
+    (λ c. down_is _ c.before.ranges.x c.if-x-ge0.false))
