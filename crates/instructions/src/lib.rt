@@ -1,4 +1,5 @@
 // Instructions of an image, one by one.
 #![tactic(auto)]
+
 pub mod instruction;
 mod template;

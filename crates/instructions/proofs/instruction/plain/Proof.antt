@@ -9,4 +9,4 @@ plain_spec =
     (tie.spec
     (λ c κs. search rules)
     (λ c κs. search rules)
-    (λ c. search (rules, c.before.zero.ensures, c.with-action.ensures)))
+    (λ c. search (rules, c.before.zero-zero.ensures, c.with_action-instruction.ensures)))

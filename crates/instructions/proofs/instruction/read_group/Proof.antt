@@ -12,4 +12,4 @@ read_group_spec =
     (λ c. search rules)
     (λ c κs. search rules)
     (λ c κs. search rules)
-    (λ c. search (rules, group_parts, c.require-in.ensures)))
+    (λ c. search (rules, group_parts, c.require_in-next.ensures)))

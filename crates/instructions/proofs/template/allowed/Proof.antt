@@ -8,5 +8,5 @@ unfolding implies
 allowed_spec =
     tie.close
     (tie.spec
-    (λ c. simp c.if1.true)
-    (λ c. simp c.if1.false))
+    (λ c. simp c.if-formals.true)
+    (λ c. simp c.if-formals.false))

@@ -10,18 +10,18 @@ use borrow.Author.Rules.{rules}
 use Rattle.instructions.proofs.template.read_patterns.Statement.{statement}
 use Rattle.instructions.proofs.template.read_patterns.Tie as tie
 
-abbrev invariant-loop : tie.invariant-loop
-invariant-loop s formals n count template₀ step₀ i₀ template step i = Loop (seen s) step₀ count (templateField formals n) zero_instruction step i template
+abbrev invariant-loop-i : tie.invariant-loop-i
+invariant-loop-i s formals n count template₀ step₀ i₀ template step i = Loop (seen s) step₀ count (templateField formals n) zero_instruction step i template
 
-abbrev decreases-loop : tie.decreases-loop
-decreases-loop s formals n count template₀ step₀ i₀ template step i = count - i
+abbrev decreases-loop-i : tie.decreases-loop-i
+decreases-loop-i s formals n count template₀ step₀ i₀ template step i = count - i
 
 pub read_patterns_spec : {M : Type 1} → statement M
 read_patterns_spec =
     tie.close
     (tie.spec
-    invariant-loop
-    decreases-loop
+    invariant-loop-i
+    decreases-loop-i
     (λ c κs. search rules)
     (λ c. search (rules, begin_as))
     (λ c κs. search rules)
