@@ -9,18 +9,18 @@ use borrow.Author.Rules.{rules}
 use Rattle.linking.proofs.names.names_right.Statement.{statement}
 use Rattle.linking.proofs.names.names_right.Tie as tie
 
-abbrev invariant-loop : tie.invariant-loop
-invariant-loop bodies defs uses twice ok₀ k₀ ok k = (k ≤ 512) × (ok ≡ all k (name_right_in bodies defs uses))
+abbrev invariant-loop-k : tie.invariant-loop-k
+invariant-loop-k bodies defs uses twice ok₀ k₀ ok k = (k ≤ 512) × (ok ≡ all k (name_right_in bodies defs uses))
 
-abbrev decreases-loop : tie.decreases-loop
-decreases-loop bodies defs uses twice ok₀ k₀ ok k = 512 - k
+abbrev decreases-loop-k : tie.decreases-loop-k
+decreases-loop-k bodies defs uses twice ok₀ k₀ ok k = 512 - k
 
 pub names_right_spec : {M : Type 1} → statement M
 names_right_spec =
     tie.close
     (tie.spec
-    invariant-loop
-    decreases-loop
+    invariant-loop-k
+    decreases-loop-k
     (λ c. search (rules, all_none))
     (λ c κs. search rules)
     (λ c. search rules)

@@ -6,18 +6,18 @@ use borrow.Author.Rules.{rules}
 use Rattle.linking.proofs.names.settle.Statement.{statement}
 use Rattle.linking.proofs.names.settle.Tie as tie
 
-abbrev invariant-loop : tie.invariant-loop
-invariant-loop bodies ended₀ number₀ h₀ ended number h = Settling bodies (start_for ended₀ number₀) h ended number
+abbrev invariant-loop-h : tie.invariant-loop-h
+invariant-loop-h bodies ended₀ number₀ h₀ ended number h = Settling bodies (start_for ended₀ number₀) h ended number
 
-abbrev decreases-loop : tie.decreases-loop
-decreases-loop bodies ended₀ number₀ h₀ ended number h = 512 - h
+abbrev decreases-loop-h : tie.decreases-loop-h
+decreases-loop-h bodies ended₀ number₀ h₀ ended number h = 512 - h
 
 pub settle_spec : {M : Type 1} → statement M
 settle_spec =
     tie.close
     (tie.spec
-    invariant-loop
-    decreases-loop
+    invariant-loop-h
+    decreases-loop-h
     (λ c. search (rules, settling_begin))
     (λ c. search (rules, settling_stop))
     (λ c κs. search rules)

@@ -10,19 +10,19 @@ use borrow.Author.Rules.{rules}
 use Rattle.linking.proofs.places.moved_net.Statement.{statement}
 use Rattle.linking.proofs.places.moved_net.Tie as tie
 
-abbrev invariant-loop : tie.invariant-loop
-invariant-loop bodies starts net₀ a₀ net a = (a ≤ 16) × (net ≡ fold a (moved_address (place_at bodies) starts) net₀)
+abbrev invariant-loop-a : tie.invariant-loop-a
+invariant-loop-a bodies starts net₀ a₀ net a = (a ≤ 16) × (net ≡ fold a (moved_address (place_at bodies) starts) net₀)
 
-abbrev decreases-loop : tie.decreases-loop
-decreases-loop bodies starts net₀ a₀ net a = 16 - a
+abbrev decreases-loop-a : tie.decreases-loop-a
+decreases-loop-a bodies starts net₀ a₀ net a = 16 - a
 
 pub moved_net_spec : {M : Type 1} → statement M
 unfolding moved_net with_node node_at
 moved_net_spec =
     tie.close
     (tie.spec
-    invariant-loop
-    decreases-loop
+    invariant-loop-a
+    decreases-loop-a
     (λ c. search (rules, fold_none))
     (λ c. search rules)
     (λ c. search rules)

@@ -10,19 +10,19 @@ use borrow.Author.Rules.{rules}
 use Rattle.linking.proofs.places.moved_node.Statement.{statement}
 use Rattle.linking.proofs.places.moved_node.Tie as tie
 
-abbrev invariant-loop : tie.invariant-loop
-invariant-loop a bodies starts x₀ j₀ x j = (j ≤ 4) × (x ≡ fold j (moved_slot (place_at bodies) starts a) x₀)
+abbrev invariant-loop-j : tie.invariant-loop-j
+invariant-loop-j a bodies starts x₀ j₀ x j = (j ≤ 4) × (x ≡ fold j (moved_slot (place_at bodies) starts a) x₀)
 
-abbrev decreases-loop : tie.decreases-loop
-decreases-loop a bodies starts x₀ j₀ x j = 4 - j
+abbrev decreases-loop-j : tie.decreases-loop-j
+decreases-loop-j a bodies starts x₀ j₀ x j = 4 - j
 
 pub moved_node_spec : {M : Type 1} → statement M
 unfolding moved_node with_process process_at
 moved_node_spec =
     tie.close
     (tie.spec
-    invariant-loop
-    decreases-loop
+    invariant-loop-j
+    decreases-loop-j
     (λ c. search (rules, fold_none))
     (λ c. search rules)
     (λ c. search rules)
