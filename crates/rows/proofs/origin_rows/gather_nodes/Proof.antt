@@ -7,19 +7,19 @@ use borrow.Author.Rules.{rules}
 use Rattle.rows.proofs.origin_rows.gather_nodes.Statement.{statement}
 use Rattle.rows.proofs.origin_rows.gather_nodes.Tie as tie
 
-abbrev invariant-loop : tie.invariant-loop
-invariant-loop s n net₀ next₀ i₀ net next i = NodesRuling s n next i net
+abbrev invariant-loop-i : tie.invariant-loop-i
+invariant-loop-i s n net₀ next₀ i₀ net next i = NodesRuling s n next i net
 
-abbrev decreases-loop : tie.decreases-loop
-decreases-loop s n net₀ next₀ i₀ net next i = n - i
+abbrev decreases-loop-i : tie.decreases-loop-i
+decreases-loop-i s n net₀ next₀ i₀ net next i = n - i
 
 pub gather_nodes_spec : {M : Type 1} → statement M
 unfolding with_counts with_format
 gather_nodes_spec =
     tie.close
     (tie.spec
-    invariant-loop
-    decreases-loop
+    invariant-loop-i
+    decreases-loop-i
     (λ c κs. search rules)
     (λ c κs. search rules)
     (λ c κs. search rules)
@@ -31,5 +31,5 @@ gather_nodes_spec =
     (λ c.
     let read = c.before.before in
     let test = read.before in
-    nodes_more _ _ _ _ _ _ _ _ test.loop-test.true test.before.loop.invariant read.read-node-rows.ensures c.with-rows2.ensures)
+    nodes_more _ _ _ _ _ _ _ _ test.loop-i-test.true test.before.loop-i.invariant read.read_node_rows-read.ensures c.with_rows-net-in-loop-i.ensures)
     (λ c. search (rules, nodes_end)))

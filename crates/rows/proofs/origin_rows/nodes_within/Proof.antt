@@ -9,19 +9,19 @@ use borrow.Author.Rules.{rules}
 use Rattle.rows.proofs.origin_rows.nodes_within.Statement.{statement}
 use Rattle.rows.proofs.origin_rows.nodes_within.Tie as tie
 
-abbrev invariant-loop : tie.invariant-loop
-invariant-loop net n ok₀ i₀ ok i = (i ≤ n) × (ok ≡ all i (λ a. all n (λ o. within n (row_at (node_at net (address_of a)) (address_of o)))))
+abbrev invariant-loop-i : tie.invariant-loop-i
+invariant-loop-i net n ok₀ i₀ ok i = (i ≤ n) × (ok ≡ all i (λ a. all n (λ o. within n (row_at (node_at net (address_of a)) (address_of o)))))
 
-abbrev decreases-loop : tie.decreases-loop
-decreases-loop net n ok₀ i₀ ok i = n - i
+abbrev decreases-loop-i : tie.decreases-loop-i
+decreases-loop-i net n ok₀ i₀ ok i = n - i
 
 pub nodes_within_spec : {M : Type 1} → statement M
 unfolding node_at
 nodes_within_spec =
     tie.close
     (tie.spec
-    invariant-loop
-    decreases-loop
+    invariant-loop-i
+    decreases-loop-i
     (λ c. search (rules, all_none))
     (λ c. search rules)
     (λ c. search rules)

@@ -11,19 +11,19 @@ use borrow.Author.Rules.{rules}
 use Rattle.rows.proofs.origin_rows.read_first_rows.Statement.{statement}
 use Rattle.rows.proofs.origin_rows.read_first_rows.Tie as tie
 
-abbrev invariant-loop : tie.invariant-loop
-invariant-loop s rows₀ next₀ n₀ more₀ rows next n more =
+abbrev invariant-loop-more : tie.invariant-loop-more
+invariant-loop-more s rows₀ next₀ n₀ more₀ rows next n more =
     (more ≡ both (ltb n 16) (holds_at (names_node 0) s next)) × FirstRowing s next n rows
 
-abbrev decreases-loop : tie.decreases-loop
-decreases-loop s rows₀ next₀ n₀ more₀ rows next n more = 16 - n
+abbrev decreases-loop-more : tie.decreases-loop-more
+decreases-loop-more s rows₀ next₀ n₀ more₀ rows next n more = 16 - n
 
 pub read_first_rows_spec : {M : Type 1} → statement M
 read_first_rows_spec =
     tie.close
     (tie.spec
-    invariant-loop
-    decreases-loop
+    invariant-loop-more
+    decreases-loop-more
     (λ c κs. search rules)
     (λ c κs. search rules)
     (λ c κs. search rules)
@@ -37,8 +37,8 @@ read_first_rows_spec =
     (λ c κs. search rules)
     (λ c.
     let test = c.before.before.before in
-    search (rules, fewer_left, test.before.loop.invariant.0, test.loop-test.true))
+    search (rules, fewer_left, test.before.loop-more.invariant.0, test.loop-more-test.true))
     (λ c. search (rules, first_more))
     (λ c κs. search rules)
     (λ c κs. search rules)
-    (λ c. search (rules, first_end, c.require-that.ensures)))
+    (λ c. search (rules, first_end, c.require_that-last.ensures)))

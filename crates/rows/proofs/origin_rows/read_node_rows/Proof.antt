@@ -6,18 +6,18 @@ use borrow.Author.Rules.{rules}
 use Rattle.rows.proofs.origin_rows.read_node_rows.Statement.{statement}
 use Rattle.rows.proofs.origin_rows.read_node_rows.Tie as tie
 
-abbrev invariant-loop : tie.invariant-loop
-invariant-loop s n i rows₀ next₀ j₀ rows next j = NodeRowing s next₀ n i next j rows
+abbrev invariant-loop-j : tie.invariant-loop-j
+invariant-loop-j s n i rows₀ next₀ j₀ rows next j = NodeRowing s next₀ n i next j rows
 
-abbrev decreases-loop : tie.decreases-loop
-decreases-loop s n i rows₀ next₀ j₀ rows next j = n - j
+abbrev decreases-loop-j : tie.decreases-loop-j
+decreases-loop-j s n i rows₀ next₀ j₀ rows next j = n - j
 
 pub read_node_rows_spec : {M : Type 1} → statement M
 read_node_rows_spec =
     tie.close
     (tie.spec
-    invariant-loop
-    decreases-loop
+    invariant-loop-j
+    decreases-loop-j
     (λ c κs. search rules)
     (λ c κs. search rules)
     (λ c. search (rules, node_begin))
@@ -29,4 +29,4 @@ read_node_rows_spec =
     (λ c. search (rules, node_more))
     (λ c κs. search rules)
     (λ c κs. search rules)
-    (λ c. search (rules, node_end, c.require-that.ensures)))
+    (λ c. search (rules, node_end, c.require_that-last.ensures)))

@@ -12,4 +12,4 @@ read_origin_rows_spec =
     (λ c κs. search rules)
     (λ c κs. search (rules, few_nodes))
     (λ c κs. search rules)
-    (λ c. search (rules, judged_nodes, c.require-that.ensures)))
+    (λ c. search (rules, judged_nodes, c.require_that-next.ensures)))

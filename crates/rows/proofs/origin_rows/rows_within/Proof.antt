@@ -9,19 +9,19 @@ use borrow.Author.Rules.{rules}
 use Rattle.rows.proofs.origin_rows.rows_within.Statement.{statement}
 use Rattle.rows.proofs.origin_rows.rows_within.Tie as tie
 
-abbrev invariant-loop : tie.invariant-loop
-invariant-loop n node ok₀ j₀ ok j = (j ≤ n) × (ok ≡ all j (λ o. within n (row_at node (address_of o))))
+abbrev invariant-loop-j : tie.invariant-loop-j
+invariant-loop-j n node ok₀ j₀ ok j = (j ≤ n) × (ok ≡ all j (λ o. within n (row_at node (address_of o))))
 
-abbrev decreases-loop : tie.decreases-loop
-decreases-loop n node ok₀ j₀ ok j = n - j
+abbrev decreases-loop-j : tie.decreases-loop-j
+decreases-loop-j n node ok₀ j₀ ok j = n - j
 
 pub rows_within_spec : {M : Type 1} → statement M
 unfolding row_at
 rows_within_spec =
     tie.close
     (tie.spec
-    invariant-loop
-    decreases-loop
+    invariant-loop-j
+    decreases-loop-j
     (λ c. search (rules, all_none))
     (λ c. search rules)
     (λ c. search rules)

@@ -7,18 +7,18 @@ use borrow.Author.Rules.{rules}
 use Rattle.rows.proofs.rows.after_digits.Statement.{statement}
 use Rattle.rows.proofs.rows.after_digits.Tie as tie
 
-abbrev invariant-loop : tie.invariant-loop
-invariant-loop s p q₀ q = Digits s p q
+abbrev invariant-loop-q : tie.invariant-loop-q
+invariant-loop-q s p q₀ q = Digits s p q
 
-abbrev decreases-loop : tie.decreases-loop
-decreases-loop s p q₀ q = length s - q
+abbrev decreases-loop-q : tie.decreases-loop-q
+decreases-loop-q s p q₀ q = length s - q
 
 pub after_digits_spec : {M : Type 1} → statement M
 after_digits_spec =
     tie.close
     (tie.spec
-    invariant-loop
-    decreases-loop
+    invariant-loop-q
+    decreases-loop-q
     (λ c. search (rules, digits_begin))
     (λ c. search rules)
     (λ c κs. search rules)

@@ -11,19 +11,19 @@ use borrow.Author.Rules.{rules}
 use Rattle.rows.proofs.rows.gather_rows.Statement.{statement}
 use Rattle.rows.proofs.rows.gather_rows.Tie as tie
 
-abbrev invariant-loop : tie.invariant-loop
-invariant-loop s net₀ next₀ n₀ more₀ net next n more = (more ≡ both (ltb n 16) (holds_at is_row s next)) × Ruling s next n net
+abbrev invariant-loop-more : tie.invariant-loop-more
+invariant-loop-more s net₀ next₀ n₀ more₀ net next n more = (more ≡ both (ltb n 16) (holds_at is_row s next)) × Ruling s next n net
 
-abbrev decreases-loop : tie.decreases-loop
-decreases-loop s net₀ next₀ n₀ more₀ net next n more = 16 - n
+abbrev decreases-loop-more : tie.decreases-loop-more
+decreases-loop-more s net₀ next₀ n₀ more₀ net next n more = 16 - n
 
 pub gather_rows_spec : {M : Type 1} → statement M
 unfolding with_counts with_format
 gather_rows_spec =
     tie.close
     (tie.spec
-    invariant-loop
-    decreases-loop
+    invariant-loop-more
+    decreases-loop-more
     (λ c κs. search rules)
     (λ c κs. search rules)
     (λ c. search (rules, ruling_begin))
@@ -36,4 +36,4 @@ gather_rows_spec =
     (λ c. search (rules, ruling_more))
     (λ c κs. search rules)
     (λ c κs. search rules)
-    (λ c. search (rules, gathered, c.require-that.ensures)))
+    (λ c. search (rules, gathered, c.require_that-last.ensures)))

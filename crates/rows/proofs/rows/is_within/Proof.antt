@@ -11,19 +11,19 @@ use borrow.Author.Rules.{rules}
 use Rattle.rows.proofs.rows.is_within.Statement.{statement}
 use Rattle.rows.proofs.rows.is_within.Tie as tie
 
-abbrev invariant-loop : tie.invariant-loop
-invariant-loop n row ok₀ l₀ ok l = (l ≤ 16) × (ok ≡ all l (λ j. implies (leb n j) (not (any_right (rights_at row (address_of j))))))
+abbrev invariant-loop-l : tie.invariant-loop-l
+invariant-loop-l n row ok₀ l₀ ok l = (l ≤ 16) × (ok ≡ all l (λ j. implies (leb n j) (not (any_right (rights_at row (address_of j))))))
 
-abbrev decreases-loop : tie.decreases-loop
-decreases-loop n row ok₀ l₀ ok l = 16 - l
+abbrev decreases-loop-l : tie.decreases-loop-l
+decreases-loop-l n row ok₀ l₀ ok l = 16 - l
 
 pub is_within_spec : {M : Type 1} → statement M
 unfolding within rights_at
 is_within_spec =
     tie.close
     (tie.spec
-    invariant-loop
-    decreases-loop
+    invariant-loop-l
+    decreases-loop-l
     (λ c. search (rules, all_none))
     (λ c. search rules)
     (λ c. search rules)

@@ -11,4 +11,4 @@ read_granted_spec =
     (λ c κs. search rules)
     (λ c κs. search rules)
     (λ c κs. search rules)
-    (λ c. search (rules, granted_read, c.before.require-that.ensures)))
+    (λ c. search (rules, granted_read, c.before.require_that-read.ensures)))

@@ -14,4 +14,4 @@ read_rights_spec =
     (λ c κs. search rules)
     (λ c κs. search rules)
     (λ c κs. search rules)
-    (λ c. search (rules, rights_read, c.require-that.ensures)))
+    (λ c. search (rules, rights_read, c.require_that-next.ensures)))

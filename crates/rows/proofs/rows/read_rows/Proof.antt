@@ -12,4 +12,4 @@ read_rows_spec =
     (λ c κs. search rules)
     (λ c κs. search (rules, few_gathered))
     (λ c κs. search rules)
-    (λ c. judged_rows _ _ _ _ _ (search rules) (c.before.before.require-that.ensures _) (search rules) (c.require-that2.ensures _)))
+    (λ c. judged_rows _ _ _ _ _ (search rules) (c.before.before.require_that-counted.ensures _) (search rules) (c.require_that-next.ensures _)))
