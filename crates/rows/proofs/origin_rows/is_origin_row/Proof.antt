@@ -10,6 +10,5 @@ unfolding bytes is_origin_row
 is_origin_row_spec =
     tie.close
     (tie.spec
-    (λ c. search rules)
     (λ c κs. search rules)
     (λ c. search rules))

@@ -11,4 +11,4 @@ none_over_spec =
     (λ c κs. search rules)
     (λ c κs. search rules)
     (λ c κs. search rules)
-    (λ c. search (rules, over_read, c.require-that.ensures)))
+    (λ c. search (rules, over_read, c.require_that.ensures)))

@@ -10,4 +10,4 @@ read_numbered_spec =
     (tie.spec
     (λ c κs. search rules)
     (λ c κs. search rules)
-    (λ c. search (rules, numbered_read, c.require-that.ensures)))
+    (λ c. search (rules, numbered_read, c.require_that.ensures)))
