@@ -34,7 +34,7 @@ decreases-loop-slot net slots ok₀ node₀ slot₀ ok node slot = slots - slot
 here : (c : tie.Joined-slot-eq0 invariant-loop-count decreases-loop-count invariant-loop-slot decreases-loop-slot)
     → Here c.before.before.before.before.before.args.net c.if-slot-eq0.node c.before.before.loop-slot.slot
 unfolding node_at
-here c = ⊎_elim (λ w. record { is = search rules }) (λ w. search (w.0.left, held_here)) c.if-slot-eq0.branch
+here c = ⊎_elim (λ w. record { is = search rules }) (λ w. search (w.node-is, held_here)) c.if-slot-eq0.branch-raw
 
 pub admitted_spec : {M : Type 1} → statement M
 unfolding instruction_at process_at node_at
@@ -74,5 +74,5 @@ admitted_spec =
     (λ c. search rules)
     (λ c.
     let h = here c.before.before in
-    (search rules, ⊎_elim (λ w. search (h, busy_turn)) (λ w. search (h, free_turn)) c.if-process.branch, here_held _ _ _ h))
+    (search rules, ⊎_elim (λ w. search (h, busy_turn)) (λ w. search (h, free_turn)) c.if-process.branch-raw, here_held _ _ _ h))
     (λ c. search (rules, slots_end)))
