@@ -57,13 +57,10 @@ module _ (z : ℤ) (fits : SFits w32 z) where
       → r ≡ same_item x y
   same_as_reading x y r e q = rw (e, ← back) q
 
--- ---- past the last variable. What is known of an array says its length under a map of its elements.
-module _
-    {B : Type 0} (p : Process) (v : ℕ) (to : Variable → B)
-    (e : length (map to p.variables) ≡ 8) (h : 8 ≤ v)
-  where
+-- ---- past the last variable
+module _ (p : Process) (v : ℕ) (e : length p.variables ≡ 8) (h : 8 ≤ v) where
     short : length p.variables ≤ v
-    short = let l = length-map p.variables to in omega arith
+    short = omega arith
 
     pub variable_past : Value.Unset ≡ variable_at p v
     unfolding variable_at
@@ -98,10 +95,10 @@ unfolding bound_of fold field_at zero_tuple zero_field
 zero_fields p x = refl
 
 -- past the last record of a node there is nothing to bind but noughts
-module _ {B : Type 0} (n : Node) (i : ℕ) (to : Tuple → B) (e : length (map to n.tuples) ≡ 16) (h : 16 ≤ i) where
+module _ (n : Node) (i : ℕ) (e : length n.tuples ≡ 16) (h : 16 ≤ i) where
   none : tuple_at n i ≡ past_tuple
   unfolding tuple_at
-  none = get_or-eq_default n.tuples _ {n = i} (omega (arith, length-map n.tuples to))
+  none = get_or-eq_default n.tuples _ {n = i} (omega arith)
 
   pub bound_past :
       (p r : Process) (t : Tuple) (x : Evaluated)
