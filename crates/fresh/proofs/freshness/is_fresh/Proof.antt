@@ -13,4 +13,4 @@ is_fresh_spec =
     (λ c κs. search rules)
     (λ c κs. search rules)
     (λ c κs. search rules)
-    (λ c. fresh_tested _ _ (held_fits _ _ c.before.before.before.well-formed.0) (search (rules, and_both))))
+    (λ c. fresh_tested _ _ (held_fits _ _ c.before.before.before.well_formed.0) (search (rules, and_both))))

@@ -10,19 +10,19 @@ use borrow.Author.Rules.{rules}
 use Rattle.fresh.proofs.freshness.node_starts.Statement.{statement}
 use Rattle.fresh.proofs.freshness.node_starts.Tie as tie
 
-abbrev invariant-loop : tie.invariant-loop
-invariant-loop x n ok₀ i₀ ok i = (i ≤ 4) × ((n ≡ process_count x) × (ok ≡ all i (slot_starts x)))
+abbrev invariant-loop-i : tie.invariant-loop-i
+invariant-loop-i x n ok₀ i₀ ok i = (i ≤ 4) × ((n ≡ process_count x) × (ok ≡ all i (slot_starts x)))
 
-abbrev decreases-loop : tie.decreases-loop
-decreases-loop x n ok₀ i₀ ok i = 4 - i
+abbrev decreases-loop-i : tie.decreases-loop-i
+decreases-loop-i x n ok₀ i₀ ok i = 4 - i
 
 pub node_starts_spec : {M : Type 1} → statement M
 unfolding node_starts slot_starts process_at
 node_starts_spec =
     tie.close
     (tie.spec
-    invariant-loop
-    decreases-loop
+    invariant-loop-i
+    decreases-loop-i
     (λ c κs. search rules)
     (λ c. search (rules, all_none))
     (λ c. search rules)

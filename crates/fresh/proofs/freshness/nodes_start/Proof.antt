@@ -9,19 +9,19 @@ use borrow.Author.Rules.{rules}
 use Rattle.fresh.proofs.freshness.nodes_start.Statement.{statement}
 use Rattle.fresh.proofs.freshness.nodes_start.Tie as tie
 
-abbrev invariant-loop : tie.invariant-loop
-invariant-loop net ok₀ i₀ ok i = (i ≤ 16) × (ok ≡ all i (λ a. starts_at net (address_of a)))
+abbrev invariant-loop-i : tie.invariant-loop-i
+invariant-loop-i net ok₀ i₀ ok i = (i ≤ 16) × (ok ≡ all i (λ a. starts_at net (address_of a)))
 
-abbrev decreases-loop : tie.decreases-loop
-decreases-loop net ok₀ i₀ ok i = 16 - i
+abbrev decreases-loop-i : tie.decreases-loop-i
+decreases-loop-i net ok₀ i₀ ok i = 16 - i
 
 pub nodes_start_spec : {M : Type 1} → statement M
 unfolding starts_at node_at
 nodes_start_spec =
     tie.close
     (tie.spec
-    invariant-loop
-    decreases-loop
+    invariant-loop-i
+    decreases-loop-i
     (λ c. search (rules, all_none))
     (λ c. search rules)
     (λ c. search rules)

@@ -9,19 +9,19 @@ use borrow.Author.Rules.{rules}
 use Rattle.fresh.proofs.freshness.own_origins.Statement.{statement}
 use Rattle.fresh.proofs.freshness.own_origins.Tie as tie
 
-abbrev invariant-loop : tie.invariant-loop
-invariant-loop a x ok₀ i₀ ok i = (i ≤ 4) × (ok ≡ all i (own_origin a x))
+abbrev invariant-loop-i : tie.invariant-loop-i
+invariant-loop-i a x ok₀ i₀ ok i = (i ≤ 4) × (ok ≡ all i (own_origin a x))
 
-abbrev decreases-loop : tie.decreases-loop
-decreases-loop a x ok₀ i₀ ok i = 4 - i
+abbrev decreases-loop-i : tie.decreases-loop-i
+decreases-loop-i a x ok₀ i₀ ok i = 4 - i
 
 pub own_origins_spec : {M : Type 1} → statement M
 unfolding own_origins own_origin process_at
 own_origins_spec =
     tie.close
     (tie.spec
-    invariant-loop
-    decreases-loop
+    invariant-loop-i
+    decreases-loop-i
     (λ c. search (rules, all_none))
     (λ c. search rules)
     (λ c. search rules)
