@@ -10,4 +10,4 @@ refused_spec =
     tie.close
     (tie.spec
     (λ c κs. search rules)
-    (λ c. simp c.free.ensures))
+    (λ c. simp c.free-process.ensures))

@@ -11,19 +11,19 @@ use borrow.Author.Rules.{rules}
 use Rattle.plans.proofs.plan.tuple_of.Statement.{statement}
 use Rattle.plans.proofs.plan.tuple_of.Tie as tie
 
-abbrev invariant-loop : tie.invariant-loop
-invariant-loop e t₀ i₀ t i = (i ≤ 4) × (t ≡ fold i (λ j u. choose (ltb j e.count) (with_field u (record { item = item_of (want_at e j) })) u) zero_tuple)
+abbrev invariant-loop-i : tie.invariant-loop-i
+invariant-loop-i e t₀ i₀ t i = (i ≤ 4) × (t ≡ fold i (λ j u. choose (ltb j e.count) (with_field u (record { item = item_of (want_at e j) })) u) zero_tuple)
 
-abbrev decreases-loop : tie.decreases-loop
-decreases-loop e t₀ i₀ t i = 4 - i
+abbrev decreases-loop-i : tie.decreases-loop-i
+decreases-loop-i e t₀ i₀ t i = 4 - i
 
 pub tuple_of_spec : {M : Type 1} → statement M
 unfolding tuple_of
 tuple_of_spec =
     tie.close
     (tie.spec
-    invariant-loop
-    decreases-loop
+    invariant-loop-i
+    decreases-loop-i
     (λ c κs. search rules)
     (λ c. search (rules, fold_none))
     (λ c κs. search rules)

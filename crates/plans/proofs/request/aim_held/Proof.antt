@@ -11,4 +11,4 @@ aim_held_spec =
     (tie.spec
     (λ c κs. search rules)
     (λ c κs. search rules)
-    (λ c. c.aim_at.ensures ∙ ap aim_of c.before.variable.ensures))
+    (λ c. c.aim_at.ensures ∙ ap aim_of c.before.variable-held.ensures))

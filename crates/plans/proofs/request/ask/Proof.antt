@@ -12,4 +12,4 @@ ask_spec =
     (tie.spec
     (λ c κs. search rules)
     (λ c κs. search rules)
-    (λ c. (c.request_of-request.ensures ∙ ap (λ e. asked c.before.before.args.a c.before.before.args.p e c.before.before.args.c.action) c.before.evaluate.ensures, c.before.evaluate.ensures)))
+    (λ c. (c.request_of-request.ensures ∙ ap (λ e. asked c.before.before.args.a c.before.before.args.p e c.before.before.args.c.action) c.before.evaluate-template.ensures, c.before.evaluate-template.ensures)))
