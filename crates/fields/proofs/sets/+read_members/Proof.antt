@@ -23,8 +23,8 @@ at t = and 1 kinds.ps (is 1 kinds.ps μ t) reads.Pre
 abbrev below : ℕ → In 1 kinds.ps
 below t = and 1 kinds.ps (falls 1 kinds.ps ◌<◌ μ t) reads.Pre
 
-pub +read-members-spec : {M : Type 1} → statement M
-+read-members-spec = close μ λ t. lts.spec (
+pub +read_members_spec : {M : Type 1} → statement M
++read_members_spec = close μ λ t. lts.spec (
   no_member.Asked,
   no_member.Learnt,
   read-member.Asked,

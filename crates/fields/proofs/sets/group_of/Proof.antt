@@ -5,18 +5,18 @@ use borrow.Author.Rules.{rules}
 use Rattle.fields.proofs.sets.group_of.Statement.{statement}
 use Rattle.fields.proofs.sets.group_of.Tie as tie
 
-abbrev invariant-loop : tie.invariant-loop
-invariant-loop marks bits₀ i₀ bits i = Bits marks i bits
+abbrev invariant-loop-i : tie.invariant-loop-i
+invariant-loop-i marks bits₀ i₀ bits i = Bits marks i bits
 
-abbrev decreases-loop : tie.decreases-loop
-decreases-loop marks bits₀ i₀ bits i = 16 - i
+abbrev decreases-loop-i : tie.decreases-loop-i
+decreases-loop-i marks bits₀ i₀ bits i = 16 - i
 
 pub group_of_spec : {M : Type 1} → statement M
 group_of_spec =
     tie.close
     (tie.spec
-    invariant-loop
-    decreases-loop
+    invariant-loop-i
+    decreases-loop-i
     (λ c. search (rules, bits_none))
     (λ c. search rules)
     (λ c κs. search rules)

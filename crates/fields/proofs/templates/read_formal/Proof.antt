@@ -11,4 +11,4 @@ read_formal_spec =
     (λ c κs. search rules)
     (λ c κs. search rules)
     (λ c κs. search rules)
-    (λ c. search (rules, formal_parts, c.before.before.require-that.ensures)))
+    (λ c. search (rules, formal_parts, c.before.before.require_that-allowed.ensures)))

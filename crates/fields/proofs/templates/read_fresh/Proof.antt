@@ -11,4 +11,4 @@ read_fresh_spec =
     (λ c κs. search rules)
     (λ c κs. search rules)
     (λ c κs. search rules)
-    (λ c. search (rules, fresh_parts, c.require-that.ensures)))
+    (λ c. search (rules, fresh_parts, c.require_that-next.ensures)))

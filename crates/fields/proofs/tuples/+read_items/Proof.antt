@@ -22,8 +22,8 @@ at t = and 1 kinds.ps (is 1 kinds.ps μ t) reads.Pre
 abbrev below : ℕ → In 1 kinds.ps
 below t = and 1 kinds.ps (falls 1 kinds.ps ◌<◌ μ t) reads.Pre
 
-pub +read-items-spec : {M : Type 1} → statement M
-+read-items-spec = close μ λ t. lts.spec (
+pub +read_items_spec : {M : Type 1} → statement M
++read_items_spec = close μ λ t. lts.spec (
   no_field.Asked,
   no_field.Learnt,
   read-field.Asked,

@@ -12,4 +12,4 @@ read_negative_spec =
     (λ c κs. search rules)
     (λ c κs. search rules)
     (λ c κs. search rules)
-    (λ c. search (rules, negative_parts, c.require-that.ensures)))
+    (λ c. search (rules, negative_parts, c.require_that-next.ensures)))

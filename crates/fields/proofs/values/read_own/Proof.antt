@@ -10,6 +10,5 @@ unfolding own bytes
 read_own_spec =
     tie.close
     (tie.spec
-    (λ c. search rules)
     (λ c κs. search rules)
     (λ c. search rules))

@@ -170,10 +170,10 @@ read_chain_inv_loop s d scope n table₀ used₀ next₀ count₀ left₀ table 
 abbrev read-chain-μ-loop : read-chain-lts.decreases-loop
 read-chain-μ-loop s d scope n table₀ used₀ next₀ count₀ left₀ table used next count left = left
 
-pub +read-action-read-branches-read-chain-read-end-read-eval-read-fork-read-level-read-second-read-started-spec :
+pub +read_action_read_branches_read_chain_read_end_read_eval_read_fork_read_level_read_second_read_started_spec :
     {M : Type 1} → statement M
 unfolding bytes
-+read-action-read-branches-read-chain-read-end-read-eval-read-fork-read-level-read-second-read-started-spec =
++read_action_read_branches_read_chain_read_end_read_eval_read_fork_read_level_read_second_read_started_spec =
     close
     μ-read-action
     μ-read-branches
