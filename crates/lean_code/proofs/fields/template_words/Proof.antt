@@ -10,19 +10,19 @@ use borrow.Author.Rules.{rules}
 use Rattle.lean_code.proofs.fields.template_words.Statement.{statement}
 use Rattle.lean_code.proofs.fields.template_words.Tie as tie
 
-abbrev invariant-loop : tie.invariant-loop
-invariant-loop c words₀ i₀ words i = (i ≤ 4) × (words ≡ filled i (λ j. field_words (pattern_at c j)) (replicate 4 (replicate 4 0)))
+abbrev invariant-loop-i : tie.invariant-loop-i
+invariant-loop-i c words₀ i₀ words i = (i ≤ 4) × (words ≡ filled i (λ j. field_words (pattern_at c j)) (replicate 4 (replicate 4 0)))
 
-abbrev decreases-loop : tie.decreases-loop
-decreases-loop c words₀ i₀ words i = 4 - i
+abbrev decreases-loop-i : tie.decreases-loop-i
+decreases-loop-i c words₀ i₀ words i = 4 - i
 
 pub template_words_spec : {M : Type 1} → statement M
 unfolding template_words pattern_at
 template_words_spec =
     tie.close
     (tie.spec
-    invariant-loop
-    decreases-loop
+    invariant-loop-i
+    decreases-loop-i
     (λ c. search (rules, filled_none))
     (λ c. search rules)
     (λ c. search rules)

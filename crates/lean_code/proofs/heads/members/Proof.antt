@@ -12,19 +12,19 @@ use borrow.Author.Rules.{rules}
 use Rattle.lean_code.proofs.heads.members.Statement.{statement}
 use Rattle.lean_code.proofs.heads.members.Tie as tie
 
-abbrev invariant-loop : tie.invariant-loop
-invariant-loop g flags₀ l₀ flags l = (l ≤ 16) × (flags ≡ filled l (λ i. member g (address_of i)) (replicate 16 false))
+abbrev invariant-loop-l : tie.invariant-loop-l
+invariant-loop-l g flags₀ l₀ flags l = (l ≤ 16) × (flags ≡ filled l (λ i. member g (address_of i)) (replicate 16 false))
 
-abbrev decreases-loop : tie.decreases-loop
-decreases-loop g flags₀ l₀ flags l = 16 - l
+abbrev decreases-loop-l : tie.decreases-loop-l
+decreases-loop-l g flags₀ l₀ flags l = 16 - l
 
 pub members_spec : {M : Type 1} → statement M
 unfolding member_flags
 members_spec =
     tie.close
     (tie.spec
-    invariant-loop
-    decreases-loop
+    invariant-loop-l
+    decreases-loop-l
     (λ c. search (rules, filled_none))
     (λ c. search rules)
     (λ c κs. search rules)

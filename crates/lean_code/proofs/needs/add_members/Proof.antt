@@ -9,19 +9,19 @@ use borrow.Author.Rules.{rules}
 use Rattle.lean_code.proofs.needs.add_members.Statement.{statement}
 use Rattle.lean_code.proofs.needs.add_members.Tie as tie
 
-abbrev invariant-loop : tie.invariant-loop
-invariant-loop need₀ g l₀ need l = (l ≤ 16) × (need ≡ fold l (add_member g) need₀)
+abbrev invariant-loop-l : tie.invariant-loop-l
+invariant-loop-l need₀ g l₀ need l = (l ≤ 16) × (need ≡ fold l (add_member g) need₀)
 
-abbrev decreases-loop : tie.decreases-loop
-decreases-loop need₀ g l₀ need l = 16 - l
+abbrev decreases-loop-l : tie.decreases-loop-l
+decreases-loop-l need₀ g l₀ need l = 16 - l
 
 pub add_members_spec : {M : Type 1} → statement M
 unfolding add_members
 add_members_spec =
     tie.close
     (tie.spec
-    invariant-loop
-    decreases-loop
+    invariant-loop-l
+    decreases-loop-l
     (λ c. search (rules, fold_none))
     (λ c. search rules)
     (λ c. search rules)

@@ -12,19 +12,19 @@ use borrow.Author.Rules.{rules}
 use Rattle.lean_code.proofs.needs.needs_from.Statement.{statement}
 use Rattle.lean_code.proofs.needs.needs_from.Tie as tie
 
-abbrev invariant-loop : tie.invariant-loop
-invariant-loop code marks need₀ q₀ need q = (q ≤ 512) × (need ≡ fold q (add_reached code marks) (replicate 69 false))
+abbrev invariant-loop-q : tie.invariant-loop-q
+invariant-loop-q code marks need₀ q₀ need q = (q ≤ 512) × (need ≡ fold q (add_reached code marks) (replicate 69 false))
 
-abbrev decreases-loop : tie.decreases-loop
-decreases-loop code marks need₀ q₀ need q = 512 - q
+abbrev decreases-loop-q : tie.decreases-loop-q
+decreases-loop-q code marks need₀ q₀ need q = 512 - q
 
 pub needs_from_spec : {M : Type 1} → statement M
 unfolding instruction_at add_reached
 needs_from_spec =
     tie.close
     (tie.spec
-    invariant-loop
-    decreases-loop
+    invariant-loop-q
+    decreases-loop-q
     (λ c κs. search rules)
     (λ c. search (rules, fold_none))
     (λ c. search rules)
