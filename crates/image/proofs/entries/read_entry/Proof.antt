@@ -15,4 +15,4 @@ read_entry_spec =
     (λ c κs. search rules)
     (λ c κs. search rules)
     (λ c κs. search rules)
-    (λ c. search (rules, entry_parts, c.require-in.ensures)))
+    (λ c. search (rules, entry_parts, c.require_in.ensures)))

@@ -10,19 +10,19 @@ use borrow.Author.Rules.{rules}
 use Rattle.image.proofs.entries.read_nodes.Statement.{statement}
 use Rattle.image.proofs.entries.read_nodes.Tie as tie
 
-abbrev invariant-loop : tie.invariant-loop
-invariant-loop s n net k code step₀ i₀ step i = Loop (seen s) step₀ n (λ a. entries_of net (address_of a)) tt step i tt
+abbrev invariant-loop-i : tie.invariant-loop-i
+invariant-loop-i s n net k code step₀ i₀ step i = Loop (seen s) step₀ n (λ a. entries_of net (address_of a)) tt step i tt
 
-abbrev decreases-loop : tie.decreases-loop
-decreases-loop s n net k code step₀ i₀ step i = n - i
+abbrev decreases-loop-i : tie.decreases-loop-i
+decreases-loop-i s n net k code step₀ i₀ step i = n - i
 
 pub read_nodes_spec : {M : Type 1} → statement M
 unfolding node_at each_address
 read_nodes_spec =
     tie.close
     (tie.spec
-    invariant-loop
-    decreases-loop
+    invariant-loop-i
+    decreases-loop-i
     (λ c. search (rules, begin))
     (λ c. search rules)
     (λ c. search rules)

@@ -8,18 +8,18 @@ use borrow.Author.Rules.{rules}
 use Rattle.image.proofs.entries.read_slots.Statement.{statement}
 use Rattle.image.proofs.entries.read_slots.Tie as tie
 
-abbrev invariant-loop : tie.invariant-loop
-invariant-loop s k code a x count step₀ i₀ step i = Loop (seen s) step₀ count (entry k code a x) tt step i tt
+abbrev invariant-loop-i : tie.invariant-loop-i
+invariant-loop-i s k code a x count step₀ i₀ step i = Loop (seen s) step₀ count (entry k code a x) tt step i tt
 
-abbrev decreases-loop : tie.decreases-loop
-decreases-loop s k code a x count step₀ i₀ step i = count - i
+abbrev decreases-loop-i : tie.decreases-loop-i
+decreases-loop-i s k code a x count step₀ i₀ step i = count - i
 
 pub read_slots_spec : {M : Type 1} → statement M
 read_slots_spec =
     tie.close
     (tie.spec
-    invariant-loop
-    decreases-loop
+    invariant-loop-i
+    decreases-loop-i
     (λ c. search (rules, begin))
     (λ c κs. search rules)
     (λ c. search rules)

@@ -10,4 +10,4 @@ creating_row_spec =
     tie.close
     (tie.spec
     (λ c κs. search rules)
-    (λ c. simp c.zero.ensures))
+    (λ c. simp c.zero-row.ensures))

@@ -8,19 +8,19 @@ use borrow.Author.Rules.{rules}
 use Rattle.image.proofs.rows.read_by_origin.Statement.{statement}
 use Rattle.image.proofs.rows.read_by_origin.Tie as tie
 
-abbrev invariant-loop : tie.invariant-loop
-invariant-loop s n rows₀ step₀ i₀ rows step i =
+abbrev invariant-loop-i : tie.invariant-loop-i
+invariant-loop-i s n rows₀ step₀ i₀ rows step i =
     PartLoop with_rows (seen s) step₀ n (λ o. row_from n (address_of o)) rows₀ step i rows
 
-abbrev decreases-loop : tie.decreases-loop
-decreases-loop s n rows₀ step₀ i₀ rows step i = n - i
+abbrev decreases-loop-i : tie.decreases-loop-i
+decreases-loop-i s n rows₀ step₀ i₀ rows step i = n - i
 
 pub read_by_origin_spec : {M : Type 1} → statement M
 read_by_origin_spec =
     tie.close
     (tie.spec
-    invariant-loop
-    decreases-loop
+    invariant-loop-i
+    decreases-loop-i
     (λ c. search (rules, part_begin))
     (λ c κs. search rules)
     (λ c. search rules)

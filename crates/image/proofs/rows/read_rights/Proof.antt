@@ -10,19 +10,19 @@ use borrow.Author.Rules.{rules}
 use Rattle.image.proofs.rows.read_rights.Statement.{statement}
 use Rattle.image.proofs.rows.read_rights.Tie as tie
 
-abbrev invariant-loop : tie.invariant-loop
-invariant-loop s n row₀ step₀ i₀ row step i = Loop (seen s) step₀ n (λ l. rights (address_of l)) row₀ step i row
+abbrev invariant-loop-i : tie.invariant-loop-i
+invariant-loop-i s n row₀ step₀ i₀ row step i = Loop (seen s) step₀ n (λ l. rights (address_of l)) row₀ step i row
 
-abbrev decreases-loop : tie.decreases-loop
-decreases-loop s n row₀ step₀ i₀ row step i = n - i
+abbrev decreases-loop-i : tie.decreases-loop-i
+decreases-loop-i s n row₀ step₀ i₀ row step i = n - i
 
 pub read_rights_spec : {M : Type 1} → statement M
 unfolding each_address
 read_rights_spec =
     tie.close
     (tie.spec
-    invariant-loop
-    decreases-loop
+    invariant-loop-i
+    decreases-loop-i
     (λ c. search (rules, begin))
     (λ c κs. search rules)
     (λ c κs. search rules)

@@ -14,4 +14,4 @@ read_row_spec =
     (λ c κs. search rules)
     (λ c κs. search rules)
     (λ c κs. search rules)
-    (λ c. search (rules, on, ← c.before.creating-row.ensures)))
+    (λ c. search (rules, on, ← c.before.creating_row-start.ensures)))

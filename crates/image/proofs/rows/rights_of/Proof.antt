@@ -13,4 +13,4 @@ rights_of_spec =
     (λ c κs. search rules)
     (λ c κs. search rules)
     (λ c κs. search rules)
-    (λ c. simp (c.before.before.before.is-set-bit.ensures, c.before.before.is-set-bit2.ensures, c.before.is-set-bit3.ensures, c.is-set-bit4.ensures)))
+    (λ c. simp (c.before.before.before.is_set_bit-take.ensures, c.before.before.is_set_bit-read.ensures, c.before.is_set_bit-put.ensures, c.is_set_bit-send.ensures)))

@@ -8,19 +8,19 @@ use borrow.Author.Rules.{rules}
 use Rattle.image.proofs.starts.read_slots.Statement.{statement}
 use Rattle.image.proofs.starts.read_slots.Tie as tie
 
-abbrev invariant-loop : tie.invariant-loop
-invariant-loop s a k count processes₀ step₀ i₀ processes step i =
+abbrev invariant-loop-i : tie.invariant-loop-i
+invariant-loop-i s a k count processes₀ step₀ i₀ processes step i =
     PartLoop with_processes (seen s) step₀ count (process a k) processes₀ step i processes
 
-abbrev decreases-loop : tie.decreases-loop
-decreases-loop s a k count processes₀ step₀ i₀ processes step i = count - i
+abbrev decreases-loop-i : tie.decreases-loop-i
+decreases-loop-i s a k count processes₀ step₀ i₀ processes step i = count - i
 
 pub read_slots_spec : {M : Type 1} → statement M
 read_slots_spec =
     tie.close
     (tie.spec
-    invariant-loop
-    decreases-loop
+    invariant-loop-i
+    decreases-loop-i
     (λ c. search (rules, part_begin))
     (λ c κs. search rules)
     (λ c κs. search rules)

@@ -10,18 +10,18 @@ use borrow.Author.Rules.{rules}
 use Rattle.image.proofs.stores.read_fields.Statement.{statement}
 use Rattle.image.proofs.stores.read_fields.Tie as tie
 
-abbrev invariant-loop : tie.invariant-loop
-invariant-loop s n count tuple₀ step₀ i₀ tuple step i = Loop (seen s) step₀ count (tupleField n) zero_tuple step i tuple
+abbrev invariant-loop-i : tie.invariant-loop-i
+invariant-loop-i s n count tuple₀ step₀ i₀ tuple step i = Loop (seen s) step₀ count (tupleField n) zero_tuple step i tuple
 
-abbrev decreases-loop : tie.decreases-loop
-decreases-loop s n count tuple₀ step₀ i₀ tuple step i = count - i
+abbrev decreases-loop-i : tie.decreases-loop-i
+decreases-loop-i s n count tuple₀ step₀ i₀ tuple step i = count - i
 
 pub read_fields_spec : {M : Type 1} → statement M
 read_fields_spec =
     tie.close
     (tie.spec
-    invariant-loop
-    decreases-loop
+    invariant-loop-i
+    decreases-loop-i
     (λ c κs. search rules)
     (λ c. search (rules, begin_as))
     (λ c κs. search rules)
