@@ -28,12 +28,12 @@ pub made_line_law :
 unfolding made_line
 made_line_law xs at i b x a k ys r d e h = rw (← d, ← e) h
 
-pub node_lines :
+pub node_lines_law :
     (parts : Parts) (station xs : List ℕ) (at : ℕ) (a : Locality) (x : Node) (busy : ℕ) (ys zs : List ℕ) (r q : ℕ) → busy ≡ process_count x
     → Wrote xs at (printed (node_line station a x.stored busy ∷ [])) ys r → Wrote ys r (printed (tuple_lines parts a x)) zs q
     → Wrote xs at (printed (node_lines parts station a x)) zs q
 unfolding node_lines
-node_lines parts station xs at a x busy ys zs r q e h k =
+node_lines_law parts station xs at a x busy ys zs r q e h k =
     lines_then xs at _ _ _ _ _ _ (subst (λ (n : ℕ). Wrote xs at (printed (node_line station a x.stored n ∷ [])) ys r) e h) k
 
 -- past the last answer

@@ -214,14 +214,14 @@ slot_as x y p k j e h = h ∙ ap (λ (i : ℕ). with_process x i p) e
 pub low_as : (a l : Locality) → a.0 < 16 → (a.0 < 16 → l.0 < 16) → l.0 < 16
 low_as a l h f = f h
 
-pub turn_at :
+pub turn_at_law :
     (s : Net) (b : ℕ) (a : Locality) (seat : Seat) (turn : Turn)
     → a ≡ host_of b
     → seat ≡ seat_of b s.format s.addresses (node_at s a)
     → turn ≡ turn_of seat (instruction_at s.code (place_of seat.index))
     → turn ≡ turn_at s b
 unfolding turn_at seat_at
-turn_at s b a seat turn ha hs ht =
+turn_at_law s b a seat turn ha hs ht =
     ht
     ∙ ap (λ (z : Seat). turn_of z (instruction_at s.code (place_of z.index)))
     (hs ∙ ap (λ (x : Locality). seat_of b s.format s.addresses (node_at s x)) ha)

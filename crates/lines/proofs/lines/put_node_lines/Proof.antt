@@ -1,5 +1,5 @@
 -- `lines::lines::put_node_lines` meets its contract. Assumes nothing.
-use Rattle.lines.proofs.LineLaws.{node_lines}
+use Rattle.lines.proofs.LineLaws.{node_lines_law}
 use borrow.Author.Rules.{rules}
 use Rattle.lines.proofs.lines.put_node_lines.Statement.{statement}
 use Rattle.lines.proofs.lines.put_node_lines.Tie as tie
@@ -12,4 +12,4 @@ put_node_lines_spec =
     (λ c κs. search rules)
     (λ c κs. search rules)
     (λ c. search rules)
-    (λ c. search (rules, node_lines)))
+    (λ c. search (rules, node_lines_law)))

@@ -7,19 +7,19 @@ use borrow.Author.Rules.{rules}
 use Rattle.step.proofs.sharing.give_all.Statement.{statement}
 use Rattle.step.proofs.sharing.give_all.Tie as tie
 
-abbrev invariant-loop : tie.invariant-loop
-invariant-loop g t nodes₀ l₀ nodes l = (l ≤ 16) × (nodes ≡ given_below l nodes₀ g t)
+abbrev invariant-loop-l : tie.invariant-loop-l
+invariant-loop-l g t nodes₀ l₀ nodes l = (l ≤ 16) × (nodes ≡ given_below l nodes₀ g t)
 
-abbrev decreases-loop : tie.decreases-loop
-decreases-loop g t nodes₀ l₀ nodes l = 16 - l
+abbrev decreases-loop-l : tie.decreases-loop-l
+decreases-loop-l g t nodes₀ l₀ nodes l = 16 - l
 
 pub give_all_spec : {M : Type 1} → statement M
 unfolding node_in
 give_all_spec =
     tie.close
     (tie.spec
-    invariant-loop
-    decreases-loop
+    invariant-loop-l
+    decreases-loop-l
     (λ c. search (rules, given_none))
     (λ c. search rules)
     (λ c. search rules)

@@ -1,6 +1,6 @@
 -- `step::machine::Machine::turn_at` meets its contract. Assumes nothing.
 use Rattle.net.specs.Records.{node_at, instruction_at}
-use Rattle.step.proofs.TurnLaws.{turn_at}
+use Rattle.step.proofs.TurnLaws.{turn_at_law}
 use borrow.Author.Rules.{rules}
 use Rattle.step.proofs.machine.Machine.turn_at.Statement.{statement}
 use Rattle.step.proofs.machine.Machine.turn_at.Tie as tie
@@ -18,4 +18,4 @@ turn_at_spec =
     (λ c. search rules)
     (λ c. search rules)
     (λ c κs. search rules)
-    (λ c. search (rules, turn_at)))
+    (λ c. search (rules, turn_at_law)))
