@@ -24,4 +24,4 @@ read_into_spec =
     let policy = lines.before.before.before.before.before.before.before in
     let pre = policy.before.before.before.before.before.before.before.requires in
     text_read _ _ _ _ _ _ _ _ _ _ _ _ _ _ _ _ _ pre.0 pre.1.0 pre.1.1.0 pre.1.1.1.0 pre.1.1.1.1
-    (search (net_shaped, policy.read-policy.type-inv)) policy.read-policy.ensures lines.read-lines.ensures c.judge.ensures))
+    (search (net_shaped, policy.read-policy.type_inv)) policy.read-policy.ensures lines.read-lines.ensures c.judge.ensures))

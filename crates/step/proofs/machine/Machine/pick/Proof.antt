@@ -14,5 +14,5 @@ pick_spec =
     (tie.spec
     (λ c κs. search rules)
     (λ c κs. search rules)
-    (λ c. pick_keeps _ _ _ (machine_shaped _ _ c.before.before.before.before.well-formed.0) (search (rules, if_call)))
-    (λ c. pick_keeps _ _ _ (machine_shaped _ _ c.before.before.before.well-formed.0) (search (rules, if_not_call))))
+    (λ c. pick_keeps _ _ _ (machine_shaped _ _ c.before.before.before.before.well_formed.0) (search (rules, if_call)))
+    (λ c. pick_keeps _ _ _ (machine_shaped _ _ c.before.before.before.well_formed.0) (search (rules, if_not_call))))
