@@ -10,11 +10,9 @@ unfolding bytes
 read_out_spec =
     tie.close
     (tie.spec
-    (λ c. search rules)
+    (λ c κs. search rules)
+    (λ c κs. search rules)
     (λ c κs. search rules)
     (λ c κs. search rules)
     (λ c. search rules)
-    (λ c κs. search rules)
-    (λ c κs. search rules)
-    (λ c. search rules)
-    (λ c. search (rules, out_acted, c.before.before.read-receiving.ensures)))
+    (λ c. search (rules, out_acted, c.before.before.read_receiving.ensures)))

@@ -12,6 +12,6 @@ read_receiving_spec =
     (λ c κs. search rules)
     (λ c κs. search rules)
     (λ c. search rules)
-    (λ c. search (rules, receiving_all, c.before.before.read-to-all.ensures))
+    (λ c. search (rules, receiving_all, c.before.before.read_to_all.ensures))
     (λ c. search rules)
-    (λ c. search (rules, receiving_one, c.before.before.read-to-one.ensures)))
+    (λ c. search (rules, receiving_one, c.before.before.read_to_one.ensures)))

@@ -18,6 +18,6 @@ read_simple_spec =
     (λ c. search rules)
     (λ c. search (rules, simple_in, c.before.before.read_in.ensures))
     (λ c. search rules)
-    (λ c. search (rules, simple_read, c.before.before.read-read.ensures))
+    (λ c. search (rules, simple_read, c.before.before.read_read.ensures))
     (λ c. search rules)
-    (λ c. search (rules, simple_newloc, c.before.before.read-newloc.ensures)))
+    (λ c. search (rules, simple_newloc, c.before.before.read_newloc.ensures)))

@@ -164,10 +164,10 @@ read_started_below t =
     (falls 3 read-started-kinds.ps ◌<◌ μ-read-started t)
     read-started.Pre
 
-abbrev read_chain_inv_loop : read-chain-lts.invariant-loop
+abbrev read_chain_inv_loop : read-chain-lts.invariant-loop-left
 read_chain_inv_loop s d scope n table₀ used₀ next₀ count₀ left₀ table used next count left = Chained s (process_at d scope) scope next₀ left₀ n table₀ used₀ next left count table used × ((length table ≡ length table₀) × (length used ≡ length used₀))
 
-abbrev read-chain-μ-loop : read-chain-lts.decreases-loop
+abbrev read-chain-μ-loop : read-chain-lts.decreases-loop-left
 read-chain-μ-loop s d scope n table₀ used₀ next₀ count₀ left₀ table used next count left = left
 
 pub +read_action_read_branches_read_chain_read_end_read_eval_read_fork_read_level_read_second_read_started_spec :
@@ -201,7 +201,7 @@ unfolding bytes
     (λ c. search rules)
     (λ c. search (rules, action_eval))
     (λ c. search rules)
-    (λ c. search (rules, action_simple, c.before.before.read-simple.ensures)))
+    (λ c. search (rules, action_simple, c.before.before.read_simple.ensures)))
     (λ t. read-branches-lts.spec (
       read_started_below t,
       read-started.Post,
@@ -239,7 +239,7 @@ unfolding bytes
     (λ c κs. search rules)
     (λ c. search rules)
     (λ c. search rules)
-    (λ c. search (rules, chained_out, c.no-process.ensures))
+    (λ c. search (rules, chained_out, c.no_process.ensures))
     (λ c. search rules)
     (λ c. search rules)
     (λ c. search (rules, chained_end)))
@@ -260,12 +260,12 @@ unfolding bytes
     (λ c κs. search rules)
     (λ c κs. search rules)
     (λ c. search rules)
-    (λ c. search (rules, ended_name, c.before.before.read-call.ensures))
+    (λ c. search (rules, ended_name, c.before.before.read_call.ensures))
     (λ c. search rules)
     (λ c. search rules)
     (λ c. search (rules, ended_fork))
     (λ c. search rules)
-    (λ c. search (rules, ended_nil, c.before.before.read-nil.ensures)))
+    (λ c. search (rules, ended_nil, c.before.before.read_nil.ensures)))
     (λ t. read-eval-lts.spec (
       read-word-reads.Asked,
       read-word-reads.Learnt,
@@ -278,7 +278,6 @@ unfolding bytes
     )
     (read_eval_at t)
     read-eval.Post
-    (λ c. search rules)
     (λ c κs. search rules)
     (λ c κs. search rules)
     (λ c κs. search rules)
@@ -316,7 +315,7 @@ unfolding bytes
     (λ c κs. search rules)
     (λ c. search rules)
     (λ c κs. search rules)
-    (λ c. search (rules, process_none, c.no-process.ensures))
+    (λ c. search (rules, process_none, c.no_process.ensures))
     (λ c. search rules)
     (λ c. search rules)
     (λ c. search (rules, process_chain)))
@@ -328,7 +327,6 @@ unfolding bytes
     )
     (read_second_at t)
     read-second.Post
-    (λ c. search rules)
     (λ c κs. search rules)
     (λ c κs. search rules)
     (λ c. search rules)
