@@ -1,5 +1,6 @@
 // The lines of a register (document 01, "The register").
 #![tactic(auto)]
+
 pub mod lines;
 pub mod shown;
 mod words;

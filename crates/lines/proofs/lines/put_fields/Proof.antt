@@ -12,19 +12,19 @@ use borrow.Author.Rules.{rules}
 use Rattle.lines.proofs.lines.put_fields.Statement.{statement}
 use Rattle.lines.proofs.lines.put_fields.Tie as tie
 
-abbrev invariant-loop : tie.invariant-loop
-invariant-loop out₀ at t n next₀ i₀ out next i = Wrote out₀ at (spaced (joined i (λ j. item_word (field_at t j) ∷ []))) out next × (i ≤ n)
+abbrev invariant-loop-i : tie.invariant-loop-i
+invariant-loop-i out₀ at t n next₀ i₀ out next i = Wrote out₀ at (spaced (joined i (λ j. item_word (field_at t j) ∷ []))) out next × (i ≤ n)
 
-abbrev decreases-loop : tie.decreases-loop
-decreases-loop out₀ at t n next₀ i₀ out next i = n - i
+abbrev decreases-loop-i : tie.decreases-loop-i
+decreases-loop-i out₀ at t n next₀ i₀ out next i = n - i
 
 pub put_fields_spec : {M : Type 1} → statement M
 unfolding field_words field_at
 put_fields_spec =
     tie.close
     (tie.spec
-    invariant-loop
-    decreases-loop
+    invariant-loop-i
+    decreases-loop-i
     (λ c κs. search rules)
     (λ c. search (rules, parts_none spaced spaced_none spaced_both))
     (λ c. search rules)

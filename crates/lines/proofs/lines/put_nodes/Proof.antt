@@ -12,19 +12,19 @@ use borrow.Author.Rules.{rules}
 use Rattle.lines.proofs.lines.put_nodes.Statement.{statement}
 use Rattle.lines.proofs.lines.put_nodes.Tie as tie
 
-abbrev invariant-loop : tie.invariant-loop
-invariant-loop out₀ at parts site office number net n next₀ i₀ out next i = Wrote out₀ at (printed (joined i (λ j. address_lines (named_after number parts site office) net (address_of j)))) out next × (i ≤ n)
+abbrev invariant-loop-i : tie.invariant-loop-i
+invariant-loop-i out₀ at parts site office number net n next₀ i₀ out next i = Wrote out₀ at (printed (joined i (λ j. address_lines (named_after number parts site office) net (address_of j)))) out next × (i ≤ n)
 
-abbrev decreases-loop : tie.decreases-loop
-decreases-loop out₀ at parts site office number net n next₀ i₀ out next i = n - i
+abbrev decreases-loop-i : tie.decreases-loop-i
+decreases-loop-i out₀ at parts site office number net n next₀ i₀ out next i = n - i
 
 pub put_nodes_spec : {M : Type 1} → statement M
 unfolding net_lines address_lines named_after node_at
 put_nodes_spec =
     tie.close
     (tie.spec
-    invariant-loop
-    decreases-loop
+    invariant-loop-i
+    decreases-loop-i
     (λ c κs. search rules)
     (λ c. search (rules, parts_none printed printed_none printed_both))
     (λ c. search rules)

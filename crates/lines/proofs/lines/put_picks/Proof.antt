@@ -12,19 +12,19 @@ use borrow.Author.Rules.{rules}
 use Rattle.lines.proofs.lines.put_picks.Statement.{statement}
 use Rattle.lines.proofs.lines.put_picks.Tie as tie
 
-abbrev invariant-loop : tie.invariant-loop
-invariant-loop out₀ at picks answers next₀ i₀ out next i = Wrote out₀ at (printed (joined i (λ j. made_line (j + 1) (get_or picks j 0) (get_or answers j 0) ∷ []))) out next × (i ≤ length picks)
+abbrev invariant-loop-i : tie.invariant-loop-i
+invariant-loop-i out₀ at picks answers next₀ i₀ out next i = Wrote out₀ at (printed (joined i (λ j. made_line (j + 1) (get_or picks j 0) (get_or answers j 0) ∷ []))) out next × (i ≤ length picks)
 
-abbrev decreases-loop : tie.decreases-loop
-decreases-loop out₀ at picks answers next₀ i₀ out next i = length picks - i
+abbrev decreases-loop-i : tie.decreases-loop-i
+decreases-loop-i out₀ at picks answers next₀ i₀ out next i = length picks - i
 
 pub put_picks_spec : {M : Type 1} → statement M
 unfolding pick_lines
 put_picks_spec =
     tie.close
     (tie.spec
-    invariant-loop
-    decreases-loop
+    invariant-loop-i
+    decreases-loop-i
     (λ c. search (rules, parts_none printed printed_none printed_both))
     (λ c. search rules)
     (λ c. search rules)

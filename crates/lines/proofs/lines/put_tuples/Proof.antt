@@ -12,19 +12,19 @@ use borrow.Author.Rules.{rules}
 use Rattle.lines.proofs.lines.put_tuples.Statement.{statement}
 use Rattle.lines.proofs.lines.put_tuples.Tie as tie
 
-abbrev invariant-loop : tie.invariant-loop
-invariant-loop out₀ at parts a x n next₀ i₀ out next i = Wrote out₀ at (printed (joined i (λ j. tuple_line parts a (tuple_at x j) ∷ []))) out next × (i ≤ n)
+abbrev invariant-loop-i : tie.invariant-loop-i
+invariant-loop-i out₀ at parts a x n next₀ i₀ out next i = Wrote out₀ at (printed (joined i (λ j. tuple_line parts a (tuple_at x j) ∷ []))) out next × (i ≤ n)
 
-abbrev decreases-loop : tie.decreases-loop
-decreases-loop out₀ at parts a x n next₀ i₀ out next i = n - i
+abbrev decreases-loop-i : tie.decreases-loop-i
+decreases-loop-i out₀ at parts a x n next₀ i₀ out next i = n - i
 
 pub put_tuples_spec : {M : Type 1} → statement M
 unfolding tuple_lines tuple_at
 put_tuples_spec =
     tie.close
     (tie.spec
-    invariant-loop
-    decreases-loop
+    invariant-loop-i
+    decreases-loop-i
     (λ c κs. search rules)
     (λ c. search (rules, parts_none printed printed_none printed_both))
     (λ c. search rules)
