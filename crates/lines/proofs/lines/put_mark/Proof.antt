@@ -14,7 +14,6 @@ put_mark_spec =
     tie.close
     (tie.spec
     (λ c. search rules)
-    (λ c. search rules)
     (λ c κs. search rules)
     (λ c. search rules)
     (λ c. search (rules, part_shown spaced spaced_none))

@@ -11,7 +11,6 @@ unfolding net_line bytes
 put_net_spec =
     tie.close
     (tie.spec
-    (λ c. search rules)
     (λ c κs. search rules)
     (λ c κs. search rules)
     (λ c κs. search rules)

@@ -11,7 +11,6 @@ unfolding node_line bytes
 put_node_spec =
     tie.close
     (tie.spec
-    (λ c. search rules)
     (λ c κs. search rules)
     (λ c κs. search rules)
     (λ c κs. search rules)

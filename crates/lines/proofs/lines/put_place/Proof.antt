@@ -13,7 +13,6 @@ unfolding place_words bytes
 put_place_spec =
     tie.close
     (tie.spec
-    (λ c. search rules)
     (λ c κs. search rules)
     (λ c. search rules)
     (λ c. search (rules, part_shown spaced spaced_none))

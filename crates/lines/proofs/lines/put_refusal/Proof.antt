@@ -11,7 +11,6 @@ unfolding refusal_line bytes
 put_refusal_spec =
     tie.close
     (tie.spec
-    (λ c. search rules)
     (λ c κs. search rules)
     (λ c κs. search rules)
     (λ c κs. search rules)

@@ -11,7 +11,6 @@ unfolding total_line bytes
 put_total_spec =
     tie.close
     (tie.spec
-    (λ c. search rules)
     (λ c κs. search rules)
     (λ c κs. search rules)
     (λ c κs. search rules)

@@ -11,7 +11,6 @@ unfolding tuple_line bytes
 put_tuple_spec =
     tie.close
     (tie.spec
-    (λ c. search rules)
     (λ c κs. search rules)
     (λ c. search rules)
     (λ c κs. search rules)
