@@ -10,19 +10,19 @@ use borrow.Author.Rules.{rules}
 use Rattle.layout.proofs.nodes.put_all_tuples.Statement.{statement}
 use Rattle.layout.proofs.nodes.put_all_tuples.Tie as tie
 
-abbrev invariant-loop : tie.invariant-loop
-invariant-loop out₀ at net n next₀ i₀ out next i = Wrote out₀ at (joined i (λ j. tuples_bits (node_at net (address_of j)))) out next × ((i ≤ n) × (n ≤ 16))
+abbrev invariant-loop-i : tie.invariant-loop-i
+invariant-loop-i out₀ at net n next₀ i₀ out next i = Wrote out₀ at (joined i (λ j. tuples_bits (node_at net (address_of j)))) out next × ((i ≤ n) × (n ≤ 16))
 
-abbrev decreases-loop : tie.decreases-loop
-decreases-loop out₀ at net n next₀ i₀ out next i = n - i
+abbrev decreases-loop-i : tie.decreases-loop-i
+decreases-loop-i out₀ at net n next₀ i₀ out next i = n - i
 
 pub put_all_tuples_spec : {M : Type 1} → statement M
 unfolding all_tuples_bits node_at
 put_all_tuples_spec =
     tie.close
     (tie.spec
-    invariant-loop
-    decreases-loop
+    invariant-loop-i
+    decreases-loop-i
     (λ c. search (rules, joined_none))
     (λ c. search rules)
     (λ c. search rules)

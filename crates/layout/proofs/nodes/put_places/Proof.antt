@@ -9,19 +9,19 @@ use borrow.Author.Rules.{rules}
 use Rattle.layout.proofs.nodes.put_places.Statement.{statement}
 use Rattle.layout.proofs.nodes.put_places.Tie as tie
 
-abbrev invariant-loop : tie.invariant-loop
-invariant-loop out₀ at n x next₀ i₀ out next i = Wrote out₀ at (joined i (λ j. place_bits (process_at x j).at)) out next × ((i ≤ n) × (n ≤ 4))
+abbrev invariant-loop-i : tie.invariant-loop-i
+invariant-loop-i out₀ at n x next₀ i₀ out next i = Wrote out₀ at (joined i (λ j. place_bits (process_at x j).at)) out next × ((i ≤ n) × (n ≤ 4))
 
-abbrev decreases-loop : tie.decreases-loop
-decreases-loop out₀ at n x next₀ i₀ out next i = n - i
+abbrev decreases-loop-i : tie.decreases-loop-i
+decreases-loop-i out₀ at n x next₀ i₀ out next i = n - i
 
 pub put_places_spec : {M : Type 1} → statement M
 unfolding process_at
 put_places_spec =
     tie.close
     (tie.spec
-    invariant-loop
-    decreases-loop
+    invariant-loop-i
+    decreases-loop-i
     (λ c. search (rules, joined_none))
     (λ c. search rules)
     (λ c. search rules)
