@@ -1,4 +1,5 @@
 // Nets in the planners' notation.
 #![tactic(auto)]
+
 mod lines;
 pub mod reading;

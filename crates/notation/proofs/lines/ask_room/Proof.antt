@@ -8,4 +8,4 @@ ask_room_spec =
     tie.close
     (tie.spec
     (λ c κs. search rules)
-    (λ c. search (rules, c.require-that.ensures)))
+    (λ c. search (rules, c.require_that.ensures)))

@@ -9,14 +9,14 @@ use borrow.Author.Rules.{rules}
 use Rattle.notation.proofs.lines.read_lines.Statement.{statement}
 use Rattle.notation.proofs.lines.read_lines.Tie as tie
 
-abbrev invariant-loop : tie.invariant-loop
-invariant-loop s table₀ uses₀ bodies₀ defs₀ starts₀ scope net₀ next₀ count₀ twice₀ left₀ table uses bodies defs starts net next count twice left =
+abbrev invariant-loop-scope : tie.invariant-loop-scope
+invariant-loop-scope s table₀ uses₀ bodies₀ defs₀ starts₀ scope net₀ next₀ count₀ twice₀ left₀ table uses bodies defs starts net next count twice left =
     Lining s next₀ scope (state 0 table₀ uses₀ bodies₀ defs₀ twice₀ starts₀ net₀) next left (state count table uses bodies defs twice starts net)
     × ((length table ≡ length table₀) × ((length uses ≡ length uses₀) × ((length bodies ≡ length bodies₀)
     × ((length defs ≡ length defs₀) × (length starts ≡ length starts₀)))))
 
-abbrev decreases-loop : tie.decreases-loop
-decreases-loop s table₀ uses₀ bodies₀ defs₀ starts₀ scope net₀ next₀ count₀ twice₀ left₀ table uses bodies defs starts net next count twice left =
+abbrev decreases-loop-scope : tie.decreases-loop-scope
+decreases-loop-scope s table₀ uses₀ bodies₀ defs₀ starts₀ scope net₀ next₀ count₀ twice₀ left₀ table uses bodies defs starts net next count twice left =
     left
 
 pub read_lines_spec : {M : Type 1} → statement M
@@ -24,8 +24,8 @@ unfolding node_at with_node scope_in state
 read_lines_spec =
     tie.close
     (tie.spec
-    invariant-loop
-    decreases-loop
+    invariant-loop-scope
+    decreases-loop-scope
     (λ c. search (rules, lines_begin))
     (λ c κs. search rules)
     (λ c. search (rules, more_left))
@@ -40,10 +40,10 @@ read_lines_spec =
     let line = c.before.before.before.before.before.before.before.before.before.before.before in
     let owner = line.before.before.before.before.before.before.before in
     let test = owner.before in
-    let inv = test.before.before.loop.invariant in
-    let kept = line.read-line.auto in (
-      lines_more _ _ _ _ _ _ _ _ _ _ _ _ _ _ _ _ _ _ _ _ _ _ _ _ _ _ _ _ _ _ _ test.if1.true test.before.goes_on.ensures inv.0 owner.owner_at.ensures line.read-line.ensures,
-      (kept.1.1.1.1.1.1.0 ∙ inv.1.0, (kept.1.1.1.1.1.1.1.0 ∙ inv.1.1.0, (kept.1.1.1.1.1.1.1.1.0 ∙ inv.1.1.1.0, (kept.1.1.1.1.1.1.1.1.1.0 ∙ inv.1.1.1.1.0, kept.1.1.1.1.1.1.1.1.1.1.0 ∙ inv.1.1.1.1.1)))),
+    let inv = test.before.before.loop-scope.invariant in
+    let kept = line.read_line-read.auto in (
+      lines_more _ _ _ _ _ _ _ _ _ _ _ _ _ _ _ _ _ _ _ _ _ _ _ _ _ _ _ _ _ _ _ test.loop-scope-test.true test.before.goes_on.ensures inv.0 owner.owner_at-at.ensures line.read_line-read.ensures,
+      (kept.table ∙ inv.1.0, (kept.uses ∙ inv.1.1.0, (kept.bodies ∙ inv.1.1.1.0, (kept.defs ∙ inv.1.1.1.1.0, kept.starts ∙ inv.1.1.1.1.1)))),
     ))
     (λ c. search rules)
     (λ c. search rules)

@@ -12,7 +12,7 @@ read_placed_spec =
     (λ c κs. search rules)
     (λ c κs. search rules)
     (λ c κs. search rules)
-    (λ c. search (rules, tuple_placed, c.read-tuple-line.ensures))
+    (λ c. search (rules, tuple_placed, c.read_tuple_line.ensures))
     (λ c. search rules)
     (λ c. search rules)
     (λ c. search rules)

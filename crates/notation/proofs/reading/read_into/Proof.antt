@@ -20,8 +20,8 @@ read_into_spec =
     (λ c. search rules)
     (λ c. search rules)
     (λ c.
-    let lines = c.before.before.before.before.before.before.before.before.before.before.before.before.before.before.before.before in
+    let lines = c.before.before.before.before.before.before.before.before.before.before.before in
     let policy = lines.before.before.before.before.before.before.before in
     let pre = policy.before.before.before.before.before.before.before.requires in
     text_read _ _ _ _ _ _ _ _ _ _ _ _ _ _ _ _ _ pre.0 pre.1.0 pre.1.1.0 pre.1.1.1.0 pre.1.1.1.1
-    (search (net_shaped, policy.read-policy.type_inv)) policy.read-policy.ensures lines.read-lines.ensures c.judge.ensures))
+    (search (net_shaped, policy.read_policy-policy.type_inv)) policy.read_policy-policy.ensures lines.read_lines-lines.ensures c.judge.ensures))
