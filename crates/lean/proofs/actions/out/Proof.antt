@@ -1,5 +1,5 @@
 -- `lean::actions::out` meets its contract: the target's answer, or what comes of the put. Assumes nothing.
-use Rattle.lean.proofs.ActionCode.{out-refused, out-reached}
+use Rattle.lean.proofs.ActionCode.{out_refused, out_reached}
 use borrow.Author.Rules.{rules}
 use Rattle.lean.proofs.actions.out.Statement.{statement}
 use Rattle.lean.proofs.actions.out.Tie as tie
@@ -15,6 +15,6 @@ out_spec =
     (λ c. search rules)
     (λ c. search rules)
     (λ c κs. search rules)
-    (λ c. search (rules, out-refused))
+    (λ c. search (rules, out_refused))
     (λ c κs. search rules)
-    (λ c. search (rules, out-reached)))
+    (λ c. search (rules, out_reached)))

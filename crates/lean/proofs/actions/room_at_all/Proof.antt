@@ -12,19 +12,19 @@ use borrow.Author.Rules.{rules}
 use Rattle.lean.proofs.actions.room_at_all.Statement.{statement}
 use Rattle.lean.proofs.actions.room_at_all.Tie as tie
 
-abbrev invariant-loop : tie.invariant-loop
-invariant-loop stored set ok₀ l₀ ok l = (l ≤ 16) × (ok ≡ all l (λ i. implies (get_or set i false) (ltb (get_or stored i 0) 16)))
+abbrev invariant-loop-l : tie.invariant-loop-l
+invariant-loop-l stored set ok₀ l₀ ok l = (l ≤ 16) × (ok ≡ all l (λ i. implies (get_or set i false) (ltb (get_or stored i 0) 16)))
 
-abbrev decreases-loop : tie.decreases-loop
-decreases-loop stored set ok₀ l₀ ok l = 16 - l
+abbrev decreases-loop-l : tie.decreases-loop-l
+decreases-loop-l stored set ok₀ l₀ ok l = 16 - l
 
 pub room_at_all_spec : {M : Type 1} → statement M
 unfolding room_in
 room_at_all_spec =
     tie.close
     (tie.spec
-    invariant-loop
-    decreases-loop
+    invariant-loop-l
+    decreases-loop-l
     (λ c. search (rules, all_none))
     (λ c. search rules)
     (λ c. search rules)

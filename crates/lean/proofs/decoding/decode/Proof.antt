@@ -6,19 +6,19 @@ use borrow.Author.Rules.{rules}
 use Rattle.lean.proofs.decoding.decode.Statement.{statement}
 use Rattle.lean.proofs.decoding.decode.Tie as tie
 
-abbrev invariant-loop : tie.invariant-loop
-invariant-loop n procs stored tuples rows net₀ a₀ net a = Decoding net₀ (words_with n procs stored tuples rows) net a
+abbrev invariant-loop-a : tie.invariant-loop-a
+invariant-loop-a n procs stored tuples rows net₀ a₀ net a = Decoding net₀ (words_with n procs stored tuples rows) net a
 
-abbrev decreases-loop : tie.decreases-loop
-decreases-loop n procs stored tuples rows net₀ a₀ net a = 16 - a
+abbrev decreases-loop-a : tie.decreases-loop-a
+decreases-loop-a n procs stored tuples rows net₀ a₀ net a = 16 - a
 
 pub decode_spec : {M : Type 1} → statement M
 unfolding node_in net_in
 decode_spec =
     tie.close
     (tie.spec
-    invariant-loop
-    decreases-loop
+    invariant-loop-a
+    decreases-loop-a
     (λ c. search (rules, decoding_none))
     (λ c. search rules)
     (λ c. search rules)

@@ -13,19 +13,19 @@ use borrow.Author.Rules.{rules}
 use Rattle.lean.proofs.decoding.processes_of.Statement.{statement}
 use Rattle.lean.proofs.decoding.processes_of.Tie as tie
 
-abbrev invariant-loop : tie.invariant-loop
-invariant-loop slots all₀ k₀ all k = (k ≤ 4) × (all ≡ filled k (λ i. process_in (get_or slots i [])) (replicate 4 free_process))
+abbrev invariant-loop-k : tie.invariant-loop-k
+invariant-loop-k slots all₀ k₀ all k = (k ≤ 4) × (all ≡ filled k (λ i. process_in (get_or slots i [])) (replicate 4 free_process))
 
-abbrev decreases-loop : tie.decreases-loop
-decreases-loop slots all₀ k₀ all k = 4 - k
+abbrev decreases-loop-k : tie.decreases-loop-k
+decreases-loop-k slots all₀ k₀ all k = 4 - k
 
 pub processes_of_spec : {M : Type 1} → statement M
 unfolding processes_in
 processes_of_spec =
     tie.close
     (tie.spec
-    invariant-loop
-    decreases-loop
+    invariant-loop-k
+    decreases-loop-k
     (λ c κs. search rules)
     (λ c. search (rules, four_alike))
     (λ c. search rules)

@@ -13,19 +13,19 @@ use borrow.Author.Rules.{rules}
 use Rattle.lean.proofs.decoding.rows_of.Statement.{statement}
 use Rattle.lean.proofs.decoding.rows_of.Tie as tie
 
-abbrev invariant-loop : tie.invariant-loop
-invariant-loop policy all₀ o₀ all o = (o ≤ 16) × (all ≡ filled o (λ i. row_in (get_or policy i [])) (replicate 16 zero_row))
+abbrev invariant-loop-o : tie.invariant-loop-o
+invariant-loop-o policy all₀ o₀ all o = (o ≤ 16) × (all ≡ filled o (λ i. row_in (get_or policy i [])) (replicate 16 zero_row))
 
-abbrev decreases-loop : tie.decreases-loop
-decreases-loop policy all₀ o₀ all o = 16 - o
+abbrev decreases-loop-o : tie.decreases-loop-o
+decreases-loop-o policy all₀ o₀ all o = 16 - o
 
 pub rows_of_spec : {M : Type 1} → statement M
 unfolding rows_in
 rows_of_spec =
     tie.close
     (tie.spec
-    invariant-loop
-    decreases-loop
+    invariant-loop-o
+    decreases-loop-o
     (λ c κs. search rules)
     (λ c. search (rules, sixteen_alike))
     (λ c. search rules)

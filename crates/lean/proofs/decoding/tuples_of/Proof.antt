@@ -13,19 +13,19 @@ use borrow.Author.Rules.{rules}
 use Rattle.lean.proofs.decoding.tuples_of.Statement.{statement}
 use Rattle.lean.proofs.decoding.tuples_of.Tie as tie
 
-abbrev invariant-loop : tie.invariant-loop
-invariant-loop store all₀ i₀ all i = (i ≤ 16) × (all ≡ filled i (λ j. tuple_in (get_or store j [])) (replicate 16 zero_tuple))
+abbrev invariant-loop-i : tie.invariant-loop-i
+invariant-loop-i store all₀ i₀ all i = (i ≤ 16) × (all ≡ filled i (λ j. tuple_in (get_or store j [])) (replicate 16 zero_tuple))
 
-abbrev decreases-loop : tie.decreases-loop
-decreases-loop store all₀ i₀ all i = 16 - i
+abbrev decreases-loop-i : tie.decreases-loop-i
+decreases-loop-i store all₀ i₀ all i = 16 - i
 
 pub tuples_of_spec : {M : Type 1} → statement M
 unfolding tuples_in
 tuples_of_spec =
     tie.close
     (tie.spec
-    invariant-loop
-    decreases-loop
+    invariant-loop-i
+    decreases-loop-i
     (λ c κs. search rules)
     (λ c. search (rules, sixteen_alike))
     (λ c. search rules)

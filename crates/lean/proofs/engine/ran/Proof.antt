@@ -18,8 +18,8 @@ ran_spec =
     let loaded = made.before.before.before.before.before.before.before in
     let words = loaded.load.ensures in
     let held = loaded.before.before.before.before.before.before.before in (
-      ran_net _ _ _ _ _ _ _ _ _ _ _ c.decode.ensures made.make-with.ensures words.0 words.1.0 words.1.1.0
+      ran_net _ _ _ _ _ _ _ _ _ _ _ c.decode.ensures made.make_with.ensures words.0 words.1.0 words.1.1.0
           words.1.1.1 held.well_formed.0 held.requires.0,
-      ran_answers _ _ _ _ _ _ _ _ _ _ made.make-with.ensures words.0 words.1.0 words.1.1.0 words.1.1.1
+      ran_answers _ _ _ _ _ _ _ _ _ _ made.make_with.ensures words.0 words.1.0 words.1.1.0 words.1.1.1
           held.well_formed.0 held.requires.0,
     )))

@@ -8,19 +8,19 @@ use borrow.Author.Rules.{rules}
 use Rattle.lean.proofs.loading.load_counts.Statement.{statement}
 use Rattle.lean.proofs.loading.load_counts.Tie as tie
 
-abbrev invariant-loop : tie.invariant-loop
-invariant-loop stored₀ nodes a₀ stored a = (a ≤ 16) × (stored ≡ filled a (λ i. (node_of nodes i).stored) stored₀)
+abbrev invariant-loop-a : tie.invariant-loop-a
+invariant-loop-a stored₀ nodes a₀ stored a = (a ≤ 16) × (stored ≡ filled a (λ i. (node_of nodes i).stored) stored₀)
 
-abbrev decreases-loop : tie.decreases-loop
-decreases-loop stored₀ nodes a₀ stored a = 16 - a
+abbrev decreases-loop-a : tie.decreases-loop-a
+decreases-loop-a stored₀ nodes a₀ stored a = 16 - a
 
 pub load_counts_spec : {M : Type 1} → statement M
 unfolding loaded_counts node_of
 load_counts_spec =
     tie.close
     (tie.spec
-    invariant-loop
-    decreases-loop
+    invariant-loop-a
+    decreases-loop-a
     (λ c. search (rules, filled_none))
     (λ c. search rules)
     (λ c. search rules)

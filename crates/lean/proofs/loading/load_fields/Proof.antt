@@ -10,19 +10,19 @@ use borrow.Author.Rules.{rules}
 use Rattle.lean.proofs.loading.load_fields.Statement.{statement}
 use Rattle.lean.proofs.loading.load_fields.Tie as tie
 
-abbrev invariant-loop : tie.invariant-loop
-invariant-loop length fields₀ code q₀ fields q = (q ≤ length) × (fields ≡ filled q (λ i. template_words (instruction_at code (place_of i))) fields₀)
+abbrev invariant-loop-q : tie.invariant-loop-q
+invariant-loop-q length fields₀ code q₀ fields q = (q ≤ length) × (fields ≡ filled q (λ i. template_words (instruction_at code (place_of i))) fields₀)
 
-abbrev decreases-loop : tie.decreases-loop
-decreases-loop length fields₀ code q₀ fields q = length - q
+abbrev decreases-loop-q : tie.decreases-loop-q
+decreases-loop-q length fields₀ code q₀ fields q = length - q
 
 pub load_fields_spec : {M : Type 1} → statement M
 unfolding loaded_fields instruction_at
 load_fields_spec =
     tie.close
     (tie.spec
-    invariant-loop
-    decreases-loop
+    invariant-loop-q
+    decreases-loop-q
     (λ c. search (rules, filled_none))
     (λ c. search rules)
     (λ c. search rules)

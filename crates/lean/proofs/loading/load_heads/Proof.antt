@@ -10,19 +10,19 @@ use borrow.Author.Rules.{rules}
 use Rattle.lean.proofs.loading.load_heads.Statement.{statement}
 use Rattle.lean.proofs.loading.load_heads.Tie as tie
 
-abbrev invariant-loop : tie.invariant-loop
-invariant-loop length heads₀ code q₀ heads q = (q ≤ length) × (heads ≡ filled q (λ i. head_words (instruction_at code (place_of i))) heads₀)
+abbrev invariant-loop-q : tie.invariant-loop-q
+invariant-loop-q length heads₀ code q₀ heads q = (q ≤ length) × (heads ≡ filled q (λ i. head_words (instruction_at code (place_of i))) heads₀)
 
-abbrev decreases-loop : tie.decreases-loop
-decreases-loop length heads₀ code q₀ heads q = length - q
+abbrev decreases-loop-q : tie.decreases-loop-q
+decreases-loop-q length heads₀ code q₀ heads q = length - q
 
 pub load_heads_spec : {M : Type 1} → statement M
 unfolding loaded_heads instruction_at
 load_heads_spec =
     tie.close
     (tie.spec
-    invariant-loop
-    decreases-loop
+    invariant-loop-q
+    decreases-loop-q
     (λ c. search (rules, filled_none))
     (λ c. search rules)
     (λ c. search rules)

@@ -9,19 +9,19 @@ use borrow.Author.Rules.{rules}
 use Rattle.lean.proofs.loading.load_needs.Statement.{statement}
 use Rattle.lean.proofs.loading.load_needs.Tie as tie
 
-abbrev invariant-loop : tie.invariant-loop
-invariant-loop length needs₀ code q₀ rules q = (q ≤ length) × (rules ≡ loaded_needs code q needs₀)
+abbrev invariant-loop-q : tie.invariant-loop-q
+invariant-loop-q length needs₀ code q₀ rules q = (q ≤ length) × (rules ≡ loaded_needs code q needs₀)
 
-abbrev decreases-loop : tie.decreases-loop
-decreases-loop length needs₀ code q₀ rules q = length - q
+abbrev decreases-loop-q : tie.decreases-loop-q
+decreases-loop-q length needs₀ code q₀ rules q = length - q
 
 pub load_needs_spec : {M : Type 1} → statement M
 unfolding instruction_at
 load_needs_spec =
     tie.close
     (tie.spec
-    invariant-loop
-    decreases-loop
+    invariant-loop-q
+    decreases-loop-q
     (λ c. search (rules, needs_none))
     (λ c. search rules)
     (λ c. search rules)
@@ -31,5 +31,5 @@ load_needs_spec =
     (λ c. search rules)
     (λ c. search rules)
     (λ c. search rules)
-    (λ c. ⊎_elim (λ w. search (rules, needs_sent)) (λ w. search (rules, needs_unsent)) c.if1.branch)
+    (λ c. ⊎_elim (λ w. search (rules, needs_sent)) (λ w. search (rules, needs_unsent)) c.if-sent-lt512.branch-raw)
     (λ c. search (rules, needs_end)))

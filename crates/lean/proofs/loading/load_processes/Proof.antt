@@ -8,19 +8,19 @@ use borrow.Author.Rules.{rules}
 use Rattle.lean.proofs.loading.load_processes.Statement.{statement}
 use Rattle.lean.proofs.loading.load_processes.Tie as tie
 
-abbrev invariant-loop : tie.invariant-loop
-invariant-loop procs₀ nodes a₀ procs a = (a ≤ 16) × (procs ≡ filled a (λ i. slots_of (node_of nodes i)) procs₀)
+abbrev invariant-loop-a : tie.invariant-loop-a
+invariant-loop-a procs₀ nodes a₀ procs a = (a ≤ 16) × (procs ≡ filled a (λ i. slots_of (node_of nodes i)) procs₀)
 
-abbrev decreases-loop : tie.decreases-loop
-decreases-loop procs₀ nodes a₀ procs a = 16 - a
+abbrev decreases-loop-a : tie.decreases-loop-a
+decreases-loop-a procs₀ nodes a₀ procs a = 16 - a
 
 pub load_processes_spec : {M : Type 1} → statement M
 unfolding loaded_slots node_of
 load_processes_spec =
     tie.close
     (tie.spec
-    invariant-loop
-    decreases-loop
+    invariant-loop-a
+    decreases-loop-a
     (λ c. search (rules, filled_none))
     (λ c. search rules)
     (λ c. search rules)

@@ -8,19 +8,19 @@ use borrow.Author.Rules.{rules}
 use Rattle.lean.proofs.loading.load_rows.Statement.{statement}
 use Rattle.lean.proofs.loading.load_rows.Tie as tie
 
-abbrev invariant-loop : tie.invariant-loop
-invariant-loop rows₀ nodes a₀ rows a = (a ≤ 16) × (rows ≡ filled a (λ i. policy_of (node_of nodes i)) rows₀)
+abbrev invariant-loop-a : tie.invariant-loop-a
+invariant-loop-a rows₀ nodes a₀ rows a = (a ≤ 16) × (rows ≡ filled a (λ i. policy_of (node_of nodes i)) rows₀)
 
-abbrev decreases-loop : tie.decreases-loop
-decreases-loop rows₀ nodes a₀ rows a = 16 - a
+abbrev decreases-loop-a : tie.decreases-loop-a
+decreases-loop-a rows₀ nodes a₀ rows a = 16 - a
 
 pub load_rows_spec : {M : Type 1} → statement M
 unfolding loaded_rows node_of
 load_rows_spec =
     tie.close
     (tie.spec
-    invariant-loop
-    decreases-loop
+    invariant-loop-a
+    decreases-loop-a
     (λ c. search (rules, filled_none))
     (λ c. search rules)
     (λ c. search rules)

@@ -10,19 +10,19 @@ use borrow.Author.Rules.{rules}
 use Rattle.lean.proofs.loading.load_sets.Statement.{statement}
 use Rattle.lean.proofs.loading.load_sets.Tie as tie
 
-abbrev invariant-loop : tie.invariant-loop
-invariant-loop length sets₀ code q₀ sets q = (q ≤ length) × (sets ≡ filled q (λ i. set_flags (instruction_at code (place_of i))) sets₀)
+abbrev invariant-loop-q : tie.invariant-loop-q
+invariant-loop-q length sets₀ code q₀ sets q = (q ≤ length) × (sets ≡ filled q (λ i. set_flags (instruction_at code (place_of i))) sets₀)
 
-abbrev decreases-loop : tie.decreases-loop
-decreases-loop length sets₀ code q₀ sets q = length - q
+abbrev decreases-loop-q : tie.decreases-loop-q
+decreases-loop-q length sets₀ code q₀ sets q = length - q
 
 pub load_sets_spec : {M : Type 1} → statement M
 unfolding loaded_sets instruction_at
 load_sets_spec =
     tie.close
     (tie.spec
-    invariant-loop
-    decreases-loop
+    invariant-loop-q
+    decreases-loop-q
     (λ c. search (rules, filled_none))
     (λ c. search rules)
     (λ c. search rules)

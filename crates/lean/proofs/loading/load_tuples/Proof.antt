@@ -8,19 +8,19 @@ use borrow.Author.Rules.{rules}
 use Rattle.lean.proofs.loading.load_tuples.Statement.{statement}
 use Rattle.lean.proofs.loading.load_tuples.Tie as tie
 
-abbrev invariant-loop : tie.invariant-loop
-invariant-loop tuples₀ nodes a₀ tuples a = (a ≤ 16) × (tuples ≡ filled a (λ i. store_of (node_of nodes i)) tuples₀)
+abbrev invariant-loop-a : tie.invariant-loop-a
+invariant-loop-a tuples₀ nodes a₀ tuples a = (a ≤ 16) × (tuples ≡ filled a (λ i. store_of (node_of nodes i)) tuples₀)
 
-abbrev decreases-loop : tie.decreases-loop
-decreases-loop tuples₀ nodes a₀ tuples a = 16 - a
+abbrev decreases-loop-a : tie.decreases-loop-a
+decreases-loop-a tuples₀ nodes a₀ tuples a = 16 - a
 
 pub load_tuples_spec : {M : Type 1} → statement M
 unfolding loaded_tuples node_of
 load_tuples_spec =
     tie.close
     (tie.spec
-    invariant-loop
-    decreases-loop
+    invariant-loop-a
+    decreases-loop-a
     (λ c. search (rules, filled_none))
     (λ c. search rules)
     (λ c. search rules)

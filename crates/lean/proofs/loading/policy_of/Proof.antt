@@ -12,19 +12,19 @@ use borrow.Author.Rules.{rules}
 use Rattle.lean.proofs.loading.policy_of.Statement.{statement}
 use Rattle.lean.proofs.loading.policy_of.Tie as tie
 
-abbrev invariant-loop : tie.invariant-loop
-invariant-loop x policy₀ o₀ policy o = (o ≤ 16) × (policy ≡ filled o (λ i. row_flags (row_at x (address_of i))) (replicate 16 (replicate 65 false)))
+abbrev invariant-loop-o : tie.invariant-loop-o
+invariant-loop-o x policy₀ o₀ policy o = (o ≤ 16) × (policy ≡ filled o (λ i. row_flags (row_at x (address_of i))) (replicate 16 (replicate 65 false)))
 
-abbrev decreases-loop : tie.decreases-loop
-decreases-loop x policy₀ o₀ policy o = 16 - o
+abbrev decreases-loop-o : tie.decreases-loop-o
+decreases-loop-o x policy₀ o₀ policy o = 16 - o
 
 pub policy_of_spec : {M : Type 1} → statement M
 unfolding policy_of row_at
 policy_of_spec =
     tie.close
     (tie.spec
-    invariant-loop
-    decreases-loop
+    invariant-loop-o
+    decreases-loop-o
     (λ c. search (rules, filled_none))
     (λ c. search rules)
     (λ c. search rules)

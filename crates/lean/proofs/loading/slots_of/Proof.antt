@@ -12,19 +12,19 @@ use borrow.Author.Rules.{rules}
 use Rattle.lean.proofs.loading.slots_of.Statement.{statement}
 use Rattle.lean.proofs.loading.slots_of.Tie as tie
 
-abbrev invariant-loop : tie.invariant-loop
-invariant-loop x slots₀ k₀ slots k = (k ≤ 4) × (slots ≡ filled k (λ i. process_words (process_at x i)) (replicate 4 free_words))
+abbrev invariant-loop-k : tie.invariant-loop-k
+invariant-loop-k x slots₀ k₀ slots k = (k ≤ 4) × (slots ≡ filled k (λ i. process_words (process_at x i)) (replicate 4 free_words))
 
-abbrev decreases-loop : tie.decreases-loop
-decreases-loop x slots₀ k₀ slots k = 4 - k
+abbrev decreases-loop-k : tie.decreases-loop-k
+decreases-loop-k x slots₀ k₀ slots k = 4 - k
 
 pub slots_of_spec : {M : Type 1} → statement M
 unfolding slots_of process_at
 slots_of_spec =
     tie.close
     (tie.spec
-    invariant-loop
-    decreases-loop
+    invariant-loop-k
+    decreases-loop-k
     (λ c κs. search rules)
     (λ c. search (rules, four_alike))
     (λ c. search rules)

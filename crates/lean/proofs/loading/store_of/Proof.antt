@@ -12,19 +12,19 @@ use borrow.Author.Rules.{rules}
 use Rattle.lean.proofs.loading.store_of.Statement.{statement}
 use Rattle.lean.proofs.loading.store_of.Tie as tie
 
-abbrev invariant-loop : tie.invariant-loop
-invariant-loop x store₀ i₀ store i = (i ≤ 16) × (store ≡ filled i (λ j. tuple_words (tuple_at x j)) (replicate 16 no_tuple))
+abbrev invariant-loop-i : tie.invariant-loop-i
+invariant-loop-i x store₀ i₀ store i = (i ≤ 16) × (store ≡ filled i (λ j. tuple_words (tuple_at x j)) (replicate 16 no_tuple))
 
-abbrev decreases-loop : tie.decreases-loop
-decreases-loop x store₀ i₀ store i = 16 - i
+abbrev decreases-loop-i : tie.decreases-loop-i
+decreases-loop-i x store₀ i₀ store i = 16 - i
 
 pub store_of_spec : {M : Type 1} → statement M
 unfolding store_of tuple_at
 store_of_spec =
     tie.close
     (tie.spec
-    invariant-loop
-    decreases-loop
+    invariant-loop-i
+    decreases-loop-i
     (λ c κs. search rules)
     (λ c. search (rules, sixteen_alike))
     (λ c. search rules)
