@@ -9,18 +9,18 @@ use borrow.Author.Rules.{rules}
 use Rattle.writer.proofs.bytes.put_bytes.Statement.{statement}
 use Rattle.writer.proofs.bytes.put_bytes.Tie as tie
 
-abbrev invariant-loop : tie.invariant-loop
-invariant-loop bits n out₀ i₀ out i = (out ≡ over out₀ 0 (bytes_in bits i)) × ((length out ≡ length out₀) × (i ≤ n))
+abbrev invariant-loop-i : tie.invariant-loop-i
+invariant-loop-i bits n out₀ i₀ out i = (out ≡ over out₀ 0 (bytes_in bits i)) × ((length out ≡ length out₀) × (i ≤ n))
 
-abbrev decreases-loop : tie.decreases-loop
-decreases-loop bits n out₀ i₀ out i = n - i
+abbrev decreases-loop-i : tie.decreases-loop-i
+decreases-loop-i bits n out₀ i₀ out i = n - i
 
 pub put_bytes_spec : {M : Type 1} → statement M
 put_bytes_spec =
     tie.close
     (tie.spec
-    invariant-loop
-    decreases-loop
+    invariant-loop-i
+    decreases-loop-i
     (λ c. search (rules, bytes_start))
     (λ c. search rules)
     (λ c κs. search rules)
