@@ -117,6 +117,7 @@ wider : (v d k : ℕ) → v * (k * 10) ≤ (v * 10 + d) * k
 wider v d k = omega arith
 
 at_least : (v k : ℕ) → 1 ≤ v → k ≤ v * k
+at_least zero k h = elim h [ ]
 at_least (suc v) k h = omega arith
 
 -- and with any digits more
