@@ -5,7 +5,6 @@ use mathlib.Core.List.{List}
 use lib.ListN.{length}
 use mir.Val.{Val}
 use denote.Laws.{Is}
-use denote.Struct.Declared.{row}
 use Rattle.net.proofs.Lengths.{long}
 use Rattle.net.specs.contracts.instruction.Instruction as instruction
 use Rattle.net.specs.contracts.instruction.TemplateField as templateField
@@ -15,11 +14,11 @@ use Rattle.net.specs.contracts.tuple.Field as tupleField
 use Rattle.net.specs.contracts.tuple.Tuple as tuple
 use Rattle.text_writer.specs.Types.{Tuple, Row, Instruction}
 
-pub fields_long : (t : Tuple) (vs : List Val) → Is (row tuple.the_type) t vs → length t.fields ≡ 4
-fields_long t vs h = long tupleField.the_type t.fields 4 _ h.1.1.1.0
+pub fields_long : (t : Tuple) (vs : List Val) → Is tuple.the_row t vs → length t.fields ≡ 4
+fields_long t vs h = long tupleField.the_row t.fields 4 _ h.1.1.1.0
 
-pub template_long : (c : Instruction) (vs : List Val) → Is (row instruction.the_type) c vs → length c.template ≡ 4
-template_long c vs h = long templateField.the_type c.template 4 _ h.1.1.1.1.0
+pub template_long : (c : Instruction) (vs : List Val) → Is instruction.the_row c vs → length c.template ≡ 4
+template_long c vs h = long templateField.the_row c.template 4 _ h.1.1.1.1.0
 
-pub rights_long : (r : Row) (vs : List Val) → Is (row policy.the_type) r vs → length r.rights ≡ 16
-rights_long r vs h = long rights.the_type r.rights 16 _ h.1.1.1.0
+pub rights_long : (r : Row) (vs : List Val) → Is policy.the_row r vs → length r.rights ≡ 16
+rights_long r vs h = long rights.the_row r.rights 16 _ h.1.1.1.0

@@ -14,19 +14,19 @@ use borrow.Author.Rules.{rules}
 use Rattle.text_writer.proofs.code.put_members.Statement.{statement}
 use Rattle.text_writer.proofs.code.put_members.Tie as tie
 
-abbrev invariant-loop : tie.invariant-loop
-invariant-loop out₀ at g next₀ some₀ i₀ out next some i = Wrote out₀ at (separated (map address_text (members_below i g))) out next × ((some ≡ ltb 0 (length (members_below i g))) × (i ≤ 16))
+abbrev invariant-loop-i : tie.invariant-loop-i
+invariant-loop-i out₀ at g next₀ some₀ i₀ out next some i = Wrote out₀ at (separated (map address_text (members_below i g))) out next × ((some ≡ ltb 0 (length (members_below i g))) × (i ≤ 16))
 
-abbrev decreases-loop : tie.decreases-loop
-decreases-loop out₀ at g next₀ some₀ i₀ out next some i = 16 - i
+abbrev decreases-loop-i : tie.decreases-loop-i
+decreases-loop-i out₀ at g next₀ some₀ i₀ out next some i = 16 - i
 
 pub put_members_spec : {M : Type 1} → statement M
 unfolding bytes
 put_members_spec =
     tie.close
     (tie.spec
-    invariant-loop
-    decreases-loop
+    invariant-loop-i
+    decreases-loop-i
     (λ c. search (rules, members_none, some_none))
     (λ c. search rules)
     (λ c κs. search rules)

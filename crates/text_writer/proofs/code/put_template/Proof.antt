@@ -13,19 +13,19 @@ use borrow.Author.Rules.{rules}
 use Rattle.text_writer.proofs.code.put_template.Statement.{statement}
 use Rattle.text_writer.proofs.code.put_template.Tie as tie
 
-abbrev invariant-loop : tie.invariant-loop
-invariant-loop out₀ at c n next₀ i₀ out next i = Wrote out₀ at (separated (map (λ f. pattern_text f.pattern) (take i c.template))) out next × ((i ≤ n) × ((n ≤ 4) × (length c.template ≡ 4)))
+abbrev invariant-loop-i : tie.invariant-loop-i
+invariant-loop-i out₀ at c n next₀ i₀ out next i = Wrote out₀ at (separated (map (λ f. pattern_text f.pattern) (take i c.template))) out next × ((i ≤ n) × ((n ≤ 4) × (length c.template ≡ 4)))
 
-abbrev decreases-loop : tie.decreases-loop
-decreases-loop out₀ at c n next₀ i₀ out next i = n - i
+abbrev decreases-loop-i : tie.decreases-loop-i
+decreases-loop-i out₀ at c n next₀ i₀ out next i = n - i
 
 pub put_template_spec : {M : Type 1} → statement M
 unfolding template_text bytes
 put_template_spec =
     tie.close
     (tie.spec
-    invariant-loop
-    decreases-loop
+    invariant-loop-i
+    decreases-loop-i
     (λ c. search (rules, separated_none, template_long))
     (λ c. search rules)
     (λ c. search rules)

@@ -18,7 +18,6 @@ put_item_spec =
     (λ c κs. search rules)
     (λ c. search rules)
     (λ c. search rules)
-    (λ c. search rules)
     (λ c κs. search rules)
     (λ c. search rules)
     (λ c. search (rules, wrote_then, wrote_case item_text, wrote_signed item_text Item.Reading))

@@ -13,19 +13,19 @@ use borrow.Author.Rules.{rules}
 use Rattle.text_writer.proofs.nodes.put_items.Statement.{statement}
 use Rattle.text_writer.proofs.nodes.put_items.Tie as tie
 
-abbrev invariant-loop : tie.invariant-loop
-invariant-loop out₀ at t n next₀ i₀ out next i = Wrote out₀ at (separated (map (λ f. item_text f.item) (take i t.fields))) out next × ((i ≤ n) × ((n ≤ 4) × (length t.fields ≡ 4)))
+abbrev invariant-loop-i : tie.invariant-loop-i
+invariant-loop-i out₀ at t n next₀ i₀ out next i = Wrote out₀ at (separated (map (λ f. item_text f.item) (take i t.fields))) out next × ((i ≤ n) × ((n ≤ 4) × (length t.fields ≡ 4)))
 
-abbrev decreases-loop : tie.decreases-loop
-decreases-loop out₀ at t n next₀ i₀ out next i = n - i
+abbrev decreases-loop-i : tie.decreases-loop-i
+decreases-loop-i out₀ at t n next₀ i₀ out next i = n - i
 
 pub put_items_spec : {M : Type 1} → statement M
 unfolding bytes
 put_items_spec =
     tie.close
     (tie.spec
-    invariant-loop
-    decreases-loop
+    invariant-loop-i
+    decreases-loop-i
     (λ c. search (rules, separated_none, fields_long))
     (λ c. search rules)
     (λ c. search rules)

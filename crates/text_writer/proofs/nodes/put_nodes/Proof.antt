@@ -13,19 +13,19 @@ use borrow.Author.Rules.{rules}
 use Rattle.text_writer.proofs.nodes.put_nodes.Statement.{statement}
 use Rattle.text_writer.proofs.nodes.put_nodes.Tie as tie
 
-abbrev invariant-loop : tie.invariant-loop
-invariant-loop out₀ at net n next₀ i₀ out next i = Wrote out₀ at (lines_text (joined i (λ j. lines_at net (address_of j)))) out next × ((i ≤ n) × (n ≤ 16))
+abbrev invariant-loop-i : tie.invariant-loop-i
+invariant-loop-i out₀ at net n next₀ i₀ out next i = Wrote out₀ at (lines_text (joined i (λ j. lines_at net (address_of j)))) out next × ((i ≤ n) × (n ≤ 16))
 
-abbrev decreases-loop : tie.decreases-loop
-decreases-loop out₀ at net n next₀ i₀ out next i = n - i
+abbrev decreases-loop-i : tie.decreases-loop-i
+decreases-loop-i out₀ at net n next₀ i₀ out next i = n - i
 
 pub put_nodes_spec : {M : Type 1} → statement M
 unfolding lines_at node_at
 put_nodes_spec =
     tie.close
     (tie.spec
-    invariant-loop
-    decreases-loop
+    invariant-loop-i
+    decreases-loop-i
     (λ c. search (rules, parts_none lines_text lines_none lines_both))
     (λ c. search rules)
     (λ c. search rules)

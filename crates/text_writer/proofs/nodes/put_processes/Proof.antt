@@ -15,19 +15,19 @@ use borrow.Author.Rules.{rules}
 use Rattle.text_writer.proofs.nodes.put_processes.Statement.{statement}
 use Rattle.text_writer.proofs.nodes.put_processes.Tie as tie
 
-abbrev invariant-loop : tie.invariant-loop
-invariant-loop out₀ at a x next₀ i₀ out next i = Wrote out₀ at (lines_text (joined i (λ j. choose (process_at x j).busy (process a (named (process_at x j).at) ∷ []) []))) out next × (i ≤ 4)
+abbrev invariant-loop-i : tie.invariant-loop-i
+invariant-loop-i out₀ at a x next₀ i₀ out next i = Wrote out₀ at (lines_text (joined i (λ j. choose (process_at x j).busy (process a (named (process_at x j).at) ∷ []) []))) out next × (i ≤ 4)
 
-abbrev decreases-loop : tie.decreases-loop
-decreases-loop out₀ at a x next₀ i₀ out next i = 4 - i
+abbrev decreases-loop-i : tie.decreases-loop-i
+decreases-loop-i out₀ at a x next₀ i₀ out next i = 4 - i
 
 pub put_processes_spec : {M : Type 1} → statement M
 unfolding process_lines process_at
 put_processes_spec =
     tie.close
     (tie.spec
-    invariant-loop
-    decreases-loop
+    invariant-loop-i
+    decreases-loop-i
     (λ c. search (rules, parts_none lines_text lines_none lines_both))
     (λ c. search rules)
     (λ c. search rules)

@@ -12,19 +12,19 @@ use borrow.Author.Rules.{rules}
 use Rattle.text_writer.proofs.rows.put_all_origins.Statement.{statement}
 use Rattle.text_writer.proofs.rows.put_all_origins.Tie as tie
 
-abbrev invariant-loop : tie.invariant-loop
-invariant-loop out₀ at net n next₀ i₀ out next i = Wrote out₀ at (joined i (λ j. node_text j 0 (origin_rows_of n (node_at net (address_of j))))) out next × ((i ≤ n) × (n ≤ 16))
+abbrev invariant-loop-i : tie.invariant-loop-i
+invariant-loop-i out₀ at net n next₀ i₀ out next i = Wrote out₀ at (joined i (λ j. node_text j 0 (origin_rows_of n (node_at net (address_of j))))) out next × ((i ≤ n) × (n ≤ 16))
 
-abbrev decreases-loop : tie.decreases-loop
-decreases-loop out₀ at net n next₀ i₀ out next i = n - i
+abbrev decreases-loop-i : tie.decreases-loop-i
+decreases-loop-i out₀ at net n next₀ i₀ out next i = n - i
 
 pub put_all_origins_spec : {M : Type 1} → statement M
 unfolding node_at
 put_all_origins_spec =
     tie.close
     (tie.spec
-    invariant-loop
-    decreases-loop
+    invariant-loop-i
+    decreases-loop-i
     (λ c. search (rules, joined_none))
     (λ c. search rules)
     (λ c. search rules)

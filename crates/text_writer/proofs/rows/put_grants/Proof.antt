@@ -12,19 +12,19 @@ use borrow.Author.Rules.{rules}
 use Rattle.text_writer.proofs.rows.put_grants.Statement.{statement}
 use Rattle.text_writer.proofs.rows.put_grants.Tie as tie
 
-abbrev invariant-loop : tie.invariant-loop
-invariant-loop out₀ at row next₀ i₀ out next i = Wrote out₀ at (joined i (λ j. grant_text j (rights_at row (address_of j)))) out next × (i ≤ 16)
+abbrev invariant-loop-i : tie.invariant-loop-i
+invariant-loop-i out₀ at row next₀ i₀ out next i = Wrote out₀ at (joined i (λ j. grant_text j (rights_at row (address_of j)))) out next × (i ≤ 16)
 
-abbrev decreases-loop : tie.decreases-loop
-decreases-loop out₀ at row next₀ i₀ out next i = 16 - i
+abbrev decreases-loop-i : tie.decreases-loop-i
+decreases-loop-i out₀ at row next₀ i₀ out next i = 16 - i
 
 pub put_grants_spec : {M : Type 1} → statement M
 unfolding no_rights rights_at
 put_grants_spec =
     tie.close
     (tie.spec
-    invariant-loop
-    decreases-loop
+    invariant-loop-i
+    decreases-loop-i
     (λ c. search (rules, joined_none))
     (λ c. search rules)
     (λ c. search rules)

@@ -11,19 +11,19 @@ use borrow.Author.Rules.{rules}
 use Rattle.text_writer.proofs.rows.put_origins.Statement.{statement}
 use Rattle.text_writer.proofs.rows.put_origins.Tie as tie
 
-abbrev invariant-loop : tie.invariant-loop
-invariant-loop out₀ at i n x next₀ j₀ out next j = Wrote out₀ at (joined j (λ k. origin_row_text i k (row_at x (address_of k)))) out next × ((j ≤ n) × (n ≤ 16))
+abbrev invariant-loop-j : tie.invariant-loop-j
+invariant-loop-j out₀ at i n x next₀ j₀ out next j = Wrote out₀ at (joined j (λ k. origin_row_text i k (row_at x (address_of k)))) out next × ((j ≤ n) × (n ≤ 16))
 
-abbrev decreases-loop : tie.decreases-loop
-decreases-loop out₀ at i n x next₀ j₀ out next j = n - j
+abbrev decreases-loop-j : tie.decreases-loop-j
+decreases-loop-j out₀ at i n x next₀ j₀ out next j = n - j
 
 pub put_origins_spec : {M : Type 1} → statement M
 unfolding row_at origin_rows_of
 put_origins_spec =
     tie.close
     (tie.spec
-    invariant-loop
-    decreases-loop
+    invariant-loop-j
+    decreases-loop-j
     (λ c. search (rules, joined_none))
     (λ c. search rules)
     (λ c. search rules)
