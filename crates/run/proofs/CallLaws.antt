@@ -16,7 +16,8 @@ use Rattle.notation.specs.Text.{read_of}
 use Rattle.texts.specs.TextClaims.{TextIsSound}
 use Rattle.texts.proofs.TextClaims.{text_is_sound}
 use Rattle.text.specs.Buffer.{over}
-use Rattle.lean_step.specs.LeanStep.{lean_ran_from}
+use Rattle.lean_step.specs.LeanStep.{lean_ran_from, lean_pick_of}
+use Rattle.step.specs.Pick.{pick_of}
 use Rattle.lean_first.proofs.LeanFirst.{lean_is_first}
 use Rattle.lean.specs.Calls.{room_for, net_after, answers_after}
 use Rattle.run.specs.Types.{Net, Fault, Opened, Verdict, TextOpened, TextVerdict}
@@ -115,13 +116,13 @@ module _ (y : Outcome) where
 pub answers_length : (s : Net) (picks : List ℕ) → length (ran_from s picks).answers ≡ length picks
 unfolding ran_from answered
 answers_length s [] = refl
-answers_length s (b ∷ bs) = ap suc (answers_length _ bs)
+answers_length s (b ∷ bs) = ap suc (answers_length (pick_of s b).net bs)
 
 -- of the engine
 pub engine_length : (s : Net) (picks : List ℕ) → length (lean_ran_from s picks).answers ≡ length picks
 unfolding lean_ran_from answered
 engine_length s [] = refl
-engine_length s (b ∷ bs) = ap suc (engine_length _ bs)
+engine_length s (b ∷ bs) = ap suc (engine_length (lean_pick_of s b).net bs)
 
 module _ (s : Net) (picks xs : List ℕ) where
   -- whether there is room for its answers, as `make` of the engine has it

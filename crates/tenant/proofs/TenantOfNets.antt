@@ -29,7 +29,7 @@ unfolding ran_from stepped pick_of
 same_run s [] g h = refl
 same_run s (b ∷ bs) g h =
     let k = step_sound_kept s b g h in
-    rw (choose_true (sound_of s) (step_of s b)) (ap (answered (step_of s b).answer) (same_run _ bs k.1 k.0))
+    rw (choose_true (sound_of s) (step_of s b)) (ap (answered (step_of s b).answer) (same_run (step_of s b).net bs k.1 k.0))
 
 -- ---- the view of a run
 module _ (tenant : Locality → Bool) where

@@ -10,4 +10,4 @@ not_made_spec =
     tie.close
     (tie.spec
     (λ c κs. search rules)
-    (λ c. simp c.empty.ensures))
+    (λ c. simp c.empty-net.ensures))
