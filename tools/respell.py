@@ -38,9 +38,11 @@ def read(path):
 
 def files(root, endings):
     for folder, dirs, names in os.walk(os.path.join(root, "crates")):
-        dirs[:] = sorted(d for d in dirs if d != "out")
+        made = os.path.dirname(os.path.dirname(folder)) == root
+        dirs[:] = sorted(d for d in dirs if d != "out" or not made)
         for name in sorted(names):
-            if name.endswith(endings):
+            # The files of today's proofs name what Rattle generates; the older form has none of them.
+            if name.endswith(endings) and name not in ("Answers.antt", "Invariants.antt"):
                 yield os.path.join(folder, name)
 
 
