@@ -1,6 +1,6 @@
 /*
- * The public calls of Cavindorum for C, in target/staticlib/libexports.a
- * (`rt staticlib exports` makes it, for x86-64 Linux). What each call gives
+ * The public calls of Cavindorum for C, in crates/exports/out/libexports.a
+ * (`rt lib` in crates/exports makes it, for x86-64 Linux). What each call gives
  * and leaves in its buffer is proved (crates/exports/src/lib.rt).
  *
  * Pointers and lengths. Each buffer is a pointer and, next after it, the

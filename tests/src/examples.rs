@@ -123,8 +123,8 @@ impl Example {
              {table}\n\
              {rows_after}{names}\
              ## The register\n\n\
-             Run in this directory, `../../target/bin/register` prints what `register.txt` holds, and so does \
-             `../../target/bin/register_text`, which reads the text:\n\n\
+             Run in this directory, `../../crates/register/out/register` prints what `register.txt` holds, and so does \
+             `../../crates/register_text/out/register_text`, which reads the text:\n\n\
              ```\n{register}```\n{listing}"
         )
     }
@@ -137,7 +137,7 @@ impl Example {
         };
         format!(
             "In the planners' notation, as `net.txt` has it; `net.bin` holds the same net as an image{format}, which \
-             `../../target/bin/pack` makes of the text. Of the image `../../target/bin/unpack` makes a text again, \
+             `../../crates/pack/out/pack` makes of the text. Of the image `../../crates/unpack/out/unpack` makes a text again, \
              with one definition for each instruction.\n\n\
              ```\n{text}```\n\n"
         )

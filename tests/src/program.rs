@@ -9,9 +9,9 @@ use std::sync::atomic::{AtomicUsize, Ordering};
 use std::{fs, io};
 
 /// Where a program of the repository lies: in the directory that
-/// CAVINDORUM_BIN names, or where `rt check` links it.
+/// CAVINDORUM_BIN names, or where `rt ci` and `rt run` link it.
 pub fn program(name: &str) -> PathBuf {
-    let linked = || repository().join("target/bin");
+    let linked = || repository().join("crates").join(name).join("out");
     let directory = std::env::var_os("CAVINDORUM_BIN").map_or_else(linked, PathBuf::from);
     // Programs are run in other directories too.
     std::path::absolute(directory.join(name)).expect("the path is not empty")
@@ -112,7 +112,7 @@ pub fn run_given(
 fn started<T>(name: &str, result: io::Result<T>) -> T {
     result.unwrap_or_else(|error| {
         let path = program(name);
-        panic!("{}: {error}; `rt check {name}` makes it", path.display())
+        panic!("{}: {error}; `rt run` in crates/{name} makes it", path.display())
     })
 }
 

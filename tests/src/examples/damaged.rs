@@ -94,8 +94,8 @@ fn readme() -> String {
          ## Counting to the bit\n\n{COUNTING}\n\
          {table}\n\
          ## The register\n\n\
-         Run in this directory, `../../target/bin/register` prints what `register.txt` holds, and so does \
-         `../../target/bin/unpack`, which would otherwise print the net as a text:\n\n\
+         Run in this directory, `../../crates/register/out/register` prints what `register.txt` holds, and so does \
+         `../../crates/unpack/out/unpack`, which would otherwise print the net as a text:\n\n\
          ```\n{printed}```\n"
     )
 }

@@ -22,8 +22,8 @@ impl Example {
         format!(
             "\n## The old program's listing\n\n{ABOUT}\n\
              ```\n{listing}```\n\n\
-             Run in this directory, `../../target/bin/check_listing old` prints `{old}`: line by line the listing \
-             carries the words and values of the register. `../../target/bin/check_listing new` prints `{new}`, \
+             Run in this directory, `../../crates/check_listing/out/check_listing old` prints `{old}`: line by line the listing \
+             carries the words and values of the register. `../../crates/check_listing/out/check_listing new` prints `{new}`, \
              the number of a line that differs and that line: a new listing has a mark there.\n"
         )
     }
