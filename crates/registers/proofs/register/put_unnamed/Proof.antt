@@ -8,8 +8,6 @@ pub put_unnamed_spec : {M : Type 1} → statement M
 put_unnamed_spec =
     tie.close
     (tie.spec
-    (λ c. search rules)
-    (λ c. search rules)
     (λ c κs. search rules)
     (λ c. search rules)
     (λ c. search (rules, unnamed_as)))
