@@ -1,5 +1,6 @@
 // Shares over a season (document 02, slip 7).
 #![tactic(auto)]
+
 mod counts;
 pub mod figures;
 pub mod fraction;

@@ -12,4 +12,4 @@ check_in_spec =
     (λ c κs. search rules)
     (λ c κs. search (rules, written_fits))
     (λ c. search rules)
-    (λ c. search (rules, age_checked, c.before.before.before.before.before.before.before.before.before.shared-slice-known2.given)))
+    (λ c. search (rules, age_checked, c.shared_slice_known-2-1.given)))

@@ -7,18 +7,18 @@ use borrow.Author.Rules.{rules}
 use Rattle.listing.proofs.comparing.compare.Statement.{statement}
 use Rattle.listing.proofs.comparing.compare.Tie as tie
 
-abbrev invariant-loop : tie.invariant-loop
-invariant-loop ours theirs at₀ at = Compared ours theirs at
+abbrev invariant-loop-at : tie.invariant-loop-at
+invariant-loop-at ours theirs at₀ at = Compared ours theirs at
 
-abbrev decreases-loop : tie.decreases-loop
-decreases-loop ours theirs at₀ at = length ours - at.ours
+abbrev decreases-loop-at : tie.decreases-loop-at
+decreases-loop-at ours theirs at₀ at = length ours - at.ours
 
 pub compare_spec : {M : Type 1} → statement M
 compare_spec =
     tie.close
     (tie.spec
-    invariant-loop
-    decreases-loop
+    invariant-loop-at
+    decreases-loop-at
     (λ c. search (rules, compared_begin))
     (λ c κs. search (rules, compared_open))
     (λ c. search rules)

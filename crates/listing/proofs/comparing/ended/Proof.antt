@@ -5,11 +5,11 @@ use borrow.Author.Rules.{rules}
 use Rattle.listing.proofs.comparing.ended.Statement.{statement}
 use Rattle.listing.proofs.comparing.ended.Tie as tie
 
-returns : tie.Need-returns
+returns : tie.Need-returns-then-at-theirs
 unfolding ended_from
 returns c = search (rules, branches)
 
-returns_2 : tie.Need-returns-2
+returns_2 : tie.Need-returns-else-at-theirs
 unfolding ended_from
 returns_2 c = search (rules, branches)
 

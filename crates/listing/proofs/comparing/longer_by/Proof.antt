@@ -6,11 +6,11 @@ use borrow.Author.Rules.{rules}
 use Rattle.listing.proofs.comparing.longer_by.Statement.{statement}
 use Rattle.listing.proofs.comparing.longer_by.Tie as tie
 
-returns : tie.Need-returns
+returns : tie.Need-returns-then-v-lt10000000000
 unfolding longer
 returns c = search (rules, branches)
 
-returns_2 : tie.Need-returns-2
+returns_2 : tie.Need-returns-else-v-lt10000000000
 unfolding longer
 returns_2 c = search (rules, branches)
 

@@ -8,18 +8,18 @@ use borrow.Author.Rules.{rules}
 use Rattle.listing.proofs.comparing.number_at.Statement.{statement}
 use Rattle.listing.proofs.comparing.number_at.Tie as tie
 
-abbrev invariant-loop : tie.invariant-loop
-invariant-loop s from value₀ next₀ value next = Reading s from value next
+abbrev invariant-loop-next : tie.invariant-loop-next
+invariant-loop-next s from value₀ next₀ value next = Reading s from value next
 
-abbrev decreases-loop : tie.decreases-loop
-decreases-loop s from value₀ next₀ value next = length s - next
+abbrev decreases-loop-next : tie.decreases-loop-next
+decreases-loop-next s from value₀ next₀ value next = length s - next
 
 pub number_at_spec : {M : Type 1} → statement M
 number_at_spec =
     tie.close
     (tie.spec
-    invariant-loop
-    decreases-loop
+    invariant-loop-next
+    decreases-loop-next
     (λ c. search (rules, reading_begin))
     (λ c. search rules)
     (λ c κs. search rules)

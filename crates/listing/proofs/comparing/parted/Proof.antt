@@ -6,11 +6,11 @@ use borrow.Author.Rules.{rules}
 use Rattle.listing.proofs.comparing.parted.Statement.{statement}
 use Rattle.listing.proofs.comparing.parted.Tie as tie
 
-returns : tie.Need-returns
+returns : tie.Need-returns-then-at-over
 unfolding parted_from
 returns c = search (rules, if_call, and_both)
 
-returns_2 : tie.Need-returns-2
+returns_2 : tie.Need-returns-else-at-over
 unfolding parted_from
 returns_2 c = search (rules, if_not_call, and_both)
 

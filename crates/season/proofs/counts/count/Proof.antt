@@ -7,19 +7,19 @@ use borrow.Author.Rules.{rules}
 use Rattle.season.proofs.counts.count.Statement.{statement}
 use Rattle.season.proofs.counts.count.Tie as tie
 
-abbrev invariant-loop : tie.invariant-loop
-invariant-loop picks answers performed₀ named₀ i₀ performed named i = Counting picks answers performed named i
+abbrev invariant-loop-i : tie.invariant-loop-i
+invariant-loop-i picks answers performed₀ named₀ i₀ performed named i = Counting picks answers performed named i
 
-abbrev decreases-loop : tie.decreases-loop
-decreases-loop picks answers performed₀ named₀ i₀ performed named i = length picks - i
+abbrev decreases-loop-i : tie.decreases-loop-i
+decreases-loop-i picks answers performed₀ named₀ i₀ performed named i = length picks - i
 
 pub count_spec : {M : Type 1} → statement M
 unfolding no_counts
 count_spec =
     tie.close
     (tie.spec
-    invariant-loop
-    decreases-loop
+    invariant-loop-i
+    decreases-loop-i
     (λ c. search (rules, counting_begin))
     (λ c. search rules)
     (λ c. search rules)

@@ -12,20 +12,20 @@ use borrow.Author.Rules.{rules}
 use Rattle.season.proofs.figures.put_figures.Statement.{statement}
 use Rattle.season.proofs.figures.put_figures.Tie as tie
 
-abbrev invariant-loop : tie.invariant-loop
-invariant-loop out₀ sums next₀ i₀ out next i =
+abbrev invariant-loop-i : tie.invariant-loop-i
+invariant-loop-i out₀ sums next₀ i₀ out next i =
     Wrote out₀ 0 (printed (joined i (λ a. tally_line sums.runs (address_of a) (tally_at sums.tallies a) ∷ []))) out next × (i ≤ 16)
 
-abbrev decreases-loop : tie.decreases-loop
-decreases-loop out₀ sums next₀ i₀ out next i = 16 - i
+abbrev decreases-loop-i : tie.decreases-loop-i
+decreases-loop-i out₀ sums next₀ i₀ out next i = 16 - i
 
 pub put_figures_spec : {M : Type 1} → statement M
 unfolding figures_from tally_at no_tally
 put_figures_spec =
     tie.close
     (tie.spec
-    invariant-loop
-    decreases-loop
+    invariant-loop-i
+    decreases-loop-i
     (λ c. search (rules, parts_none printed printed_none printed_both))
     (λ c. search rules)
     (λ c. search rules)

@@ -12,7 +12,6 @@ unfolding bytes tally_line
 put_line_spec =
     tie.close
     (tie.spec
-    (λ c. search rules)
     (λ c κs. search rules)
     (λ c κs. search rules)
     (λ c κs. search rules)

@@ -10,7 +10,6 @@ unfolding bytes word_text spaced
 put_none_spec =
     tie.close
     (tie.spec
-    (λ c. search rules)
     (λ c κs. search rules)
     (λ c. search rules)
     (λ c. search rules))

@@ -6,18 +6,18 @@ use borrow.Author.Rules.{rules}
 use Rattle.season.proofs.fraction.greatest_divisor.Statement.{statement}
 use Rattle.season.proofs.fraction.greatest_divisor.Tie as tie
 
-abbrev invariant-loop : tie.invariant-loop
-invariant-loop a b x₀ y₀ x y = greatest_divisor x y ≡ greatest_divisor a b
+abbrev invariant-loop-y : tie.invariant-loop-y
+invariant-loop-y a b x₀ y₀ x y = greatest_divisor x y ≡ greatest_divisor a b
 
-abbrev decreases-loop : tie.decreases-loop
-decreases-loop a b x₀ y₀ x y = y
+abbrev decreases-loop-y : tie.decreases-loop-y
+decreases-loop-y a b x₀ y₀ x y = y
 
 pub greatest_divisor_spec : {M : Type 1} → statement M
 greatest_divisor_spec =
     tie.close
     (tie.spec
-    invariant-loop
-    decreases-loop
+    invariant-loop-y
+    decreases-loop-y
     (λ c. search rules)
     (λ c. search rules)
     (λ c. search (rules, divisor_falls))

@@ -10,4 +10,4 @@ empty_spec =
     tie.close
     (tie.spec
     (λ c κs. search rules)
-    (λ c. simp c.none.ensures))
+    (λ c. simp c.none-tally.ensures))

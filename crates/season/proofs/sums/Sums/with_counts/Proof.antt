@@ -8,19 +8,19 @@ use borrow.Author.Rules.{rules}
 use Rattle.season.proofs.sums.Sums.with_counts.Statement.{statement}
 use Rattle.season.proofs.sums.Sums.with_counts.Tie as tie
 
-abbrev invariant-loop : tie.invariant-loop
-invariant-loop self₀ counts net i a₀ self a = Tallying self₀ counts net i self a
+abbrev invariant-loop-a : tie.invariant-loop-a
+invariant-loop-a self₀ counts net i a₀ self a = Tallying self₀ counts net i self a
 
-abbrev decreases-loop : tie.decreases-loop
-decreases-loop self₀ counts net i a₀ self a = 16 - a
+abbrev decreases-loop-a : tie.decreases-loop-a
+decreases-loop-a self₀ counts net i a₀ self a = 16 - a
 
 pub with_counts_spec : {M : Type 1} → statement M
 unfolding node_at left_in tally_at no_tally
 with_counts_spec =
     tie.close
     (tie.spec
-    invariant-loop
-    decreases-loop
+    invariant-loop-a
+    decreases-loop-a
     (λ c. search rules)
     (λ c. search (rules, tallying_begin))
     (λ c. search rules)
