@@ -1,6 +1,7 @@
 // The public calls of `image`, `run` and `registers` for programs in other languages: numbers and byte slices alone. include/cavindorum.h
 // declares them for C.
 #![tactic(auto)]
+
 ghost use Rattle.std.specs.Prelude.{◌≡◌, length};
 ghost use Rattle.text.specs.Buffer.{over};
 ghost use Rattle.run.specs.Calls.{finished_of, finish_number, answers_in};

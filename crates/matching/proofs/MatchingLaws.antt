@@ -59,12 +59,12 @@ module _ (z : ℤ) (fits : SFits w32 z) where
 
 -- ---- past the last variable
 module _ (p : Process) (v : ℕ) (e : length p.variables ≡ 8) (h : 8 ≤ v) where
-    short : length p.variables ≤ v
-    short = omega arith
+  short : length p.variables ≤ v
+  short = omega arith
 
-    pub variable_past : Value.Unset ≡ variable_at p v
-    unfolding variable_at
-    variable_past = ap (λ (x : Variable). x.value) (sym (get_or-eq_default p.variables _ {n = v} short))
+  pub variable_past : Value.Unset ≡ variable_at p v
+  unfolding variable_at
+  variable_past = ap (λ (x : Variable). x.value) (sym (get_or-eq_default p.variables _ {n = v} short))
 
 -- ---- an evaluated template
 pub wants_none : (w : Wanted) → w ≡ zero_wanted → (w ∷ w ∷ w ∷ w ∷ []) ≡ replicate 4 zero_wanted

@@ -4,5 +4,5 @@
 mod code;
 mod nodes;
 mod parts;
-mod rows;
+mod policies;
 pub mod whole;

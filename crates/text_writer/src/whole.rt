@@ -9,7 +9,7 @@ ghost use Rattle.writer.specs.Calls.{placed_of, placed_in};
 
 use crate::code::put_definitions;
 use crate::nodes::put_nodes;
-use crate::rows::put_policy;
+use crate::policies::put_policy;
 use fresh::freshness::is_fresh;
 use net::network::Net;
 use text::writing::put_bytes;

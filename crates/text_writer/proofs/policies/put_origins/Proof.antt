@@ -1,4 +1,4 @@
--- `text_writer::rows::put_origins` meets its contract. Assumes nothing.
+-- `text_writer::policies::put_origins` meets its contract. Assumes nothing.
 use Prim.Native.Nat.{◌-◌, ◌≤◌}
 use Rattle.net.specs.Records.{row_at, address_of}
 use Rattle.read_back.specs.NetSource.{origin_rows_of}
@@ -8,8 +8,8 @@ use Rattle.text.specs.Joined.{joined}
 use Rattle.text.specs.Writing.{Wrote}
 use Rattle.text_writer.proofs.PartLaws.{origins_end}
 use borrow.Author.Rules.{rules}
-use Rattle.text_writer.proofs.rows.put_origins.Statement.{statement}
-use Rattle.text_writer.proofs.rows.put_origins.Tie as tie
+use Rattle.text_writer.proofs.policies.put_origins.Statement.{statement}
+use Rattle.text_writer.proofs.policies.put_origins.Tie as tie
 
 abbrev invariant-loop-j : tie.invariant-loop-j
 invariant-loop-j out₀ at i n x next₀ j₀ out next j = Wrote out₀ at (joined j (λ k. origin_row_text i k (row_at x (address_of k)))) out next × ((j ≤ n) × (n ≤ 16))

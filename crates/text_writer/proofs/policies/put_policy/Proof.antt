@@ -1,8 +1,8 @@
--- `text_writer::rows::put_policy` meets its contract. Assumes nothing.
+-- `text_writer::policies::put_policy` meets its contract. Assumes nothing.
 use Rattle.text_writer.proofs.PartLaws.{policy_plain, policy_by_origin}
 use borrow.Author.Rules.{rules}
-use Rattle.text_writer.proofs.rows.put_policy.Statement.{statement}
-use Rattle.text_writer.proofs.rows.put_policy.Tie as tie
+use Rattle.text_writer.proofs.policies.put_policy.Statement.{statement}
+use Rattle.text_writer.proofs.policies.put_policy.Tie as tie
 
 pub put_policy_spec : {M : Type 1} → statement M
 put_policy_spec =

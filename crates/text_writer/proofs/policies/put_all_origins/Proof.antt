@@ -1,4 +1,4 @@
--- `text_writer::rows::put_all_origins` meets its contract. Assumes nothing.
+-- `text_writer::policies::put_all_origins` meets its contract. Assumes nothing.
 use Prim.Native.Nat.{◌-◌, ◌≤◌}
 use Rattle.net.specs.Records.{node_at, address_of}
 use Rattle.read_back.specs.NetSource.{origin_rows_of}
@@ -9,8 +9,8 @@ use Rattle.text.specs.Writing.{Wrote}
 use Rattle.text_writer.proofs.ListLaws.{numbered_end}
 use Rattle.text_writer.proofs.PartLaws.{nodes_numbered}
 use borrow.Author.Rules.{rules}
-use Rattle.text_writer.proofs.rows.put_all_origins.Statement.{statement}
-use Rattle.text_writer.proofs.rows.put_all_origins.Tie as tie
+use Rattle.text_writer.proofs.policies.put_all_origins.Statement.{statement}
+use Rattle.text_writer.proofs.policies.put_all_origins.Tie as tie
 
 abbrev invariant-loop-i : tie.invariant-loop-i
 invariant-loop-i out₀ at net n next₀ i₀ out next i = Wrote out₀ at (joined i (λ j. node_text j 0 (origin_rows_of n (node_at net (address_of j))))) out next × ((i ≤ n) × (n ≤ 16))

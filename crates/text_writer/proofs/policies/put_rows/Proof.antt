@@ -1,4 +1,4 @@
--- `text_writer::rows::put_rows` meets its contract. Assumes nothing.
+-- `text_writer::policies::put_rows` meets its contract. Assumes nothing.
 use Prim.Native.Nat.{◌-◌, ◌≤◌}
 use Rattle.net.specs.Records.{row_at, node_at, address_of}
 use Rattle.sources.specs.Printed.{row_text}
@@ -8,8 +8,8 @@ use Rattle.text.specs.Writing.{Wrote}
 use Rattle.text_writer.proofs.ListLaws.{numbered_end}
 use Rattle.text_writer.proofs.PartLaws.{rows_numbered}
 use borrow.Author.Rules.{rules}
-use Rattle.text_writer.proofs.rows.put_rows.Statement.{statement}
-use Rattle.text_writer.proofs.rows.put_rows.Tie as tie
+use Rattle.text_writer.proofs.policies.put_rows.Statement.{statement}
+use Rattle.text_writer.proofs.policies.put_rows.Tie as tie
 
 abbrev invariant-loop-i : tie.invariant-loop-i
 invariant-loop-i out₀ at net n next₀ i₀ out next i = Wrote out₀ at (joined i (λ j. row_text j (row_at (node_at net (address_of j)) (address_of 0)))) out next × ((i ≤ n) × (n ≤ 16))

@@ -1,10 +1,10 @@
--- `text_writer::rows::put_rest` meets its contract. Assumes nothing.
+-- `text_writer::policies::put_rest` meets its contract. Assumes nothing.
 use Rattle.sources.specs.Printed.{row_rest_text, newline}
 use Rattle.text.proofs.WritingLaws.{wrote_then}
 use Rattle.text.specs.Bytes.{bytes}
 use borrow.Author.Rules.{rules}
-use Rattle.text_writer.proofs.rows.put_rest.Statement.{statement}
-use Rattle.text_writer.proofs.rows.put_rest.Tie as tie
+use Rattle.text_writer.proofs.policies.put_rest.Statement.{statement}
+use Rattle.text_writer.proofs.policies.put_rest.Tie as tie
 
 pub put_rest_spec : {M : Type 1} → statement M
 unfolding row_rest_text newline bytes

@@ -1,4 +1,4 @@
--- `text_writer::rows::put_grants` meets its contract. Assumes nothing.
+-- `text_writer::policies::put_grants` meets its contract. Assumes nothing.
 use Prim.Native.Nat.{◌-◌, ◌≤◌}
 use Rattle.net.specs.Records.{no_rights, rights_at, address_of}
 use Rattle.sources.specs.Printed.{grant_text}
@@ -9,8 +9,8 @@ use Rattle.text_writer.proofs.Lengths.{rights_long}
 use Rattle.text_writer.proofs.ListLaws.{numbered_all}
 use Rattle.text_writer.proofs.PartLaws.{grants_numbered}
 use borrow.Author.Rules.{rules}
-use Rattle.text_writer.proofs.rows.put_grants.Statement.{statement}
-use Rattle.text_writer.proofs.rows.put_grants.Tie as tie
+use Rattle.text_writer.proofs.policies.put_grants.Statement.{statement}
+use Rattle.text_writer.proofs.policies.put_grants.Tie as tie
 
 abbrev invariant-loop-i : tie.invariant-loop-i
 invariant-loop-i out₀ at row next₀ i₀ out next i = Wrote out₀ at (joined i (λ j. grant_text j (rights_at row (address_of j)))) out next × (i ≤ 16)

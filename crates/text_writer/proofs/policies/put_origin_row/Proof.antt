@@ -1,10 +1,10 @@
--- `text_writer::rows::put_origin_row` meets its contract. Assumes nothing.
+-- `text_writer::policies::put_origin_row` meets its contract. Assumes nothing.
 use Rattle.sources.specs.Printed.{row_text, origin_row_text}
 use Rattle.text.proofs.WritingLaws.{wrote_then}
 use Rattle.text.specs.Bytes.{bytes}
 use borrow.Author.Rules.{rules}
-use Rattle.text_writer.proofs.rows.put_origin_row.Statement.{statement}
-use Rattle.text_writer.proofs.rows.put_origin_row.Tie as tie
+use Rattle.text_writer.proofs.policies.put_origin_row.Statement.{statement}
+use Rattle.text_writer.proofs.policies.put_origin_row.Tie as tie
 
 pub put_origin_row_spec : {M : Type 1} → statement M
 unfolding row_text origin_row_text bytes
