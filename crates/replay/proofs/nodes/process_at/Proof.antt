@@ -4,18 +4,18 @@ use borrow.Author.Rules.{rules}
 use Rattle.replay.proofs.nodes.process_at.Statement.{statement}
 use Rattle.replay.proofs.nodes.process_at.Tie as tie
 
-abbrev invariant-loop : tie.invariant-loop
-invariant-loop s from process₀ i₀ process i = Unit {0}
+abbrev invariant-loop-i : tie.invariant-loop-i
+invariant-loop-i s from process₀ i₀ process i = Unit {0}
 
-abbrev decreases-loop : tie.decreases-loop
-decreases-loop s from process₀ i₀ process i = 8 - i
+abbrev decreases-loop-i : tie.decreases-loop-i
+decreases-loop-i s from process₀ i₀ process i = 8 - i
 
 pub process_at_spec : {M : Type 1} → statement M
 process_at_spec =
     tie.close
     (tie.spec
-    invariant-loop
-    decreases-loop
+    invariant-loop-i
+    decreases-loop-i
     (λ c κs. search rules)
     (λ c κs. search rules)
     (λ c κs. search rules)

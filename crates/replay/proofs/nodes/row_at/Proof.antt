@@ -4,18 +4,18 @@ use borrow.Author.Rules.{rules}
 use Rattle.replay.proofs.nodes.row_at.Statement.{statement}
 use Rattle.replay.proofs.nodes.row_at.Tie as tie
 
-abbrev invariant-loop : tie.invariant-loop
-invariant-loop s at row₀ i₀ row i = Unit {0}
+abbrev invariant-loop-i : tie.invariant-loop-i
+invariant-loop-i s at row₀ i₀ row i = Unit {0}
 
-abbrev decreases-loop : tie.decreases-loop
-decreases-loop s at row₀ i₀ row i = 16 - i
+abbrev decreases-loop-i : tie.decreases-loop-i
+decreases-loop-i s at row₀ i₀ row i = 16 - i
 
 pub row_at_spec : {M : Type 1} → statement M
 row_at_spec =
     tie.close
     (tie.spec
-    invariant-loop
-    decreases-loop
+    invariant-loop-i
+    decreases-loop-i
     (λ c κs. search rules)
     (λ c κs. search rules)
     (λ c. tt)

@@ -4,18 +4,18 @@ use borrow.Author.Rules.{rules}
 use Rattle.replay.proofs.nodes.tuple_at.Statement.{statement}
 use Rattle.replay.proofs.nodes.tuple_at.Tie as tie
 
-abbrev invariant-loop : tie.invariant-loop
-invariant-loop s at tuple₀ i₀ tuple i = Unit {0}
+abbrev invariant-loop-i : tie.invariant-loop-i
+invariant-loop-i s at tuple₀ i₀ tuple i = Unit {0}
 
-abbrev decreases-loop : tie.decreases-loop
-decreases-loop s at tuple₀ i₀ tuple i = 4 - i
+abbrev decreases-loop-i : tie.decreases-loop-i
+decreases-loop-i s at tuple₀ i₀ tuple i = 4 - i
 
 pub tuple_at_spec : {M : Type 1} → statement M
 tuple_at_spec =
     tie.close
     (tie.spec
-    invariant-loop
-    decreases-loop
+    invariant-loop-i
+    decreases-loop-i
     (λ c κs. search rules)
     (λ c. tt)
     (λ c. search rules)

@@ -4,18 +4,18 @@ use borrow.Author.Rules.{rules}
 use Rattle.replay.proofs.nodes.with_processes.Statement.{statement}
 use Rattle.replay.proofs.nodes.with_processes.Tie as tie
 
-abbrev invariant-loop : tie.invariant-loop
-invariant-loop s at peopled₀ i₀ peopled i = Unit {0}
+abbrev invariant-loop-i : tie.invariant-loop-i
+invariant-loop-i s at peopled₀ i₀ peopled i = Unit {0}
 
-abbrev decreases-loop : tie.decreases-loop
-decreases-loop s at peopled₀ i₀ peopled i = 4 - i
+abbrev decreases-loop-i : tie.decreases-loop-i
+decreases-loop-i s at peopled₀ i₀ peopled i = 4 - i
 
 pub with_processes_spec : {M : Type 1} → statement M
 with_processes_spec =
     tie.close
     (tie.spec
-    invariant-loop
-    decreases-loop
+    invariant-loop-i
+    decreases-loop-i
     (λ c. tt)
     (λ c. search rules)
     (λ c κs. search rules)

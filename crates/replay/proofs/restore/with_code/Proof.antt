@@ -4,18 +4,18 @@ use borrow.Author.Rules.{rules}
 use Rattle.replay.proofs.restore.with_code.Statement.{statement}
 use Rattle.replay.proofs.restore.with_code.Tie as tie
 
-abbrev invariant-loop : tie.invariant-loop
-invariant-loop s coded₀ i₀ coded i = Unit {0}
+abbrev invariant-loop-i : tie.invariant-loop-i
+invariant-loop-i s coded₀ i₀ coded i = Unit {0}
 
-abbrev decreases-loop : tie.decreases-loop
-decreases-loop s coded₀ i₀ coded i = 512 - i
+abbrev decreases-loop-i : tie.decreases-loop-i
+decreases-loop-i s coded₀ i₀ coded i = 512 - i
 
 pub with_code_spec : {M : Type 1} → statement M
 with_code_spec =
     tie.close
     (tie.spec
-    invariant-loop
-    decreases-loop
+    invariant-loop-i
+    decreases-loop-i
     (λ c. tt)
     (λ c. search rules)
     (λ c. search rules)
