@@ -42,11 +42,11 @@ fn is_comment(line: &str) -> bool {
     line.trim_start().starts_with("--")
 }
 
-// NAME : registerOf (IMAGE) (PICKS) ≡ bytes "REGISTER", where (b : ℕ) → may
-// come before registerOf: b is then any byte.
+// NAME : register_of (IMAGE) (PICKS) ≡ bytes "REGISTER", where (b : ℕ) → may
+// come before register_of: b is then any byte.
 fn claim(text: &str) -> Claim {
     let (name, rest) = text.split_once(" : ").expect("a field has a type");
-    let (any, rest) = rest.split_once("registerOf").expect("it is of registerOf");
+    let (any, rest) = rest.split_once("register_of").expect("it is of register_of");
     let any = match any.trim() {
         "" => None,
         "(b : ℕ) →" => Some("b"),
