@@ -119,7 +119,8 @@ fn print_answer(rt: &HostRuntime, answer: Answer) -> bool {
     }
 }
 
-// Prints what such a pick is answered in a net that no image gives.
+// Prints what such a pick is answered in a net that no image gives. Its frame is no part of that of the edges before.
+#[inline(never)]
 fn print_barred(rt: &HostRuntime, image: &[u8]) -> bool {
     let opened = read_image(image);
     let net = without_creation(opened.net);

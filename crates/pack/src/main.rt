@@ -6,7 +6,7 @@
 use files::{LONGEST_TEXT, print_first, read_text_file, replace_file, say};
 use image::reader::LONGEST_IMAGE;
 use net::network::Net;
-use notation::reading::{Verdict, read_text};
+use notation::reading::{Opened, Verdict, read_text};
 use text::decimal::put_marked;
 use text::writing::{put, put_bytes};
 use writer::pack::{Packed, write_image};
@@ -38,9 +38,15 @@ fn pack_net(rt: &HostRuntime, net: Net) {
     }
 }
 
+// Reads a text in a frame of its own, which is gone when an image is written.
+#[inline(never)]
+fn open(text: &[u8]) -> Opened {
+    read_text(text)
+}
+
 // Writes the image of the net that a text gives.
 fn pack(rt: &HostRuntime, text: &[u8]) {
-    let opened = read_text(text);
+    let opened = open(text);
     let answer = opened.answer;
     let net = opened.net;
     match answer {

@@ -57,6 +57,8 @@ fn make_picks(rt: &HostRuntime, net: Net, picks: &[u8]) -> Made {
     made
 }
 
+// Its frame is no part of that of the picks before.
+#[inline(never)]
 fn write_net(rt: &HostRuntime, net: Net) -> bool {
     let mut out = [0u8; 27668];
     put_net(&mut out, 0, net);
