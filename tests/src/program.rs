@@ -112,7 +112,10 @@ pub fn run_given(
 fn started<T>(name: &str, result: io::Result<T>) -> T {
     result.unwrap_or_else(|error| {
         let path = program(name);
-        panic!("{}: {error}; `rt run` in crates/{name} makes it", path.display())
+        panic!(
+            "{}: {error}; `rt run` in crates/{name} makes it",
+            path.display()
+        )
     })
 }
 

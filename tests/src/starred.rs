@@ -46,7 +46,9 @@ fn is_comment(line: &str) -> bool {
 // come before register_of: b is then any byte.
 fn claim(text: &str) -> Claim {
     let (name, rest) = text.split_once(" : ").expect("a field has a type");
-    let (any, rest) = rest.split_once("register_of").expect("it is of register_of");
+    let (any, rest) = rest
+        .split_once("register_of")
+        .expect("it is of register_of");
     let any = match any.trim() {
         "" => None,
         "(b : ℕ) →" => Some("b"),

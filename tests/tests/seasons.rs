@@ -134,7 +134,7 @@ fn names_of_one_folder() {
 fn odd_names_of_folders() {
     let files = Folder::of(&PAPER_IMAGE, &[0; 3]);
     let names = ["-1", "--help", "a b", "net.bin", "*", "\u{FC}"].map(OsString::from);
-    let others = [vec![b'x'; 255], vec![0xFF, 0xFE], vec![b'\n']].map(OsString::from_vec);
+    let others = [vec![b'x'; 255], vec![b'\n']].map(OsString::from_vec);
     let once = printed(&Season::of(&[files.clone()]).runs());
     for name in names.iter().chain(&others) {
         let here = TestDirectory::holding([]);
@@ -145,6 +145,31 @@ fn odd_names_of_folders() {
         }
         assert_eq!(shares(&[name], &here.path), once, "{name:?}");
     }
+}
+
+/// A name that is no text is no path for the library that the programs open
+/// files with: that is said of both files, and nothing is printed.
+#[test]
+fn a_name_that_is_no_text() {
+    let files = Folder::of(&PAPER_IMAGE, &[0; 3]);
+    let name = OsString::from_vec(vec![0xFF, 0xFE]);
+    let here = TestDirectory::holding([]);
+    let folder = here.path.join(&name);
+    fs::create_dir(&folder).expect("it can be made");
+    for (path, content) in files.files(".") {
+        fs::write(folder.join(path), content).expect("it can be written");
+    }
+    let output = run_given(NAME, &[&name], &here.path, Stdio::null(), Stdio::piped());
+    assert!(output.status.success() && output.stdout.is_empty());
+    let said = ["net.bin", "picks.bin"].map(|file| {
+        [
+            b"cannot open \xFF\xFE/",
+            file.as_bytes(),
+            b": invalid filename\n",
+        ]
+        .concat()
+    });
+    assert_eq!(output.stderr, said.concat());
 }
 
 /// A folder that is not there has no image, and makes no run.
