@@ -73,7 +73,7 @@ fn is_given(rt: &HostRuntime, i: usize) -> bool {
     !matches!(rt.arg(i, &mut none), Err(FillError::NotPresent))
 }
 
-// Goes by the one argument, of which no more than four bytes count.
+// Goes by the one argument; one of more than four bytes counts as none.
 fn check_argument(rt: &HostRuntime) {
     let mut word = [0u8; 4];
     match rt.arg(1, &mut word) {
