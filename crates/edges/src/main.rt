@@ -60,6 +60,7 @@ fn after(edges: &[u8], at: usize) -> usize {
 }
 
 // Prints the register of an image and its picks; false where that fails.
+#[inline(never)]
 fn print_register(rt: &HostRuntime, image: &[u8], picks: &[u8]) -> bool {
     let mut out = [0u8; 65536];
     let written = register(image, picks, &mut out);

@@ -70,6 +70,7 @@ fn node_of(
 }
 
 // The net with the nodes that the words give, n of them in use.
+#[inline(never)]
 pub(crate) fn decode(
     start: Net,
     n: usize,

@@ -93,6 +93,7 @@ fn load_rows(nodes: [Node; 16], rows: &mut [[[bool; 65]; 16]; 16])
 }
 
 // The words of a net's nodes.
+#[inline(never)]
 pub(crate) fn load(
     net: Net,
     procs: &mut [[[usize; 16]; 4]; 16],
@@ -112,6 +113,7 @@ pub(crate) fn load(
     load_rows(nodes, rows);
 }
 
+#[inline(never)]
 pub(crate) fn load_heads(code: [Instruction; 512], length: usize, heads: &mut [[usize; 6]; 512])
     requires { length ≤ 512 }
     ensures { heads.new ≡ loaded_heads code length heads.old }
@@ -123,6 +125,7 @@ pub(crate) fn load_heads(code: [Instruction; 512], length: usize, heads: &mut [[
     }
 }
 
+#[inline(never)]
 pub(crate) fn load_fields(
     code: [Instruction; 512],
     length: usize,
@@ -138,6 +141,7 @@ pub(crate) fn load_fields(
     }
 }
 
+#[inline(never)]
 pub(crate) fn load_sets(code: [Instruction; 512], length: usize, sets: &mut [[bool; 16]; 512])
     requires { length ≤ 512 }
     ensures { sets.new ≡ loaded_sets code length sets.old }
@@ -149,6 +153,7 @@ pub(crate) fn load_sets(code: [Instruction; 512], length: usize, sets: &mut [[bo
     }
 }
 
+#[inline(never)]
 pub(crate) fn load_needs(code: [Instruction; 512], length: usize, needs: &mut [[bool; 69]; 512])
     requires { length ≤ 512 }
     ensures { needs.new ≡ loaded_needs code length needs.old }

@@ -14,7 +14,7 @@ use dump::put_net;
 use dump::taken::two_at;
 use files::{print, read_first, read_next};
 use image::reader::{number_of, place_of};
-use lean::engine::Engine;
+use lean::engine::{Engine, StartedText};
 use net::network::Net;
 use notation::reading::Verdict as TextVerdict;
 
@@ -133,8 +133,14 @@ fn text_number(answer: TextVerdict) -> u8 {
     }
 }
 
+// Opens a text in a frame of its own, which is gone when calls are made.
+#[inline(never)]
+fn open_text(text: &[u8]) -> StartedText {
+    Engine::open_text(text)
+}
+
 fn drive_text(rt: &HostRuntime, text: &[u8]) -> bool {
-    let started = Engine::open_text(text);
+    let started = open_text(text);
     let answer = started.answer;
     let engine = started.engine;
     write_opened(rt, text_number(answer), 0, engine.net()) && drive(rt, engine)
