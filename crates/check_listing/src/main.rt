@@ -6,10 +6,9 @@
 #![tactic(auto)]
 
 use check::same;
-use files::{print, print_first, read_file, say};
+use files::{argument, is_given, print, print_first, read_file, say};
 use image::reader::LONGEST_IMAGE;
 use listing::checking::{Age, Checked, LONGEST_LISTING, check_listing, line_of, number_of};
-use std::env::{Env, FillError};
 use text::decimal::{put_decimal, put_marked};
 use text::writing::put;
 
@@ -67,19 +66,11 @@ fn check_called(rt: &HostRuntime, word: &[u8]) {
     }
 }
 
-// Whether there is an argument of a number.
-fn is_given(rt: &HostRuntime, i: usize) -> bool {
-    let mut none = [0u8; 0];
-    !matches!(rt.arg(i, &mut none), Err(FillError::NotPresent))
-}
-
 // Goes by the one argument; one of more than four bytes counts as none.
 fn check_argument(rt: &HostRuntime) {
     let mut word = [0u8; 4];
-    match rt.arg(1, &mut word) {
-        Ok(n) => check_called(rt, &word[..n]),
-        Err(_) => check_called(rt, b""),
-    }
+    let n = argument(rt, 1, &mut word);
+    check_called(rt, &word[..n]);
 }
 
 fn main(rt: HostRuntime) {

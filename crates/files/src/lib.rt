@@ -1,10 +1,11 @@
-// What the programs do with files and with the streams that they are started with. What fails is named on standard
-// error: what could not be done, with which file, and why.
+// What the programs do with files, and with the streams and arguments that they are started with. What fails is named on
+// standard error: what could not be done, with which file, and why.
 #![tactic(auto)]
 
-ghost use Rattle.std.specs.Prelude.{◌≡◌};
+ghost use Rattle.std.specs.Prelude.{◌≡◌, ◌≤◌, length};
 ghost use Rattle.files.specs.Counts.{IsPrefixLen};
 
+use std::env::{Env, FillError};
 use std::fmt::InlineText;
 use std::fs::{File, OpenOptions};
 use std::io::{ErrorKind, Print, Read, Write};
@@ -16,6 +17,20 @@ use std::{fs, io, str};
 pub struct Loaded {
     pub count: usize,
     pub failed: bool,
+}
+
+// Whether the program was started with an argument of that number, the first being 1.
+pub fn is_given(rt: &HostRuntime, i: usize) -> bool {
+    let mut none = [0u8; 0];
+    !matches!(rt.arg(i, &mut none), Err(FillError::NotPresent))
+}
+
+// Puts an argument at the start of a buffer and gives its length; 0 where there is none of that number, or where it is
+// longer than the buffer.
+pub fn argument(rt: &HostRuntime, i: usize, buffer: &mut [u8]) -> usize
+    ensures { result ≤ length buffer.new }
+{
+    rt.arg(i, buffer).unwrap_or(0)
 }
 
 // Writes to standard error. What cannot be written there cannot be told either.

@@ -5,14 +5,12 @@
 // count.
 #![tactic(auto)]
 
-ghost use Rattle.std.specs.Prelude.{◌≤◌, length};
 ghost use Rattle.files.specs.Counts.{IsPrefixLen};
 
-use files::{Loaded, print, print_first, read_file, say};
+use files::{Loaded, argument, is_given, print, print_first, read_file, say};
 use image::reader::LONGEST_IMAGE;
 use season::figures::{Figured, room};
 use season::sums::Sums;
-use std::env::{Env, FillError};
 use text::writing::{put, put_bytes};
 
 // No folder is taken by a longer name: the system takes no longer path.
@@ -64,25 +62,12 @@ fn add_folder(rt: &HostRuntime, sums: Sums, folder: &[u8]) -> Progress {
 // Adds the run of the folder that an argument names.
 fn add_argument(rt: &HostRuntime, sums: Sums, i: usize) -> Progress {
     let mut folder = [0u8; LONGEST_PATH];
-    let n = length_of(rt, i, &mut folder);
+    let n = argument(rt, i, &mut folder);
     if n == 0 {
         say(rt, b"an argument is empty or longer than 4096 bytes\n");
         return Progress { sums, failed: true };
     }
     add_folder(rt, sums, &folder[..n])
-}
-
-// Puts an argument at the start of a buffer and gives its length; 0 where it is longer than the buffer.
-fn length_of(rt: &HostRuntime, i: usize, buffer: &mut [u8]) -> usize
-    ensures { result ≤ length buffer.new }
-{
-    rt.arg(i, buffer).unwrap_or(0)
-}
-
-// Whether there is an argument of a number.
-fn is_given(rt: &HostRuntime, i: usize) -> bool {
-    let mut none = [0u8; 0];
-    !matches!(rt.arg(i, &mut none), Err(FillError::NotPresent))
 }
 
 // Adds the runs of the folders that the arguments name, up to one that cannot be read.
