@@ -6,7 +6,7 @@ use crate::locality::{Group, Locality, Place};
 
 // Where an action takes place: at a written address, at the host itself, or at the address that a
 // variable holds.
-#[derive(Clone, Copy)]
+#[derive(Clone, Copy, PartialEq, Eq, Debug)]
 pub enum Target {
     Written(Locality),
     Own,
@@ -14,7 +14,7 @@ pub enum Target {
 }
 
 // One field of a template: an actual (a reading, an address, self, a variable's value) or a formal.
-#[derive(Clone, Copy)]
+#[derive(Clone, Copy, PartialEq, Eq, Debug)]
 pub enum Pattern {
     Reading(i32),
     Address(Locality),
@@ -24,14 +24,14 @@ pub enum Pattern {
     FormalAddress(u8),
 }
 
-#[derive(Clone, Copy)]
+#[derive(Clone, Copy, PartialEq, Eq, Debug)]
 pub struct TemplateField {
     pub pattern: Pattern,
 }
 
 // What an instruction does, with its target and the places that follow it. `Eval` has the sent place
 // before the next one; `OutAll` is an out to each member of a set.
-#[derive(Clone, Copy)]
+#[derive(Clone, Copy, PartialEq, Eq, Debug)]
 pub enum Action {
     Stop,
     Out(Target, Place),
@@ -44,7 +44,7 @@ pub enum Action {
 }
 
 // An action with the `count` template fields of an out, to one or to all of a set, an in or a read; the fields past them are zero.
-#[derive(Clone, Copy)]
+#[derive(Clone, Copy, PartialEq, Eq, Debug)]
 pub struct Instruction {
     pub action: Action,
     pub count: usize,

@@ -3,15 +3,15 @@ ghost use Rattle.std.specs.Prelude.{◌≡◌};
 ghost use Rattle.net.specs.Groups.{member};
 
 // The address of a node.
-#[derive(Clone, Copy)]
+#[derive(Clone, Copy, PartialEq, Eq, Debug)]
 pub struct Locality(pub u8);
 
 // The place of an instruction in the code: a process identifier of the calculus.
-#[derive(Clone, Copy)]
+#[derive(Clone, Copy, PartialEq, Eq, Debug)]
 pub struct Place(pub u16);
 
 // A set of localities: a bit for each, the most significant one for address 0.
-#[derive(Clone, Copy)]
+#[derive(Clone, Copy, PartialEq, Eq, Debug)]
 pub struct Group(pub u16);
 
 impl Group {

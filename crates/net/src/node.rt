@@ -10,7 +10,7 @@ use crate::process::Process;
 use crate::tuple::Tuple;
 
 // A node: its policy, which is a row for each origin, its process slots and its tuple space, oldest tuple first.
-#[derive(Clone, Copy)]
+#[derive(Clone, Copy, PartialEq, Eq, Debug)]
 pub struct Node {
     pub rows: [Row; 16],
     pub processes: [Process; 4],
@@ -19,14 +19,14 @@ pub struct Node {
 }
 
 // A process slot of a node, or that none is free.
-#[derive(Clone, Copy)]
+#[derive(Clone, Copy, PartialEq, Eq, Debug)]
 pub enum Slot {
     Number(usize),
     Full,
 }
 
 // Whether a change was made, and the node after it.
-#[derive(Clone, Copy)]
+#[derive(Clone, Copy, PartialEq, Eq, Debug)]
 pub struct Changed {
     pub done: bool,
     pub node: Node,

@@ -5,7 +5,7 @@ ghost use Rattle.net.specs.Records.{no_rights, all_rights, zero_row, alike, with
 use crate::locality::Locality;
 
 // The rights over one address: i (take), r (read), o (put), e (send code).
-#[derive(Clone, Copy)]
+#[derive(Clone, Copy, PartialEq, Eq, Debug)]
 pub struct Rights {
     pub take: bool,
     pub read: bool,
@@ -14,7 +14,7 @@ pub struct Rights {
 }
 
 // A node's row for an origin: the right n (create), and the rights over each address.
-#[derive(Clone, Copy)]
+#[derive(Clone, Copy, PartialEq, Eq, Debug)]
 pub struct Row {
     pub create: bool,
     pub rights: [Rights; 16],

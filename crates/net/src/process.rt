@@ -7,7 +7,7 @@ use crate::tuple::{Value, Variable};
 
 // A slot: free, or held by a process that stands at a place with its variables. `origin` is the address of the node that its code
 // came from: a starting process has its own node's, sent code that of the node that sent it (document 02, slip 10).
-#[derive(Clone, Copy)]
+#[derive(Clone, Copy, PartialEq, Eq, Debug)]
 pub struct Process {
     pub busy: bool,
     pub at: Place,

@@ -5,33 +5,33 @@ ghost use Rattle.net.specs.Records.{zero_field, zero_tuple, unset_variable, mark
 use crate::locality::Locality;
 
 // What a variable of a process holds.
-#[derive(Clone, Copy)]
+#[derive(Clone, Copy, PartialEq, Eq, Debug)]
 pub enum Value {
     Unset,
     Reading(i32),
     Address(Locality),
 }
 
-#[derive(Clone, Copy)]
+#[derive(Clone, Copy, PartialEq, Eq, Debug)]
 pub struct Variable {
     pub value: Value,
 }
 
 // What a field of a tuple holds: a reading or an address, never unset.
-#[derive(Clone, Copy)]
+#[derive(Clone, Copy, PartialEq, Eq, Debug)]
 pub enum Item {
     Reading(i32),
     Address(Locality),
 }
 
-#[derive(Clone, Copy)]
+#[derive(Clone, Copy, PartialEq, Eq, Debug)]
 pub struct Field {
     pub item: Item,
 }
 
 // A tuple of `count` fields; the fields past them are zero. `mark` is the address of the node where its out was performed; an
 // image's tuples have that of their own node (document 02, slip 8).
-#[derive(Clone, Copy)]
+#[derive(Clone, Copy, PartialEq, Eq, Debug)]
 pub struct Tuple {
     pub count: usize,
     pub fields: [Field; 4],
