@@ -1,8 +1,9 @@
 -- Describes the code, and is no part of what a reader has to believe: how readers that hand on a step, which is a place
 -- or the first fault, keep to the definitions of `Reader.antt`.
 pub use Rattle.readers.specs.declared.step.Step.{Step}
-use Rattle.std.specs.Prelude.{ℕ, ◌-◌, ◌≤◌, ◌≡◌, Bool, true, false, List}
-use Rattle.readers.specs.Reader.{Parsed, got, fault, Reader, each, turns}
+use Rattle.std.specs.Prelude.{ℕ, ◌-◌, ◌≤◌, ◌≡◌, Bool, true, false, List, Result, Ok, Err}
+use Rattle.std.specs.Borrow.{Bor}
+use Rattle.readers.specs.Reader.{Fault, Parsed, got, fault, Reader, each, turns}
 
 -- whether a step is a place
 unfoldable pub reached : Step → Bool
@@ -32,3 +33,13 @@ pub record Went {A : Type 0} (s : List ℕ) (p : Step) (m : Reader A) (q : Step)
 pub record Loop {A : Type 0} (s : List ℕ) (p₀ : Step) (n : ℕ) (f : ℕ → A → Reader A) (a₀ : A) (p : Step) (i : ℕ) (a : A) : Type 0 where
   pub within : i ≤ n
   pub rest : run_from s p₀ (each n f a₀) ≡ run_from s p (turns (n - i) i f a)
+
+-- what a function answered and the place that it came to, as an outcome: after a fault the place counts for nothing
+unfoldable pub came : {A : Type 0} → Result A Fault → ℕ → Parsed A
+came (Ok a) q = got a q
+came (Err f) q = fault f
+
+-- from place p of the bytes s the reader m comes to what was answered and to place q, of the same bytes
+pub record Came {A : Type 0} (m : Reader A) (s : Bor (List ℕ)) (p : ℕ) (o : Result A Fault) (s' : Bor (List ℕ)) (q : ℕ) : Type 0 where
+  pub gave : came o q ≡ m s.now p
+  pub same : s' ≡ s
