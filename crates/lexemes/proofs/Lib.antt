@@ -1,3 +1,2 @@
 pub mod Long
-pub mod NumberLaws
-pub mod WordLaws
+pub mod Reading

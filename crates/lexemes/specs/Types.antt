@@ -1,3 +1,2 @@
 -- The types of the crates below that the definitions of this crate speak of.
 pub use Rattle.readers.specs.declared.fault.Fault.{Fault}
-pub use Rattle.readers.specs.declared.step.Step.{Step}

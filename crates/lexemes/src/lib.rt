@@ -2,4 +2,4 @@
 #![tactic(auto)]
 
 pub mod numbers;
-pub mod words;
+pub mod reader;

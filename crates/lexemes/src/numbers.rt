@@ -1,120 +1,85 @@
 // Numbers of the planners' notation: plain decimal, with no leading zeros.
-ghost use Rattle.std.specs.Prelude.{ℕ, ◌≤◌, true, List, ◌≡◌, leb};
-ghost use Rattle.net.specs.Choice.{choose};
-ghost use Rattle.lexemes.specs.Lexemes.{fail, is_digit, digit_of, digit, longer, another, rest, number};
-ghost use Rattle.lexemes.specs.Progress.{Numbered};
+ghost use Rattle.std.specs.Prelude.{◌≤◌, ◌≡◌, IfOk};
+ghost use Rattle.lexemes.specs.Lexemes.{is_digit, digit, longer, another, rest, number};
+ghost use Rattle.lexemes.specs.Progress.{Reads};
 
-use crate::words::{byte_here, fail_from, read_byte};
-use readers::step::{Step, require_that};
-
-// A number, and the step after it.
-#[derive(Clone, Copy)]
-pub struct NumberRead {
-    pub value: usize,
-    pub next: Step,
-}
+use crate::reader::TextReader;
+use readers::fault::Fault;
 
 // Whether a byte is a digit.
+#[tactic(auto, unfolding(crate::specs::Lexemes::is_digit, net::specs::Choice::both))]
 pub fn is_digit(b: u8) -> bool
     ensures { result ≡ is_digit b }
 {
-    if 48 <= b { b <= 57 } else { false }
+    48 <= b && b <= 57
 }
 
-// The digit b.
-fn digit_here(s: &[u8], from: Step, b: u8) -> NumberRead
-    requires { is_digit b ≡ true }
-    ensures { Numbered s.now from (digit_of b) 9 result }
-{
-    let next = read_byte(s, from, b);
-    let value = (b - 48) as usize;
-    NumberRead { value, next }
-}
-
-// No number: the fault 31.
-fn no_number(from: Step) -> NumberRead
-    ensures { (s : List ℕ) → Numbered s from (fail 31) 9 result }
-{
-    let next = fail_from(from, 31);
-    NumberRead { value: 0, next }
-}
-
-// A digit.
-fn read_digit(s: &[u8], from: Step) -> NumberRead
-    ensures { Numbered s.now from digit 9 result }
-{
-    let b = byte_here(s, from);
-    if is_digit(b) {
-        digit_here(s, from, b)
-    } else {
-        no_number(from)
-    }
-}
-
-// A number where it is within its limit; nought counts for nothing after a fault.
-fn capped(v: usize, limit: usize) -> usize
-    ensures { (result ≡ choose (leb v limit) v 0) × (result ≤ limit) }
-{
-    if v <= limit { v } else { 0 }
-}
-
-// One digit more after the number v.
-fn read_longer(s: &[u8], from: Step, limit: usize, v: usize) -> NumberRead
-    requires { (v ≤ limit) × (limit ≤ 4294967295) }
-    ensures { Numbered s.now from (longer limit v) limit result }
-{
-    let got = read_digit(s, from);
-    let sum = v * 10 + got.value;
-    let read = got.next;
-    let some = 1 <= v;
-    let low = sum <= limit;
-    let next = require_that(read, some & low, 31);
-    let value = capped(sum, limit);
-    NumberRead { value, next }
-}
-
-// The next digit, where there is one.
-fn read_another(s: &[u8], from: Step, limit: usize, v: usize) -> NumberRead
-    requires { (v ≤ limit) × (limit ≤ 4294967295) }
-    ensures { (i : ℕ) → Numbered s.now from (another limit i v) limit result }
-{
-    let b = byte_here(s, from);
-    if is_digit(b) {
-        read_longer(s, from, limit, v)
-    } else {
-        NumberRead {
-            value: v,
-            next: from,
+impl<'a> TextReader<'a> {
+    // A digit.
+    #[tactic(auto, using(crate::proofs::Reading::reads), unfolding(crate::specs::Lexemes::digit, crate::specs::Lexemes::digit_of))]
+    fn digit(&mut self) -> Result<usize, Fault>
+        ensures read { Reads self.old digit result self.new }
+        ensures range { IfOk result (λ v. v ≤ 9) }
+    {
+        let b = self.peek();
+        if is_digit(b) {
+            self.byte(b)?;
+            Ok((b - 48) as usize)
+        } else {
+            Err(Fault::at(31, self.at, 0))
         }
     }
-}
 
-// The digits after the first.
-fn read_rest(s: &[u8], from: Step, limit: usize, first: usize) -> NumberRead
-    requires { (first ≤ limit) × (limit ≤ 4294967295) }
-    ensures { Numbered s.now from (rest limit first) limit result }
-{
-    let mut value = first;
-    let mut next = from;
-    let mut i: usize = 0;
-    while i < 10 {
-        let read = read_another(s, next, limit, value);
-        value = read.value;
-        next = read.next;
-        i += 1;
+    // One digit more after the number v.
+    #[tactic(auto, using(crate::proofs::Reading::reads), unfolding(crate::specs::Lexemes::longer))]
+    fn longer(&mut self, limit: usize, v: usize) -> Result<usize, Fault>
+        requires { (v ≤ limit) × (limit ≤ 4294967295) }
+        ensures read { Reads self.old (longer limit v) result self.new }
+        ensures range { IfOk result (λ v. v ≤ limit) }
+    {
+        let d = self.digit()?;
+        let more = v * 10 + d;
+        self.require((1 <= v) & (more <= limit), 31)?;
+        Ok(more)
     }
-    NumberRead { value, next }
-}
 
-// A number up to a limit.
-pub fn read_number(s: &[u8], from: Step, limit: u32) -> NumberRead
-    ensures { Numbered s.now from (number limit) limit result }
-{
-    let top = limit as usize;
-    let got = read_digit(s, from);
-    let read = got.next;
-    let low = got.value <= top;
-    let next = require_that(read, low, 31);
-    let first = capped(got.value, top);
-    read_rest(s, next, top, first)
+    // The next digit, where there is one.
+    #[tactic(auto, using(crate::proofs::Reading::reads), unfolding(crate::specs::Lexemes::another))]
+    fn another(&mut self, limit: usize, v: usize) -> Result<usize, Fault>
+        requires { (v ≤ limit) × (limit ≤ 4294967295) }
+        ensures read { Reads self.old (another limit 0 v) result self.new }
+        ensures range { IfOk result (λ v. v ≤ limit) }
+    {
+        if is_digit(self.peek()) {
+            self.longer(limit, v)
+        } else {
+            Ok(v)
+        }
+    }
+
+    // The digits after the first.
+    #[tactic(auto, using(crate::proofs::Reading::turned), unfolding(crate::specs::Lexemes::rest, crate::specs::Lexemes::another))]
+    fn rest(&mut self, limit: usize, first: usize) -> Result<usize, Fault>
+        requires { (first ≤ limit) × (limit ≤ 4294967295) }
+        ensures read { Reads self.old (rest limit first) result self.new }
+        ensures range { IfOk result (λ v. v ≤ limit) }
+    {
+        let mut v = first;
+        for i in 0..10usize {
+            v = self.another(limit, v)?;
+        }
+        Ok(v)
+    }
+
+    // A number up to a limit.
+    #[tactic(auto, using(crate::proofs::Reading::reads), unfolding(crate::specs::Lexemes::number))]
+    pub fn number(&mut self, limit: u32) -> Result<usize, Fault>
+        ensures read { Reads self.old (number limit) result self.new }
+        ensures range { IfOk result (λ v. v ≤ limit) }
+    {
+        let limit = limit as usize;
+        let first = self.digit()?;
+        self.require(first <= limit, 31)?;
+        self.rest(limit, first)
+    }
 }

@@ -18,7 +18,7 @@ use Rattle.text.specs.Decimal.{decimal}
 use Rattle.text.specs.Decimal as Decimal
 use Rattle.text.proofs.DecimalLaws.{decimal_digit, decimal_more}
 use Rattle.lexemes.specs.Lexemes.{byte_at, look, fail, byte, is_digit, digit_of, digit, longer, another, rest, number}
-use Rattle.lexemes.proofs.NumberLaws.{digit_least, digit_most}
+use Rattle.lexemes.proofs.Reading.{digit_least, digit_most}
 use Rattle.sources.proofs.Stands.{Stands, stands_append, stands_first_law, stands_rest, stands_opens}
 use Rattle.sources.proofs.ReadsPrints.{Bears, Reads, Any, reads_as, reads_pure, reads_then, reads_from_byte, reads_require, reads_tested}
 
