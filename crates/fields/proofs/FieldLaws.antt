@@ -1,69 +1,73 @@
--- Laws of addresses, readings and lists of fields (`specs/Fields.antt`), run from a step. Assumes nothing.
-use Prim.Native.Nat.{ℕ, suc, ◌-◌, ◌≤◌}
-use mathlib.Core.Path.{◌≡◌, refl, ◌∙◌}
-use mathlib.Core.Bool.{Bool, true, false}
-use mathlib.Core.List.{List}
-use native.Mathlib.Omega.{arith}
-use lib.Dec.{ltb, leb}
-use lib.IntN.{ℤ, pos, negsuc, ◌-ℤ◌}
-use mir.Syntax.{w32}
-use mir.Val.{SFits, to_z, of_z}
-use mir.Facts.{to_z-of_z}
-use Rattle.text.proofs.SignedLaws.{low_is, high_is, high_fits}
-use Rattle.net.specs.Records.{address_of}
-use Rattle.readers.specs.Reader.{Reader, require}
-use Rattle.readers.specs.Progress.{Went}
-use Rattle.readers.proofs.ReaderLaws.{on, next, stop, stop_as, either, otherwise}
-use Rattle.fields.specs.Types.{Step}
-use Rattle.lexemes.specs.Lexemes.{fail, byte, optional, number}
-use Rattle.fields.specs.Fields.{address, negative, fields}
+-- Laws of lists of fields (`specs/Fields.antt`), read by the text reader. Assumes nothing.
+use Rattle.std.proofs.Common.{◌≡◌, ℕ, suc, ◌+◌, ◌-◌, ◌<◌, ◌≤◌, arith, refl, Bool, true, false, Result, Ok, Err}
+use Rattle.std.specs.Result.{IsErrAnd}
+use Rattle.net.specs.Choice.{choose}
+use Rattle.net.proofs.Laws.{choose_true, choose_false}
+use Rattle.readers.specs.Reader.{Reader, fault_at, pure, ◌>>=◌}
+use Rattle.lexemes.specs.Lexemes.{fail, optional}
+use Rattle.lexemes.specs.Progress.{Reads, Resumes}
+use Rattle.lexemes.proofs.Reading.{resumed, resumes_then, resumes_start, reads_then, reads_pure, reads_fault, reads_fail, reads_false}
+use Rattle.fields.specs.Types.{Fault, TextReader}
+use Rattle.fields.specs.Fields.{fields}
 
--- ---- an address
-pub address_parts : (s : List ℕ) (p q r : Step) (n v : ℕ) → Went s p (number 15) q v
-    → ((t : List ℕ) → Went t q (require (ltb v n) 23) r tt) → Went s p (address n) r (address_of v)
-unfolding address
-address_parts s p q r n v w c = on s p q r _ _ v _ w (next s q r r _ _ tt _ (c s) (stop s r (address_of v)))
+-- ---- items in a list, a comma between two: what one more does
+module _ {A B : Type 0} (r₀ r r' r'' : TextReader) (m : Reader B) (n : Reader A) (g h : A → Reader B) (a : A) where
+  abbrev one : Reader B
+  one = n >>= (λ b. optional 44 >>= (λ more. choose more (g b) (h b)))
 
--- ---- readings: -v is -1 less v - 1
-pub positive_is : (v : ℕ) → v ≤ 2147483647 → to_z w32 v ≡ pos v
-positive_is v h = low_is v (omega arith)
+  pub one_on : (more : Bool) → more ≡ true → Resumes r₀ m r one → Reads r n (Ok a) r' → Reads r' (optional 44) (Ok more) r'' → Resumes r₀ m r'' (g a)
+  one_on more e k w v =
+      rw (choose_true more (g a) (h a) e) at (resumes_then r₀ r' r'' m (optional 44) _ more (resumes_then r₀ r r' m n _ a k w) v)
 
-module _ (v : ℕ) (h : v ≤ 2147483648) where
-  back : 4294967295 - (4294967295 - (v - 1)) ≡ v - 1
-  back = omega arith
+  pub one_last : (more : Bool) (o : Result B Fault) → more ≡ false → Resumes r₀ m r one → Reads r n (Ok a) r' → Reads r' (optional 44) (Ok more) r''
+      → Reads r'' (h a) o r'' → Reads r₀ m o r''
+  one_last more o e k w v u =
+      resumed r₀ r'' r'' m _ o (rw (choose_false more (g a) (h a) e) at (resumes_then r₀ r' r'' m (optional 44) _ more (resumes_then r₀ r r' m n _ a k w) v)) u
 
-  below_nought : negsuc 0 -ℤ to_z w32 (v - 1) ≡ negsuc (v - 1)
-  below_nought = rw back at (high_is (4294967295 - (v - 1)) (omega arith) (omega arith))
+  pub comma_fault : (e : Fault) (o : Result B Fault) → Resumes r₀ m r one → Reads r n (Ok a) r' → Reads r' (optional 44) (Err e) r''
+      → IsErrAnd o (λ d. d ≡ e) → Reads r₀ m o r''
+  comma_fault e o k w v x = resumed r₀ r' r'' m _ o (resumes_then r₀ r r' m n _ a k w) (reads_fault r' r'' (optional 44) _ e o v x)
 
-  pub minus_fits : SFits w32 (negsuc 0 -ℤ to_z w32 (v - 1))
-  minus_fits = rw back at (high_fits (4294967295 - (v - 1)) (omega arith) (omega arith))
-
-  pub minus_is : to_z w32 (of_z w32 (negsuc 0 -ℤ to_z w32 (v - 1))) ≡ negsuc (v - 1)
-  minus_is = to_z-of_z minus_fits ∙ below_nought
-
-pub minus_none : (v : ℕ) → v ≡ 0 → negsuc 0 ≡ negsuc (v - 1)
-minus_none v e = rw e refl
-
-pub negative_parts : (s : List ℕ) (p q r t : Step) (v : ℕ) (x : ℤ) → Went s p (byte 45) q tt → Went s q (number 2147483648) r v
-    → ((u : List ℕ) → Went u r (require (leb 1 v) 31) t tt) → x ≡ negsuc (v - 1) → Went s p negative t x
-unfolding negative
-negative_parts s p q r t v x b w c e =
-    next s p q t _ _ tt x b (on s q r t _ _ v x w (next s r t t _ _ tt x (c s) (stop_as s t x _ e)))
+  pub one_fault : (e : Fault) (o : Result B Fault) → Resumes r₀ m r one → Reads r n (Err e) r' → IsErrAnd o (λ d. d ≡ e) → Reads r₀ m o r'
+  one_fault e o k w x = resumed r₀ r r' m _ o k (reads_fault r r' n _ e o w x)
 
 -- ---- fields, one after another
-module _ {A : Type 0} (s : List ℕ) (p q : Step) (field : A → Reader A) (a b : A) (k : ℕ) where
-  pub fields_none : k ≡ 0 → ((t : List ℕ) → Went t p (fail 22) q b) → Went s p (fields k field a) q b
+module _ {A : Type 0} (n : ℕ) (field : A → Reader A) where
+  fields_first : (i : ℕ) (a : A) → i < n → fields (n - i) field a ≡ field a >>= (λ b. optional 44 >>= (λ more. choose more (fields (n - (i + 1)) field b) (pure b)))
   unfolding fields
-  fields_none e w = rw e (w s)
+  fields_first i a h = let e : n - i ≡ suc (n - (i + 1)) = omega arith in rw e refl
 
-  module _ (some : k ≡ 0 → ⊥) (w : Went s p (field a) q b) (more : Bool) (r : Step) (v : Went s q (optional 44) r more) where
-    one_more_law : suc (k - 1) ≡ k
-    one_more_law = omega (arith, some)
+  fields_none : (i : ℕ) (a : A) → n ≤ i → fields (n - i) field a ≡ fail 22
+  unfolding fields
+  fields_none i a h = let e : n - i ≡ 0 = omega arith in rw e refl
 
-    pub fields_more : (t : Step) (x : A) → more ≡ true → Went s r (fields (k - 1) field b) t x → Went s p (fields k field a) t x
-    unfolding fields
-    fields_more t x e u = rw (← one_more_law) (on s p q t _ _ b x w (on s q r t _ _ more x v (either s r t _ _ _ x e u)))
+  module _ (r₀ r r' r'' : TextReader) (i : ℕ) (a₀ a b : A) where
+    abbrev m : Reader A
+    m = fields n field a₀
 
-    pub fields_last : more ≡ false → Went s p (fields k field a) r b
-    unfolding fields
-    fields_last e = rw (← one_more_law) (on s p q r _ _ b b w (on s q r r _ _ more b v (otherwise s r r _ _ _ b e (stop s r b))))
+    abbrev rest : A → Reader A
+    rest = fields (n - (i + 1)) field
+
+    pub fields_on : (more : Bool) → more ≡ true → i < n → Resumes r₀ (fields n field a₀) r (fields (n - i) field a) → Reads r (field a) (Ok b) r'
+        → Reads r' (optional 44) (Ok more) r'' → Resumes r₀ (fields n field a₀) r'' (fields (n - (i + 1)) field b)
+    fields_on more e h k w v = one_on r₀ r r' r'' m (field a) rest pure b more e (rw (fields_first i a h) at k) w v
+
+    pub fields_last : (more : Bool) → more ≡ false → i < n → Resumes r₀ (fields n field a₀) r (fields (n - i) field a)
+        → Reads r (field a) (Ok b) r' → Reads r' (optional 44) (Ok more) r'' → Reads r₀ (fields n field a₀) (Ok b) r''
+    fields_last more e h k w v = one_last r₀ r r' r'' m (field a) rest pure b more (Ok b) e (rw (fields_first i a h) at k) w v (reads_pure r'' r'' b)
+
+    pub fields_comma : (e : Fault) (o : Result A Fault) → i < n → Resumes r₀ (fields n field a₀) r (fields (n - i) field a)
+        → Reads r (field a) (Ok b) r' → Reads r' (optional 44) (Err e) r'' → IsErrAnd o (λ d. d ≡ e) → Reads r₀ (fields n field a₀) o r''
+    fields_comma e o h k w v x = comma_fault r₀ r r' r'' m (field a) rest pure b e o (rw (fields_first i a h) at k) w v x
+
+  module _ (r₀ r r' : TextReader) (i : ℕ) (a₀ a : A) where
+    pub fields_fault : (e : Fault) (o : Result A Fault) → i < n → Resumes r₀ (fields n field a₀) r (fields (n - i) field a)
+        → Reads r (field a) (Err e) r' → IsErrAnd o (λ d. d ≡ e) → Reads r₀ (fields n field a₀) o r'
+    fields_fault e o h k w x =
+        one_fault r₀ r r' r' (fields n field a₀) (field a) (fields (n - (i + 1)) field) pure a e o (rw (fields_first i a h) at k) w x
+
+    pub fields_over : (e : Fault) → e ≡ fault_at 22 r.at 0 → n ≤ i → Resumes r₀ (fields n field a₀) r (fields (n - i) field a)
+        → Reads r₀ (fields n field a₀) (Err e) r
+    fields_over e d h k = resumed r₀ r r (fields n field a₀) _ (Err e) (rw (fields_none i a h) at k) (reads_fail r 22 e d)
+
+pub ruleset listing = (resumes_start, fields_on, fields_last, fields_comma, fields_fault, fields_over)

@@ -1,5 +1,3 @@
 pub mod FieldLaws
 pub mod Long
 pub mod SetLaws
-pub mod TemplateLaws
-pub mod TupleLaws

@@ -4,33 +4,36 @@ use mathlib.Core.Path.{◌≡◌, refl, sym, ap, ◌∙◌}
 use mathlib.Core.Bool.{Bool, true, false}
 use mathlib.Core.List.{List}
 use native.Mathlib.Omega.{arith}
-use lib.ListN.{get_or, set, length}
-use lib.Seq.{set_out}
+use lib.ListN.{get_or, set}
 use lib.Pow.{pow_mono}
-use lib.Dec.{eqb, leb}
-use mir.Syntax.{w16, w64}
-use mir.Val.{Fits}
+use lib.Dec.{eqb}
+use mir.Syntax.{w16}
+use mir.Val.{Fits, bool_byte}
 use Rattle.net.specs.Choice.{choose, fold}
 use Rattle.net.specs.Records.{address_of}
 use Rattle.net.specs.Groups.{halved, member}
 use Rattle.net.proofs.FoldLaws.{fold_none, fold_more, fold_end, fold_keeps}
 use Rattle.net.proofs.GroupLaws.{member_is}
-use Rattle.readers.specs.Reader.{require}
-use Rattle.readers.specs.Progress.{Went}
-use Rattle.readers.proofs.ReaderLaws.{on, next, stop, stop_as, either, otherwise}
-use Rattle.lexemes.specs.Lexemes.{fail, byte, optional}
-use Rattle.fields.specs.Types.{Step, Group, Locality}
-use Rattle.fields.specs.Fields.{address}
-use Rattle.fields.specs.Sets.{group_of, member_from, members, listed, group}
+use Rattle.std.proofs.Common.{Result, Ok, Err}
+use Rattle.std.specs.Result.{IsErrAnd}
+use Rattle.readers.specs.Reader.{Reader, fault_at, pure, ◌>>=◌}
+use Rattle.lexemes.specs.Lexemes.{fail, optional}
+use Rattle.lexemes.specs.Progress.{Reads, Resumes}
+use Rattle.lexemes.proofs.Reading.{resumed, resumes_start, reads_pure, reads_fail}
+use Rattle.fields.specs.Types.{Fault, Group, TextReader}
+use Rattle.fields.specs.Sets.{group_of, member_from, members}
+use Rattle.fields.proofs.FieldLaws.{one_on, one_last, comma_fault, one_fault}
 
 -- ---- marks
-pub mark_past : (marks : List Bool) (i : ℕ) → length marks ≡ 16 → 16 ≤ i → marks ≡ set marks i true
-mark_past marks i e h = sym (set_out marks i true (omega arith))
-
 bit_most : (b : Bool) → choose b 1 0 ≤ 1
 unfolding choose
 bit_most true = omega arith
 bit_most false = omega arith
+
+bit_is : (b : Bool) → bool_byte b ≡ choose b 1 0
+unfolding choose
+bit_is true = refl
+bit_is false = refl
 
 bit_told : (b : Bool) → eqb (choose b 1 0) 1 ≡ b
 unfolding choose
@@ -63,15 +66,15 @@ module _ (marks : List Bool) where
   pub bits_none : Bits 0 0
   bits_none = record { within = omega arith; is = fold_none with_bit 0 0 refl }
 
-  pub bits_fit : (i v : ℕ) → Bits i v → Fits w16 v
-  bits_fit i v b = omega (arith, b.is, bits_low i, pow_mono b.within)
+  pub bits_twice : (i v : ℕ) → i < 16 → Bits i v → Fits w16 (v * 2)
+  bits_twice i v h b = let l : suc i ≤ 16 = omega arith in omega (arith, b.is, bits_low i, pow_mono l)
 
-  pub bits_twice : (i v : ℕ) → Bits i v → Fits w64 (v * 2)
-  bits_twice i v b = omega (arith, b.is, bits_low i, pow_mono b.within)
+  module _ (i v x : ℕ) (b : Bits i v) (d : x ≡ bool_byte (get_or marks i false)) where
+    e : x ≡ choose (get_or marks i false) 1 0
+    e = d ∙ bit_is (get_or marks i false)
 
-  module _ (i v x : ℕ) (b : Bits i v) (e : x ≡ choose (get_or marks i false) 1 0) where
-    pub bits_next : Fits w64 (v * 2 + x)
-    bits_next = omega (arith, b.is, e, bits_low i, pow_mono b.within, bit_most (get_or marks i false))
+    pub bits_next : i < 16 → Fits w16 (v * 2 + x)
+    bits_next h = let l : suc i ≤ 16 = omega arith in omega (arith, b.is, e, bits_low i, pow_mono l, bit_most (get_or marks i false))
 
     pub bits_more : i < 16 → Bits (i + 1) (v * 2 + x)
     unfolding with_bit
@@ -136,36 +139,51 @@ module _ (marks : List Bool) where
     unfolding group_of with_bit halved
     group_marked = ap (λ (v : ℕ). record { 0 = v }) (bits_are 16 (omega arith))
 
+pub ruleset counted = (bits_none, bits_twice, bits_next, bits_more, bits_all)
+
 -- ---- members, one after another
-pub member_parts : (s : List ℕ) (p q r : Step) (n low : ℕ) (l : Locality) → Went s p (address n) q l
-    → ((t : List ℕ) → Went t q (require (leb low l.0) 31) r tt) → Went s p (member_from n low) r l.0
-unfolding member_from
-member_parts s p q r n low l w c = on s p q r _ _ l _ w (next s q r r _ _ tt _ (c s) (stop s r l.0))
-
-module _ (s : List ℕ) (p q : Step) (k n low : ℕ) (marks : List Bool) where
-  pub members_none : (b : List Bool) → k ≡ 0 → ((t : List ℕ) → Went t p (fail 31) q b) → Went s p (members k n low marks) q b
+module _ (k n : ℕ) where
+  members_first : (i low : ℕ) (marks : List Bool) → i < k → members (k - i) n low marks
+      ≡ member_from n low >>= (λ l. optional 44 >>= (λ more. choose more (members (k - (i + 1)) n (l + 1) (set marks l true)) (pure (set marks l true))))
   unfolding members
-  members_none b e w = rw e (w s)
+  members_first i low marks h = let e : k - i ≡ suc (k - (i + 1)) = omega arith in rw e refl
 
-  module _ (some : k ≡ 0 → ⊥) (l : ℕ) (w : Went s p (member_from n low) q l) (b : List Bool) (m : b ≡ set marks l true) (more : Bool) (r : Step)
-      (v : Went s q (optional 44) r more) where
-    one_more_law : suc (k - 1) ≡ k
-    one_more_law = omega (arith, some)
+  members_none : (i low : ℕ) (marks : List Bool) → k ≤ i → members (k - i) n low marks ≡ fail 31
+  unfolding members
+  members_none i low marks h = let e : k - i ≡ 0 = omega arith in rw e refl
 
-    pub members_more :
-        (t : Step) (x : List Bool) → more ≡ true → Went s r (members (k - 1) n (l + 1) b) t x → Went s p (members k n low marks) t x
-    unfolding members
-    members_more t x e u =
-        rw (← one_more_law) (on s p q t _ _ l x w (on s q r t _ _ more x v (either s r t _ _ _ x e (rw m at u))))
+  module _ (r₀ r r' r'' : TextReader) (i low₀ low l : ℕ) (marks₀ marks : List Bool) where
+    abbrev m : Reader (List Bool)
+    m = members k n low₀ marks₀
 
-    pub members_last : more ≡ false → Went s p (members k n low marks) r b
-    unfolding members
-    members_last e =
-        rw (← one_more_law) (on s p q r _ _ l b w (on s q r r _ _ more b v (otherwise s r r _ _ _ b e (stop_as s r b _ m))))
+    abbrev rest : ℕ → Reader (List Bool)
+    rest l = members (k - (i + 1)) n (l + 1) (set marks l true)
 
--- ---- the braces
-pub group_parts : (s : List ℕ) (p q r t : Step) (n : ℕ) (marks : List Bool) (g : Group) → Went s p (byte 123) q tt → Went s q (listed n) r marks
-    → g ≡ group_of marks → Went s r (byte 125) t tt → Went s p (group n) t g
-unfolding group
-group_parts s p q r t n marks g a w e b =
-    next s p q t _ _ tt g a (on s q r t _ _ marks g w (next s r t t _ _ tt g b (stop_as s t g _ e)))
+    abbrev marked : ℕ → Reader (List Bool)
+    marked l = pure (set marks l true)
+
+    pub members_on : (more : Bool) → more ≡ true → i < k → Resumes r₀ (members k n low₀ marks₀) r (members (k - i) n low marks)
+        → Reads r (member_from n low) (Ok l) r' → Reads r' (optional 44) (Ok more) r''
+        → Resumes r₀ (members k n low₀ marks₀) r'' (members (k - (i + 1)) n (l + 1) (set marks l true))
+    members_on more e h s w v = one_on r₀ r r' r'' m (member_from n low) rest marked l more e (rw (members_first i low marks h) at s) w v
+
+    pub members_last : (more : Bool) → more ≡ false → i < k → Resumes r₀ (members k n low₀ marks₀) r (members (k - i) n low marks)
+        → Reads r (member_from n low) (Ok l) r' → Reads r' (optional 44) (Ok more) r'' → Reads r₀ (members k n low₀ marks₀) (Ok (set marks l true)) r''
+    members_last more e h s w v =
+        one_last r₀ r r' r'' m (member_from n low) rest marked l more (Ok (set marks l true)) e (rw (members_first i low marks h) at s) w v
+        (reads_pure r'' r'' (set marks l true))
+
+    pub members_comma : (e : Fault) (o : Result (List Bool) Fault) → i < k → Resumes r₀ (members k n low₀ marks₀) r (members (k - i) n low marks)
+        → Reads r (member_from n low) (Ok l) r' → Reads r' (optional 44) (Err e) r'' → IsErrAnd o (λ d. d ≡ e)
+        → Reads r₀ (members k n low₀ marks₀) o r''
+    members_comma e o h s w v x = comma_fault r₀ r r' r'' m (member_from n low) rest marked l e o (rw (members_first i low marks h) at s) w v x
+
+    pub members_fault : (e : Fault) (o : Result (List Bool) Fault) → i < k → Resumes r₀ (members k n low₀ marks₀) r (members (k - i) n low marks)
+        → Reads r (member_from n low) (Err e) r' → IsErrAnd o (λ d. d ≡ e) → Reads r₀ (members k n low₀ marks₀) o r'
+    members_fault e o h s w x = one_fault r₀ r r' r' m (member_from n low) rest marked l e o (rw (members_first i low marks h) at s) w x
+
+    pub members_over : (e : Fault) → e ≡ fault_at 31 r.at 0 → k ≤ i → Resumes r₀ (members k n low₀ marks₀) r (members (k - i) n low marks)
+        → Reads r₀ (members k n low₀ marks₀) (Err e) r
+    members_over e d h s = resumed r₀ r r m _ (Err e) (rw (members_none i low marks h) at s) (reads_fail r 31 e d)
+
+pub ruleset listing = (resumes_start, members_on, members_last, members_comma, members_fault, members_over)

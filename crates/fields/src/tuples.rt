@@ -1,105 +1,56 @@
 // Tuples of the planners' notation: n is the number of addresses.
-ghost use Rattle.std.specs.Prelude.{ℕ, List};
-ghost use Rattle.readers.specs.Progress.{Went};
-ghost use Rattle.lexemes.specs.Lexemes.{fail};
-ghost use Rattle.fields.specs.Fields.{address_item, reading_item, item, tupleField, fields, tuple};
+ghost use Rattle.net.specs.Records.{zero_tuple};
+ghost use Rattle.lexemes.specs.Progress.{Reads};
+ghost use Rattle.fields.specs.Fields.{item, tupleField, fields, tuple};
 
 use crate::values::{read_at_address, read_reading};
-use lexemes::words::{byte_here, fail_from, read_byte, read_optional};
+use lexemes::reader::TextReader;
 use net::tuple::{Field, Item, Tuple};
-use readers::step::Step;
-
-#[derive(Clone, Copy)]
-struct ItemRead {
-    item: Item,
-    next: Step,
-}
-
-#[derive(Clone, Copy)]
-pub struct TupleRead {
-    pub tuple: Tuple,
-    pub next: Step,
-}
-
-fn read_address_item(s: &[u8], from: Step, n: usize) -> ItemRead
-    ensures { Went s.now from (address_item n) result.next result.item }
-{
-    let got = read_at_address(s, from, n);
-    let locality = got.locality;
-    let item = Item::Address(locality);
-    let next = got.next;
-    ItemRead { item, next }
-}
-
-fn read_reading_item(s: &[u8], from: Step) -> ItemRead
-    ensures { Went s.now from reading_item result.next result.item }
-{
-    let got = read_reading(s, from);
-    let item = Item::Reading(got.reading);
-    let next = got.next;
-    ItemRead { item, next }
-}
+use readers::fault::Fault;
 
 // A field of a tuple, by its first byte.
-fn read_item(s: &[u8], from: Step, n: usize) -> ItemRead
-    ensures { Went s.now from (item n) result.next result.item }
+#[tactic(auto, using(lexemes::proofs::Reading::reads), unfolding(crate::specs::Fields::item, crate::specs::Fields::address_item, crate::specs::Fields::reading_item))]
+fn read_item(r: &mut TextReader, n: usize) -> Result<Item, Fault>
+    ensures { Reads r.old (item n) result r.new }
 {
-    if byte_here(s, from) == 64 {
-        read_address_item(s, from, n)
+    if r.peek() == b'@' {
+        Ok(Item::Address(read_at_address(r, n)?))
     } else {
-        read_reading_item(s, from)
+        Ok(Item::Reading(read_reading(r)?))
     }
 }
 
 // The tuple with the field read here.
-fn read_field(s: &[u8], from: Step, n: usize, t: Tuple) -> TupleRead
-    ensures { Went s.now from (tupleField n t) result.next result.tuple }
+#[tactic(auto, using(lexemes::proofs::Reading::reads), unfolding(crate::specs::Fields::tupleField))]
+fn read_field(r: &mut TextReader, n: usize, t: Tuple) -> Result<Tuple, Fault>
+    ensures { Reads r.old (tupleField n t) result r.new }
 {
-    let got = read_item(s, from, n);
-    let item = got.item;
-    let field = Field { item };
-    let tuple = t.with_field(field);
-    let next = got.next;
-    TupleRead { tuple, next }
+    let item = read_item(r, n)?;
+    Ok(t.with_field(Field { item }))
 }
 
-// No field more: the fault 22.
-fn no_field(from: Step, t: Tuple) -> TupleRead
-    ensures { (s : List ℕ) → Went s from (fail 22) result.next result.tuple }
+// At most four fields, a comma between two.
+#[tactic(auto, using(crate::proofs::FieldLaws::listing))]
+fn read_items(r: &mut TextReader, n: usize) -> Result<Tuple, Fault>
+    ensures { Reads r.old (fields 4 (tupleField n) zero_tuple) result r.new }
 {
-    let next = fail_from(from, 22);
-    TupleRead { tuple: t, next }
-}
-
-// At most `left` fields more, a comma between two.
-fn read_items(s: &[u8], from: Step, left: usize, n: usize, t: Tuple) -> TupleRead
-    ensures { Went s.now from (fields left (tupleField n) t) result.next result.tuple }
-{
-    if left == 0 {
-        no_field(from, t)
-    } else {
-        let got = read_field(s, from, n, t);
-        let tuple = got.tuple;
-        let read = got.next;
-        let comma = read_optional(s, read, 44);
-        let next = comma.next;
-        if comma.found {
-            read_items(s, next, left - 1, n, tuple)
-        } else {
-            TupleRead { tuple, next }
+    let mut t = Tuple::zero();
+    for i in 0..4usize {
+        t = read_field(r, n, t)?;
+        if !r.optional(b',')? {
+            return Ok(t);
         }
     }
+    Err(Fault::at(22, r.at, 0))
 }
 
 // The tuple of a line.
-pub fn read_tuple(s: &[u8], from: Step, n: usize) -> TupleRead
-    ensures { Went s.now from (tuple n) result.next result.tuple }
+#[tactic(auto, using(lexemes::proofs::Reading::reads), unfolding(crate::specs::Fields::tuple))]
+pub fn read_tuple(r: &mut TextReader, n: usize) -> Result<Tuple, Fault>
+    ensures { Reads r.old (tuple n) result r.new }
 {
-    let opened = read_byte(s, from, 60);
-    let start = Tuple::zero();
-    let got = read_items(s, opened, 4, n, start);
-    let tuple = got.tuple;
-    let read = got.next;
-    let next = read_byte(s, read, 62);
-    TupleRead { tuple, next }
+    r.byte(b'<')?;
+    let t = read_items(r, n)?;
+    r.byte(b'>')?;
+    Ok(t)
 }

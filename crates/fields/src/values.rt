@@ -1,121 +1,94 @@
 // Addresses, variables and readings of the planners' notation: n is the number of addresses.
-ghost use Rattle.std.specs.Prelude.{◌-◌, ◌≤◌, ◌≡◌, ℤ};
-ghost use Rattle.readers.specs.Progress.{Went};
+ghost use Rattle.std.specs.Prelude.{◌-◌, ◌<◌, ◌≤◌, ◌≡◌, ℤ, IfOk};
+ghost use Rattle.lexemes.specs.Progress.{Reads};
 ghost use Rattle.fields.specs.Fields.{address, variable, negative, positive, reading, at_address, own, held};
 
-use lexemes::numbers::read_number;
-use lexemes::words::{byte_here, read_byte, read_word};
+use lexemes::reader::TextReader;
 use net::locality::Locality;
-use readers::step::{Step, require_that};
-
-#[derive(Clone, Copy)]
-pub struct LocalityRead {
-    pub locality: Locality,
-    pub next: Step,
-}
-
-#[derive(Clone, Copy)]
-pub struct VariableRead {
-    pub variable: u8,
-    pub next: Step,
-}
-
-#[derive(Clone, Copy)]
-pub struct ReadingRead {
-    pub reading: i32,
-    pub next: Step,
-}
+use readers::fault::Fault;
 
 // An address that has a row.
-pub fn read_address(s: &[u8], from: Step, n: usize) -> LocalityRead
-    ensures { Went s.now from (address n) result.next result.locality }
+#[tactic(auto, using(lexemes::proofs::Reading::reads), unfolding(crate::specs::Fields::address, net::specs::Records::address_of))]
+pub fn read_address(r: &mut TextReader, n: usize) -> Result<Locality, Fault>
+    ensures read { Reads r.old (address n) result r.new }
+    ensures range { IfOk result (λ l. l.0 < 16) }
 {
-    let got = read_number(s, from, 15);
-    let v = got.value as u8;
-    let locality = Locality(v);
-    let read = got.next;
-    let known = got.value < n;
-    let next = require_that(read, known, 23);
-    LocalityRead { locality, next }
+    let l = r.number(15)?;
+    r.require(l < n, 23)?;
+    Ok(Locality(l as u8))
 }
 
 // The number of a variable.
-pub fn read_variable(s: &[u8], from: Step) -> VariableRead
-    ensures { Went s.now from variable result.next result.variable }
+#[tactic(auto, using(lexemes::proofs::Reading::reads), unfolding(crate::specs::Fields::variable))]
+pub fn read_variable(r: &mut TextReader) -> Result<u8, Fault>
+    ensures { Reads r.old variable result r.new }
 {
-    let got = read_number(s, from, 7);
-    let v = got.value as u8;
-    let next = got.next;
-    VariableRead { variable: v, next }
+    let v = r.number(7)?;
+    Ok(v as u8)
 }
 
-// The number -v; nought, which has no minus, counts as -1.
+// The number -v.
 fn minus(v: usize) -> i32
-    requires { v ≤ 2147483648 }
+    requires { (1 ≤ v) × (v ≤ 2147483648) }
     ensures { result ≡ ℤ.negsuc (v - 1) }
 {
-    if v == 0 {
-        -1
-    } else {
-        let rest = v - 1;
-        let low = rest as i32;
-        -1 - low
-    }
+    -1 - (v - 1) as i32
 }
 
 // A reading below nought.
-fn read_negative(s: &[u8], from: Step) -> ReadingRead
-    ensures { Went s.now from negative result.next result.reading }
+#[tactic(auto, using(lexemes::proofs::Reading::reads), unfolding(crate::specs::Fields::negative))]
+fn read_negative(r: &mut TextReader) -> Result<i32, Fault>
+    ensures { Reads r.old negative result r.new }
 {
-    let signed = read_byte(s, from, 45);
-    let got = read_number(s, signed, 2147483648);
-    let reading = minus(got.value);
-    let read = got.next;
-    let some = 1 <= got.value;
-    let next = require_that(read, some, 31);
-    ReadingRead { reading, next }
+    r.byte(b'-')?;
+    let v = r.number(2147483648)?;
+    r.require(1 <= v, 31)?;
+    Ok(minus(v))
 }
 
 // A reading from nought on.
-fn read_positive(s: &[u8], from: Step) -> ReadingRead
-    ensures { Went s.now from positive result.next result.reading }
+#[tactic(auto, using(lexemes::proofs::Reading::reads), unfolding(crate::specs::Fields::positive))]
+fn read_positive(r: &mut TextReader) -> Result<i32, Fault>
+    ensures { Reads r.old positive result r.new }
 {
-    let got = read_number(s, from, 2147483647);
-    let reading = got.value as i32;
-    let next = got.next;
-    ReadingRead { reading, next }
+    let v = r.number(2147483647)?;
+    Ok(v as i32)
 }
 
 // A reading of 32 bits.
-pub fn read_reading(s: &[u8], from: Step) -> ReadingRead
-    ensures { Went s.now from reading result.next result.reading }
+#[tactic(auto, using(lexemes::proofs::Reading::reads), unfolding(crate::specs::Fields::reading))]
+pub fn read_reading(r: &mut TextReader) -> Result<i32, Fault>
+    ensures { Reads r.old reading result r.new }
 {
-    if byte_here(s, from) == 45 {
-        read_negative(s, from)
+    if r.peek() == b'-' {
+        read_negative(r)
     } else {
-        read_positive(s, from)
+        read_positive(r)
     }
 }
 
 // An address after its @.
-pub fn read_at_address(s: &[u8], from: Step, n: usize) -> LocalityRead
-    ensures { Went s.now from (at_address n) result.next result.locality }
+#[tactic(auto, using(lexemes::proofs::Reading::reads), unfolding(crate::specs::Fields::at_address))]
+pub fn read_at_address(r: &mut TextReader, n: usize) -> Result<Locality, Fault>
+    ensures { Reads r.old (at_address n) result r.new }
 {
-    let next = read_byte(s, from, 64);
-    read_address(s, next, n)
+    r.byte(b'@')?;
+    read_address(r, n)
 }
 
 // The word self.
-pub fn read_own(s: &[u8], from: Step) -> Step
-    ensures { Went s.now from own result tt }
+#[tactic(auto, unfolding(crate::specs::Fields::own, text::specs::Bytes::bytes))]
+pub fn read_own(r: &mut TextReader) -> Result<(), Fault>
+    ensures { Reads r.old own result r.new }
 {
-    read_word(s, from, b"self")
+    r.word(b"self")
 }
 
 // A variable after its v.
-pub fn read_held(s: &[u8], from: Step) -> VariableRead
-    ensures { Went s.now from held result.next result.variable }
+#[tactic(auto, using(lexemes::proofs::Reading::reads), unfolding(crate::specs::Fields::held))]
+pub fn read_held(r: &mut TextReader) -> Result<u8, Fault>
+    ensures { Reads r.old held result r.new }
 {
-    let next = read_byte(s, from, 118);
-    read_variable(s, next)
+    r.byte(b'v')?;
+    read_variable(r)
 }

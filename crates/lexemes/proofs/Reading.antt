@@ -72,6 +72,9 @@ require_both r r' a b n o h = rw (← and_both a b a b refl refl) h
 pub ruleset reads = (reads_pure, reads_look, reads_true, reads_false, reads_then, reads_next, reads_fault, next_fault, reads_fail, require_both, eq-eqb, ne_eqb, digit_least, digit_most)
 
 -- ---- loops: what is read so far, and what is left
+pub resumes_start : {A : Type 0} (r : TextReader) (m : Reader A) → Resumes r m r m
+resumes_start r m = record { rest = refl; same = refl }
+
 module _ {A : Type 0} (r₀ r r' : TextReader) (m m' : Reader A) where
   pub resumed : (o : Result A Fault) → Resumes r₀ m r m' → Reads r m' o r' → Reads r₀ m o r'
   resumed o h k = record { gave = k.gave ∙ sym h.rest; same = k.same ∙ h.same }
