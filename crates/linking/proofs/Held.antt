@@ -24,7 +24,7 @@ use Rattle.linking.specs.Types.{Net}
 use Rattle.linking.specs.Source.{Line, definition, process, tuple}
 use Rattle.linking.specs.Compiled.{total, defined_in, number_of, settle, settled, place_in}
 use Rattle.linking.specs.Names.{uses_line, used, defines, defined}
-use Rattle.linking.specs.NameTable.{start_from, start_in, start_for, settle_in, settled_in, Held}
+use Rattle.linking.specs.NameTable.{start_from, start_in, settle_in, settled_in, Held}
 use Rattle.linking.specs.Placing.{place_for, place_at}
 use Rattle.linking.specs.State.{State, own_names, begun, entered, after, after_all, FitsLine, FitAll}
 use Rattle.linking.proofs.NameTableLaws.{start_name, start_instruction, settled_name}
@@ -145,12 +145,10 @@ twice_all (tuple a t ∷ ls) s f l = twice_all ls (after (tuple a t) s) f.1 l �
 
 -- ---- where the bodies start
 from_name : (k : ℕ) → k < 512 → start_from k ≡ called k
-unfolding start_for choose
-from_name k h = sym (start_name k h)
+from_name k h = start_name k h
 
 from_number : (n : ℕ) → start_from (512 + n) ≡ here n
-unfolding start_for choose
-from_number n = sym (start_instruction (512 + n) (omega arith)) ∙ (let same : (512 + n) - 512 ≡ n = omega arith in rw same refl)
+from_number n = start_instruction (512 + n) (omega arith) ∙ (let same : (512 + n) - 512 ≡ n = omega arith in rw same refl)
 
 pub from_start : (n : ℕ) (x : Process) → fits x → start_from (start_word (start_of n x)) ≡ start_of n x
 unfolding start_of start_word fits

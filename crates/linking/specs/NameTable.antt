@@ -1,7 +1,7 @@
 -- Describes the code, and is no part of what a reader has to believe: the names of a text in three tables of 512 entries.
 -- Entry k of `bodies` is the word (`start_word` of `Table.antt`) of what name k stands for: where its body starts, or the
 -- name itself until it is defined. Entry k of `defs` says whether it is defined, and entry k of `uses` whether it is used.
-pub use Rattle.linking.specs.declared.names.Settled.{Settled}
+use Rattle.linking.specs.declared.names.Start as coded
 use Rattle.std.specs.Prelude.{ℕ, zero, suc, ◌-◌, ◌<◌, ◌≡◌, Bool, false, not, List, get_or, leb, ltb}
 use Rattle.net.specs.Choice.{choose, both, all, implies}
 use Rattle.terms.specs.Numbering.{Start, here, called}
@@ -18,9 +18,10 @@ start_from w = choose (ltb w 512) (called w) (here (w - 512))
 unfoldable pub start_in : List ℕ → ℕ → Start
 start_in bodies k = start_from (get_or bodies k 0)
 
--- an instruction or a name, by its number
-unfoldable pub start_for : Bool → ℕ → Start
-start_for ended n = choose ended (here n) (called n)
+-- what the code's start is
+abbrev pub start_for : coded.Start → Start
+start_for (coded.Start.Here n) = here n
+start_for (coded.Start.Called k) = called k
 
 -- the start that names settle at, after at most h of them
 unfoldable pub settle_in : ℕ → List ℕ → Start → Start
@@ -30,10 +31,6 @@ settle_in (suc h) bodies (called k) = settle_in h bodies (start_in bodies k)
 
 unfoldable pub settled_in : List ℕ → Start → Start
 settled_in bodies x = settle_in 512 bodies x
-
--- names being settled: h of them from x on have come to this one
-pub record Settling (bodies : List ℕ) (x : Start) (h : ℕ) (ended : Bool) (n : ℕ) : Type 0 where
-  pub rest : settled_in bodies x ≡ settle_in (512 - h) bodies (start_for ended n)
 
 -- ---- the names are right
 

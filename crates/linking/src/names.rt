@@ -6,71 +6,55 @@ ghost use Rattle.linking.specs.NameTable.{start_from, start_for, settled_in, nam
 
 use terms::loading::word_at;
 
-// Where a start stands: at an instruction, or still at a name, with its number.
-#[derive(Clone, Copy)]
-pub struct Settled {
-    pub ended: bool,
-    pub number: usize,
+// What a start is: an instruction or still a name, by its number.
+#[derive(Clone, Copy, PartialEq, Eq, Debug)]
+pub enum Start {
+    Here(usize),
+    Called(usize),
 }
 
 // An entry of a table; false past its end.
 pub fn flag_at(flags: &[bool], k: usize) -> bool
     ensures { result ≡ get_or flags.now k false }
 {
-    if k < flags.len() { flags[k] } else { false }
+    flags.get(k).copied().unwrap_or(false)
 }
 
 // What a word stands for.
-pub(crate) fn start_from(w: usize) -> Settled
-    ensures { start_for result.ended result.number ≡ start_from w }
+#[tactic(auto, unfolding(crate::specs::NameTable::start_from, net::specs::Choice::choose))]
+pub(crate) fn start_from(w: usize) -> Start
+    ensures { start_for result ≡ start_from w }
 {
     if w < 512 {
-        Settled {
-            ended: false,
-            number: w,
-        }
+        Start::Called(w)
     } else {
-        Settled {
-            ended: true,
-            number: w - 512,
-        }
+        Start::Here(w - 512)
     }
 }
 
 // Where names lead from a start: more hops than 512 go in a circle.
-pub(crate) fn settle(bodies: &[usize], from: Settled) -> Settled
-    ensures { start_for result.ended result.number ≡ settled_in bodies.now (start_for from.ended from.number) }
+pub(crate) fn settle(bodies: &[usize], from: Start) -> Start
+    ensures { start_for result ≡ settled_in bodies.now (start_for from) }
 {
-    let mut ended = from.ended;
-    let mut number = from.number;
-    let mut h: usize = 0;
-    while h < 512 {
-        if ended {
-            return Settled { ended, number };
+    let mut start = from;
+    for hops in 0..512usize {
+        match start {
+            Start::Called(k) => start = start_from(word_at(bodies, k)),
+            Start::Here(_) => return start,
         }
-        let w = word_at(bodies, number);
-        let read = start_from(w);
-        ended = read.ended;
-        number = read.number;
-        h += 1;
     }
-    Settled { ended, number }
+    start
 }
 
 // Whether name k is defined where it is used, and settles where it is defined.
+#[tactic(auto, unfolding(crate::specs::NameTable::name_right_in, crate::specs::Compiled::is_here, net::specs::Choice::both, net::specs::Choice::implies))]
 fn name_right(bodies: &[usize], defs: &[bool], uses: &[bool], k: usize) -> bool
     ensures { result ≡ name_right_in bodies.now defs.now uses.now k }
 {
     if flag_at(defs, k) {
-        let start = Settled {
-            ended: false,
-            number: k,
-        };
-        let settled = settle(bodies, start);
-        settled.ended
+        matches!(settle(bodies, Start::Called(k)), Start::Here(_))
     } else {
-        let u = flag_at(uses, k);
-        !u
+        !flag_at(uses, k)
     }
 }
 
@@ -78,12 +62,10 @@ fn name_right(bodies: &[usize], defs: &[bool], uses: &[bool], k: usize) -> bool
 pub fn names_right(bodies: &[usize], defs: &[bool], uses: &[bool], twice: bool) -> bool
     ensures { result ≡ names_right_in bodies.now defs.now uses.now twice }
 {
-    let mut ok = true;
-    let mut k: usize = 0;
-    while k < 512 {
-        let good = name_right(bodies, defs, uses, k);
-        ok = ok & good;
-        k += 1;
+    for k in 0..512 {
+        if !name_right(bodies, defs, uses, k) {
+            return false;
+        }
     }
-    !twice & ok
+    !twice
 }

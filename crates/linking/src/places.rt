@@ -1,115 +1,78 @@
 // Starts resolved to their places: instructions read back from the table of words, and processes moved to where they start.
-ghost use Rattle.std.specs.Prelude.{◌<◌, ◌≤◌, ◌≡◌, leb};
-ghost use Rattle.net.specs.Choice.{choose};
+ghost use Rattle.std.specs.Prelude.{◌<◌, ◌≤◌, ◌≡◌};
 ghost use Rattle.linking.specs.NameTable.{start_for};
-ghost use Rattle.linking.specs.Placing.{place_for, place_at, linked_at, moved_by, moved_node, moved_net, with_linked, linked_net};
+ghost use Rattle.linking.specs.Placing.{place_for, place_at, linked_at, moved_node, moved_net, with_linked, linked_net};
 
-use crate::names::{Settled, settle, start_from};
+use crate::names::{Start, settle, start_from};
 use net::instruction::Instruction;
 use net::locality::Place;
 use net::network::Net;
 use net::node::Node;
-use net::process::Process;
 use terms::loading::{load, word_at};
 
 // The place of an instruction; place 0 of a name that leads to none.
-fn place_for(x: Settled) -> Place
-    ensures { result ≡ place_for (start_for x.ended x.number) }
+#[tactic(auto, unfolding(crate::specs::Placing::place_for, crate::specs::Compiled::number_of, net::specs::Records::place_of))]
+fn place_for(x: Start) -> Place
+    ensures { result ≡ place_for (start_for x) }
 {
-    if x.ended {
-        let n = x.number % 65536;
-        let v = n as u16;
-        Place(v)
-    } else {
-        Place(0)
+    match x {
+        Start::Here(n) => Place((n % 65536) as u16),
+        Start::Called(_) => Place(0),
     }
 }
 
 // The place of a start's word.
+#[tactic(auto, unfolding(crate::specs::Placing::place_at))]
 fn place_at(bodies: &[usize], w: usize) -> Place
     ensures { result ≡ place_at bodies.now w }
 {
-    let start = start_from(w);
-    let settled = settle(bodies, start);
-    place_for(settled)
+    place_for(settle(bodies, start_from(w)))
 }
 
 // The instruction with the number i, which a table of 512 has.
+#[tactic(auto, unfolding(crate::specs::Placing::linked_at))]
 fn linked_at(table: &[usize], bodies: &[usize], i: usize) -> Instruction
     requires { i < 512 }
     ensures { result ≡ linked_at (place_at bodies.now) table.now i }
 {
-    let v = word_at(table, 9 * i + 7);
-    let w = word_at(table, 9 * i + 8);
-    let next = place_at(bodies, v);
-    let second = place_at(bodies, w);
+    let next = place_at(bodies, word_at(table, 9 * i + 7));
+    let second = place_at(bodies, word_at(table, 9 * i + 8));
     load(table, i, next, second)
 }
 
-// The net with the first n instructions in its code.
-fn with_linked(start: Net, n: usize, table: &[usize], bodies: &[usize]) -> Net
+// The first n instructions put into the net's code.
+fn place_code(net: &mut Net, n: usize, table: &[usize], bodies: &[usize])
     requires { n ≤ 512 }
-    ensures { result ≡ with_linked (place_at bodies.now) table.now n start }
+    ensures { net.new ≡ with_linked (place_at bodies.now) table.now n net.old }
 {
-    let mut net = start;
-    let mut i: usize = 0;
-    while i < n {
+    for i in 0..n {
         net.code[i] = linked_at(table, bodies, i);
-        i += 1;
-    }
-    net
-}
-
-// A process at the place of its start; a free slot as it is.
-fn moved_by(p: Process, bodies: &[usize], w: usize) -> Process
-    ensures { result ≡ moved_by (place_at bodies.now) w p }
-{
-    if p.busy {
-        let at = place_at(bodies, w);
-        p.moved_to(at)
-    } else {
-        p
     }
 }
 
-// The node of address a, its processes at the places of their starts.
-fn moved_node(node: Node, a: usize, bodies: &[usize], starts: &[usize]) -> Node
+// The processes of the node of address a moved to the places of their starts; free slots stay.
+fn move_node(node: &mut Node, a: usize, bodies: &[usize], starts: &[usize])
     requires { a < 16 }
-    ensures { result ≡ moved_node (place_at bodies.now) starts.now a node }
+    ensures { node.new ≡ moved_node (place_at bodies.now) starts.now a node.old }
 {
-    let mut x = node;
-    let mut j: usize = 0;
-    while j < 4 {
-        let p = x.processes[j];
-        let w = word_at(starts, 4 * a + j);
-        let moved = moved_by(p, bodies, w);
-        x.processes[j] = moved;
-        j += 1;
+    for j in 0..4 {
+        let p = node.processes[j];
+        if p.busy {
+            let w = word_at(starts, 4 * a + j);
+            node.processes[j] = p.moved_to(place_at(bodies, w));
+        }
     }
-    x
 }
 
-// The net, its processes at the places of their starts.
+// The net, its processes moved to the places of their starts.
 fn moved_net(start: Net, bodies: &[usize], starts: &[usize]) -> Net
     ensures { result ≡ moved_net (place_at bodies.now) starts.now start }
 {
     let mut net = start;
-    let mut a: usize = 0;
-    while a < 16 {
-        let node = net.nodes[a];
-        let moved = moved_node(node, a, bodies, starts);
-        net.nodes[a] = moved;
-        a += 1;
+    for a in 0..16 {
+        move_node(&mut net.nodes[a], a, bodies, starts);
     }
     net
-}
-
-// How many of n instructions a net has places for.
-fn placed_of(n: usize) -> usize
-    ensures value { result ≡ choose (leb n 512) n 512 }
-    ensures upper_bound { result ≤ 512 }
-{
-    if n <= 512 { n } else { 512 }
 }
 
 // The whole: processes in their places, and n instructions of code, of which those past the 512th have no place.
@@ -118,6 +81,6 @@ pub fn link(start: Net, n: usize, table: &[usize], bodies: &[usize], starts: &[u
 {
     let mut net = moved_net(start, bodies, starts);
     net.length = n;
-    let k = placed_of(n);
-    with_linked(net, k, table, bodies)
+    place_code(&mut net, n.min(512), table, bodies);
+    net
 }

@@ -1,3 +1,4 @@
+pub mod CameLaws
 pub mod Gives
 pub mod Long
 pub mod ReaderLaws

@@ -43,3 +43,7 @@ came (Err f) q = fault f
 pub record Came {A : Type 0} (m : Reader A) (s : Bor (List ℕ)) (p : ℕ) (o : Result A Fault) (s' : Bor (List ℕ)) (q : ℕ) : Type 0 where
   pub gave : came o q ≡ m s.now p
   pub same : s' ≡ s
+
+-- turns of a loop from place p₀ of the bytes s and value a₀: of n turns, i are done and have come to place p and value a
+pub record Turning {A : Type 0} (s : List ℕ) (p₀ n : ℕ) (f : ℕ → A → Reader A) (a₀ : A) (p i : ℕ) (a : A) : Type 0 where
+  pub rest : each n f a₀ s p₀ ≡ turns (n - i) i f a s p

@@ -13,7 +13,6 @@ use Rattle.net.proofs.Laws.{choose_true, choose_false}
 use Rattle.text.specs.Joined.{joined}
 use Rattle.text.specs.Signed.{complement_of, signed}
 use Rattle.terms.specs.Types.{Place, Group, Target, Pattern, TemplateField, Instruction}
-use Rattle.terms.specs.Types as Types
 use Rattle.terms.specs.Terms.{Process, Action, nil, name, fork, act, out, input, read, eval, newloc, out_all}
 use Rattle.terms.specs.Numbering.{Start, start_of, size, size_in, instruction_of, fork_of, code_of, code_in}
 use Rattle.terms.specs.Table.{start_word, target_word, pattern_word, template_words, instruction_words, stop_words, action_words, words_of, words_in}

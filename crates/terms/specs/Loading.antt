@@ -38,13 +38,6 @@ action_of kind w p q =
     (choose (eqb kind 6) (Action.Fork p q)
     (choose (eqb kind 7) (Action.OutAll (group_in w) p) Action.Stop))))))
 
--- a number of an action that has no target
-pub record Other (kind : ℕ) : Type 0 where
-  pub out : kind ≡ 1 → ⊥
-  pub input : kind ≡ 2 → ⊥
-  pub read : kind ≡ 3 → ⊥
-  pub eval : kind ≡ 4 → ⊥
-
 -- ---- the instruction with the words f 0 to f 6
 unfoldable pub field_of : ℕ → TemplateField
 field_of w = record { pattern = pattern_of w }
@@ -63,16 +56,6 @@ loaded_at table i p q = loaded (λ j. get_or table (9 * i + j) 0) p q
 -- the same of the 512 that code can have, and a stop past them
 unfoldable pub loaded_in : List ℕ → ℕ → Place → Place → Instruction
 loaded_in table i p q = choose (ltb i 512) (loaded_at table i p q) zero_instruction
-
--- an instruction with an action, and the template of the words from a place on
-unfoldable pub templated : List ℕ → ℕ → Action → Instruction
-templated table at a = record {
-  action = a;
-  count = get_or table (at + 2) 0;
-  template =
-      field_of (get_or table (at + 3) 0) ∷ field_of (get_or table (at + 4) 0) ∷ field_of (get_or table (at + 5) 0)
-      ∷ field_of (get_or table (at + 6) 0) ∷ [];
-}
 
 -- ---- k instructions one after another, with each start's word resolved to its place
 unfoldable pub loaded_all : (ℕ → Place) → ℕ → List ℕ → List Instruction

@@ -1,5 +1,7 @@
 -- Describes the code, and is no part of what a reader has to believe: instructions as words of a lent table, nine words an
 -- instruction. Starts stay as they are written until names are resolved.
+pub use Rattle.terms.specs.declared.table.Kind.{Kind}
+pub use Rattle.terms.specs.declared.table.Entry.{Entry}
 use Rattle.std.specs.Prelude.{ℕ, suc, ◌+◌, Bool, true, List, [], ◌∷◌, ◌++◌, set}
 use Rattle.net.specs.Records.{zero_instruction, pattern_at}
 use Rattle.text.specs.Joined.{joined}
@@ -33,6 +35,24 @@ template_words c = c.count ∷ joined 4 (λ i. pattern_word (pattern_at c i) ∷
 
 unfoldable pub instruction_words : ℕ → ℕ → Instruction → ℕ → ℕ → List ℕ
 instruction_words kind target c next second = (kind ∷ target ∷ []) ++ (template_words c ++ (next ∷ second ∷ []))
+
+-- an instruction that is stored, by its kind
+abbrev pub kind_number : Kind → ℕ
+kind_number Kind.Stop = 0
+kind_number Kind.Out = 1
+kind_number Kind.In = 2
+kind_number Kind.Read = 3
+kind_number Kind.Eval = 4
+kind_number Kind.New = 5
+kind_number Kind.Fork = 6
+kind_number Kind.OutAll = 7
+
+abbrev pub entry_words : Entry → List ℕ
+entry_words e = instruction_words (kind_number e.kind) e.target e.template e.next e.second
+
+-- the one that has nothing but its kind
+abbrev pub plain_entry : Kind → Entry
+plain_entry k = record { kind = k; target = 0; template = zero_instruction; next = 0; second = 0 }
 
 unfoldable pub stop_words : List ℕ
 stop_words = instruction_words 0 0 zero_instruction 0 0

@@ -1,37 +1,22 @@
 // Instructions written into a lent table, nine words each: those past its end are left away.
-ghost use Rattle.std.specs.Prelude.{◌*◌, [], ◌∷◌, ◌≡◌};
-ghost use Rattle.net.specs.Records.{zero_instruction, pattern_at};
+ghost use Rattle.std.specs.Prelude.{◌*◌, ◌≡◌, slice_set};
 ghost use Rattle.text.specs.Buffer.{over};
-ghost use Rattle.text.specs.Joined.{joined};
-ghost use Rattle.text.specs.Signed.{complement_of};
-ghost use Rattle.text.specs.Writing.{Wrote};
-ghost use Rattle.terms.specs.Table.{target_word, pattern_word, template_words, instruction_words};
+ghost use Rattle.terms.specs.Table.{target_word, pattern_word, Kind, kind_number, plain_entry, entry_words};
 
 use net::instruction::{Instruction, Pattern, Target};
-use net::locality::Group;
 use text::signed::complement;
 
-// One word.
-fn put(table: &mut [usize], at: usize, w: usize) -> usize
-    ensures { Wrote table.old at (w ∷ []) table.new result }
+// One element of a lent list; past its end nothing changes.
+pub fn put<T: Copy>(list: &mut [T], at: usize, x: T)
+    ensures { list.new ≡ slice_set list.old at x }
 {
-    if at < table.len() {
-        table[at] = w;
-        at + 1
-    } else {
-        table.len() + 1
+    if at < list.len() {
+        list[at] = x;
     }
 }
 
-// Two words.
-fn put_two(table: &mut [usize], at: usize, v: usize, w: usize) -> usize
-    ensures { Wrote table.old at (v ∷ w ∷ []) table.new result }
-{
-    let next = put(table, at, v);
-    put(table, next, w)
-}
-
 // The word of a target.
+#[tactic(auto, unfolding(crate::specs::Table::target_word))]
 pub fn target_word(t: Target) -> usize
     ensures { result ≡ target_word t }
 {
@@ -42,28 +27,13 @@ pub fn target_word(t: Target) -> usize
     }
 }
 
-// The word of a set.
-pub fn group_word(g: Group) -> usize
-    ensures { result ≡ g.0 }
-{
-    let bits = g.0;
-    bits as usize
-}
-
-// The word of a reading.
-fn reading_word(x: i32) -> usize
-    ensures { result ≡ complement_of x }
-{
-    let word = complement(x);
-    word as usize
-}
-
 // The word of a template field.
+#[tactic(auto, unfolding(crate::specs::Table::pattern_word))]
 fn pattern_word(p: Pattern) -> usize
     ensures { result ≡ pattern_word p }
 {
     match p {
-        Pattern::Reading(x) => reading_word(x),
+        Pattern::Reading(x) => complement(x) as usize,
         Pattern::Address(l) => 4294967296 + l.0 as usize,
         Pattern::Own => 4294967552,
         Pattern::Held(v) => 4294967808 + v as usize,
@@ -72,82 +42,81 @@ fn pattern_word(p: Pattern) -> usize
     }
 }
 
-// A template field.
-fn put_pattern(table: &mut [usize], at: usize, p: Pattern) -> usize
-    ensures { Wrote table.old at (pattern_word p ∷ []) table.new result }
-{
-    let word = pattern_word(p);
-    put(table, at, word)
+// What an instruction that is stored does.
+#[derive(Clone, Copy, PartialEq, Eq, Debug)]
+pub enum Kind {
+    Stop,
+    Out,
+    In,
+    Read,
+    Eval,
+    New,
+    Fork,
+    OutAll,
 }
 
-// The fields of a template, the unused ones too.
-fn put_patterns(table: &mut [usize], at: usize, c: Instruction) -> usize
-    ensures { Wrote table.old at (joined 4 (λ i. pattern_word (pattern_at c i) ∷ [])) table.new result }
-{
-    let mut next = at;
-    let mut i: usize = 0;
-    while i < 4 {
-        let field = c.template[i];
-        let pattern = field.pattern;
-        next = put_pattern(table, next, pattern);
-        i += 1;
-    }
-    next
+// An instruction that is stored: what it does, its target's word, its template, and the words of the start that follows and
+// of the second one.
+#[derive(Clone, Copy)]
+pub struct Entry {
+    pub kind: Kind,
+    pub target: usize,
+    pub template: Instruction,
+    pub next: usize,
+    pub second: usize,
 }
 
-// A template.
-fn put_template(table: &mut [usize], at: usize, c: Instruction) -> usize
-    ensures { Wrote table.old at (template_words c) table.new result }
-{
-    let next = put(table, at, c.count);
-    put_patterns(table, next, c)
-}
-
-// An instruction.
-fn put_instruction(
-    table: &mut [usize],
-    at: usize,
-    kind: usize,
-    target: usize,
-    c: Instruction,
-    next: usize,
-    second: usize,
-) -> usize
-    ensures { Wrote table.old at (instruction_words kind target c next second) table.new result }
-{
-    let first = put_two(table, at, kind, target);
-    let then = put_template(table, first, c);
-    put_two(table, then, next, second)
-}
-
-// The instruction with the number n.
-pub fn store(
-    table: &mut [usize],
-    n: usize,
-    kind: usize,
-    target: usize,
-    c: Instruction,
-    next: usize,
-    second: usize,
-)
-    ensures { table.new ≡ over table.old (9 * n) (instruction_words kind target c next second) }
-{
-    if n <= table.len() / 9 {
-        put_instruction(table, 9 * n, kind, target, c, next, second);
+impl Entry {
+    // The instruction that has nothing but its kind.
+    pub fn of(kind: Kind) -> Entry
+        ensures { result ≡ plain_entry kind }
+    {
+        Entry {
+            kind,
+            target: 0,
+            template: Instruction::zero(),
+            next: 0,
+            second: 0,
+        }
     }
 }
 
-// The instruction with the number n, which has no template.
-pub fn store_plain(
-    table: &mut [usize],
-    n: usize,
-    kind: usize,
-    target: usize,
-    next: usize,
-    second: usize,
-)
-    ensures { table.new ≡ over table.old (9 * n) (instruction_words kind target zero_instruction next second) }
+// The number that stands for a kind.
+fn number(kind: Kind) -> usize
+    ensures { result ≡ kind_number kind }
 {
-    let c = Instruction::zero();
-    store(table, n, kind, target, c, next, second)
+    match kind {
+        Kind::Stop => 0,
+        Kind::Out => 1,
+        Kind::In => 2,
+        Kind::Read => 3,
+        Kind::Eval => 4,
+        Kind::New => 5,
+        Kind::Fork => 6,
+        Kind::OutAll => 7,
+    }
+}
+
+// The instruction with the number n, stored.
+pub fn store(table: &mut [usize], n: usize, entry: Entry)
+    ensures { table.new ≡ over table.old (9 * n) (entry_words entry) }
+{
+    if n > table.len() / 9 {
+        return;
+    }
+    let [a, b, c, d] = entry.template.template;
+    let words = [
+        number(entry.kind),
+        entry.target,
+        entry.template.count,
+        pattern_word(a.pattern),
+        pattern_word(b.pattern),
+        pattern_word(c.pattern),
+        pattern_word(d.pattern),
+        entry.next,
+        entry.second,
+    ];
+    for (i, w) in words.iter().enumerate() {
+        put(table, 9 * n + i, *w);
+    }
 }

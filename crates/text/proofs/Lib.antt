@@ -1,3 +1,4 @@
 pub mod DecimalLaws
 pub mod SignedLaws
+pub mod WriterLaws
 pub mod WritingLaws

@@ -22,7 +22,7 @@ up_to {A} i n f g = go (dec_le i n)
 -- ---- elements stored in a buffer
 module _ {A : Type 0} where
   -- past its end nothing is
-  over_past : (xs : List A) (at : ℕ) (text : List A) → length xs ≤ at → over xs at text ≡ xs
+  pub over_past : (xs : List A) (at : ℕ) (text : List A) → length xs ≤ at → over xs at text ≡ xs
   unfolding over
   over_past xs at [] h = refl
   over_past xs at (x ∷ text) h =
@@ -35,7 +35,7 @@ module _ {A : Type 0} where
   over_both xs at (x ∷ text) more =
       ap (λ (i : ℕ). over (over (set xs at x) (suc at) text) i more) (omega arith) ∙ over_both (set xs at x) (suc at) text more
 
-  over_length : (xs : List A) (at : ℕ) (text : List A) → length (over xs at text) ≡ length xs
+  pub over_length : (xs : List A) (at : ℕ) (text : List A) → length (over xs at text) ≡ length xs
   unfolding over
   over_length xs at text = length-sets xs at text
 

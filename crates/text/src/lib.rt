@@ -4,4 +4,5 @@
 
 pub mod decimal;
 pub mod signed;
+pub mod writer;
 pub mod writing;
