@@ -1,4 +1,6 @@
 // Sets of the planners' notation (document 02, slip 13): n is the number of addresses.
+#![tactic(auto, using(crate::proofs::SetLaws::counted, lexemes::proofs::Reading::reads, crate::proofs::SetLaws::listing), unfolding(crate::specs::Sets::member_from, crate::specs::Sets::no_members, crate::specs::Sets::listed, crate::specs::Sets::group))]
+
 ghost use Rattle.std.specs.Prelude.{◌<◌, ◌≡◌, IfOk};
 ghost use Rattle.lexemes.specs.Progress.{Reads};
 ghost use Rattle.fields.specs.Sets.{group_of, no_members, member_from, members, listed, group};
@@ -9,7 +11,6 @@ use net::locality::Group;
 use readers::fault::Fault;
 
 // The set of the addresses that are marked.
-#[tactic(auto, using(crate::proofs::SetLaws::counted))]
 fn group_of(marks: [bool; 16]) -> Group
     ensures { result ≡ group_of marks }
 {
@@ -21,7 +22,6 @@ fn group_of(marks: [bool; 16]) -> Group
 }
 
 // A member from `low` on.
-#[tactic(auto, using(lexemes::proofs::Reading::reads), unfolding(crate::specs::Sets::member_from))]
 fn read_member(r: &mut TextReader, n: usize, low: usize) -> Result<usize, Fault>
     ensures read { Reads r.old (member_from n low) result r.new }
     ensures range { IfOk result (λ l. l < 16) }
@@ -32,7 +32,6 @@ fn read_member(r: &mut TextReader, n: usize, low: usize) -> Result<usize, Fault>
 }
 
 // One member or more, at most sixteen, ascending, a comma between two.
-#[tactic(auto, using(crate::proofs::SetLaws::listing), unfolding(crate::specs::Sets::no_members))]
 fn read_members(r: &mut TextReader, n: usize) -> Result<[bool; 16], Fault>
     ensures { Reads r.old (members 16 n 0 no_members) result r.new }
 {
@@ -50,7 +49,6 @@ fn read_members(r: &mut TextReader, n: usize) -> Result<[bool; 16], Fault>
 }
 
 // What stands between the braces.
-#[tactic(auto, using(lexemes::proofs::Reading::reads), unfolding(crate::specs::Sets::listed, crate::specs::Sets::no_members))]
 fn read_listed(r: &mut TextReader, n: usize) -> Result<[bool; 16], Fault>
     ensures { Reads r.old (listed n) result r.new }
 {
@@ -62,7 +60,6 @@ fn read_listed(r: &mut TextReader, n: usize) -> Result<[bool; 16], Fault>
 }
 
 // A set.
-#[tactic(auto, using(lexemes::proofs::Reading::reads), unfolding(crate::specs::Sets::group))]
 pub fn read_group(r: &mut TextReader, n: usize) -> Result<Group, Fault>
     ensures { Reads r.old (group n) result r.new }
 {

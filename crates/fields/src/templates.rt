@@ -1,4 +1,6 @@
 // Templates and targets of the planners' notation: n is the number of addresses.
+#![tactic(auto, using(lexemes::proofs::Reading::reads, crate::proofs::FieldLaws::listing), unfolding(crate::specs::Fields::fresh, crate::specs::Fields::bound, crate::specs::Fields::formal_reading, crate::specs::Fields::formal_address, crate::specs::Fields::formal, crate::specs::Fields::pattern, crate::specs::Fields::address_pattern, crate::specs::Fields::own_pattern, crate::specs::Fields::held_pattern, crate::specs::Fields::reading_pattern, crate::specs::Fields::templateField, crate::specs::Fields::template, crate::specs::Fields::target, crate::specs::Fields::own_target, crate::specs::Fields::held_target, crate::specs::Fields::written_target))]
+
 ghost use Rattle.lexemes.specs.Progress.{Reads};
 ghost use Rattle.fields.specs.Fields.{fresh, bound, formal, pattern, templateField, template, target};
 
@@ -11,7 +13,6 @@ use readers::fault::Fault;
 use sound::soundness::unbound_before;
 
 // A formal's variable, which no earlier field of the template binds.
-#[tactic(auto, using(lexemes::proofs::Reading::reads), unfolding(crate::specs::Fields::fresh))]
 fn read_fresh(r: &mut TextReader, c: Instruction) -> Result<u8, Fault>
     ensures { Reads r.old (fresh c) result r.new }
 {
@@ -21,7 +22,6 @@ fn read_fresh(r: &mut TextReader, c: Instruction) -> Result<u8, Fault>
 }
 
 // What a formal binds, by its first byte.
-#[tactic(auto, using(lexemes::proofs::Reading::reads), unfolding(crate::specs::Fields::bound, crate::specs::Fields::formal_reading, crate::specs::Fields::formal_address))]
 fn read_bound(r: &mut TextReader, c: Instruction) -> Result<Pattern, Fault>
     ensures { Reads r.old (bound c) result r.new }
 {
@@ -35,7 +35,6 @@ fn read_bound(r: &mut TextReader, c: Instruction) -> Result<Pattern, Fault>
 }
 
 // A formal, where they are allowed.
-#[tactic(auto, using(lexemes::proofs::Reading::reads), unfolding(crate::specs::Fields::formal))]
 fn read_formal(r: &mut TextReader, formals: bool, c: Instruction) -> Result<Pattern, Fault>
     ensures { Reads r.old (formal formals c) result r.new }
 {
@@ -45,7 +44,6 @@ fn read_formal(r: &mut TextReader, formals: bool, c: Instruction) -> Result<Patt
 }
 
 // A field of a template, by its first byte.
-#[tactic(auto, using(lexemes::proofs::Reading::reads), unfolding(crate::specs::Fields::pattern, crate::specs::Fields::address_pattern, crate::specs::Fields::own_pattern, crate::specs::Fields::held_pattern, crate::specs::Fields::reading_pattern))]
 fn read_pattern(
     r: &mut TextReader,
     formals: bool,
@@ -67,7 +65,6 @@ fn read_pattern(
 }
 
 // The template with the field read here.
-#[tactic(auto, using(lexemes::proofs::Reading::reads), unfolding(crate::specs::Fields::templateField))]
 fn read_field(
     r: &mut TextReader,
     formals: bool,
@@ -81,7 +78,6 @@ fn read_field(
 }
 
 // The fields of an out, an in or a read, at most four, a comma between two.
-#[tactic(auto, using(crate::proofs::FieldLaws::listing), unfolding(crate::specs::Fields::template))]
 pub fn read_template(r: &mut TextReader, formals: bool, n: usize) -> Result<Instruction, Fault>
     ensures { Reads r.old (template formals n) result r.new }
 {
@@ -96,7 +92,6 @@ pub fn read_template(r: &mut TextReader, formals: bool, n: usize) -> Result<Inst
 }
 
 // A target, by its first byte.
-#[tactic(auto, using(lexemes::proofs::Reading::reads), unfolding(crate::specs::Fields::target, crate::specs::Fields::own_target, crate::specs::Fields::held_target, crate::specs::Fields::written_target))]
 pub fn read_target(r: &mut TextReader, n: usize) -> Result<Target, Fault>
     ensures { Reads r.old (target n) result r.new }
 {

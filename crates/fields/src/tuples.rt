@@ -1,4 +1,6 @@
 // Tuples of the planners' notation: n is the number of addresses.
+#![tactic(auto, using(lexemes::proofs::Reading::reads, crate::proofs::FieldLaws::listing), unfolding(crate::specs::Fields::item, crate::specs::Fields::address_item, crate::specs::Fields::reading_item, crate::specs::Fields::tupleField, crate::specs::Fields::tuple))]
+
 ghost use Rattle.net.specs.Records.{zero_tuple};
 ghost use Rattle.lexemes.specs.Progress.{Reads};
 ghost use Rattle.fields.specs.Fields.{item, tupleField, fields, tuple};
@@ -9,7 +11,6 @@ use net::tuple::{Field, Item, Tuple};
 use readers::fault::Fault;
 
 // A field of a tuple, by its first byte.
-#[tactic(auto, using(lexemes::proofs::Reading::reads), unfolding(crate::specs::Fields::item, crate::specs::Fields::address_item, crate::specs::Fields::reading_item))]
 fn read_item(r: &mut TextReader, n: usize) -> Result<Item, Fault>
     ensures { Reads r.old (item n) result r.new }
 {
@@ -21,7 +22,6 @@ fn read_item(r: &mut TextReader, n: usize) -> Result<Item, Fault>
 }
 
 // The tuple with the field read here.
-#[tactic(auto, using(lexemes::proofs::Reading::reads), unfolding(crate::specs::Fields::tupleField))]
 fn read_field(r: &mut TextReader, n: usize, t: Tuple) -> Result<Tuple, Fault>
     ensures { Reads r.old (tupleField n t) result r.new }
 {
@@ -30,7 +30,6 @@ fn read_field(r: &mut TextReader, n: usize, t: Tuple) -> Result<Tuple, Fault>
 }
 
 // At most four fields, a comma between two.
-#[tactic(auto, using(crate::proofs::FieldLaws::listing))]
 fn read_items(r: &mut TextReader, n: usize) -> Result<Tuple, Fault>
     ensures { Reads r.old (fields 4 (tupleField n) zero_tuple) result r.new }
 {
@@ -45,7 +44,6 @@ fn read_items(r: &mut TextReader, n: usize) -> Result<Tuple, Fault>
 }
 
 // The tuple of a line.
-#[tactic(auto, using(lexemes::proofs::Reading::reads), unfolding(crate::specs::Fields::tuple))]
 pub fn read_tuple(r: &mut TextReader, n: usize) -> Result<Tuple, Fault>
     ensures { Reads r.old (tuple n) result r.new }
 {

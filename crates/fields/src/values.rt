@@ -1,4 +1,6 @@
 // Addresses, variables and readings of the planners' notation: n is the number of addresses.
+#![tactic(auto, using(lexemes::proofs::Reading::reads), unfolding(crate::specs::Fields::address, net::specs::Records::address_of, crate::specs::Fields::variable, crate::specs::Fields::negative, crate::specs::Fields::positive, crate::specs::Fields::reading, crate::specs::Fields::at_address, crate::specs::Fields::own, text::specs::Bytes::bytes, crate::specs::Fields::held))]
+
 ghost use Rattle.std.specs.Prelude.{◌-◌, ◌<◌, ◌≤◌, ◌≡◌, ℤ, IfOk};
 ghost use Rattle.lexemes.specs.Progress.{Reads};
 ghost use Rattle.fields.specs.Fields.{address, variable, negative, positive, reading, at_address, own, held};
@@ -8,7 +10,6 @@ use net::locality::Locality;
 use readers::fault::Fault;
 
 // An address that has a row.
-#[tactic(auto, using(lexemes::proofs::Reading::reads), unfolding(crate::specs::Fields::address, net::specs::Records::address_of))]
 pub fn read_address(r: &mut TextReader, n: usize) -> Result<Locality, Fault>
     ensures read { Reads r.old (address n) result r.new }
     ensures range { IfOk result (λ l. l.0 < 16) }
@@ -19,7 +20,6 @@ pub fn read_address(r: &mut TextReader, n: usize) -> Result<Locality, Fault>
 }
 
 // The number of a variable.
-#[tactic(auto, using(lexemes::proofs::Reading::reads), unfolding(crate::specs::Fields::variable))]
 pub fn read_variable(r: &mut TextReader) -> Result<u8, Fault>
     ensures { Reads r.old variable result r.new }
 {
@@ -36,7 +36,6 @@ fn minus(v: usize) -> i32
 }
 
 // A reading below nought.
-#[tactic(auto, using(lexemes::proofs::Reading::reads), unfolding(crate::specs::Fields::negative))]
 fn read_negative(r: &mut TextReader) -> Result<i32, Fault>
     ensures { Reads r.old negative result r.new }
 {
@@ -47,7 +46,6 @@ fn read_negative(r: &mut TextReader) -> Result<i32, Fault>
 }
 
 // A reading from nought on.
-#[tactic(auto, using(lexemes::proofs::Reading::reads), unfolding(crate::specs::Fields::positive))]
 fn read_positive(r: &mut TextReader) -> Result<i32, Fault>
     ensures { Reads r.old positive result r.new }
 {
@@ -56,7 +54,6 @@ fn read_positive(r: &mut TextReader) -> Result<i32, Fault>
 }
 
 // A reading of 32 bits.
-#[tactic(auto, using(lexemes::proofs::Reading::reads), unfolding(crate::specs::Fields::reading))]
 pub fn read_reading(r: &mut TextReader) -> Result<i32, Fault>
     ensures { Reads r.old reading result r.new }
 {
@@ -68,7 +65,6 @@ pub fn read_reading(r: &mut TextReader) -> Result<i32, Fault>
 }
 
 // An address after its @.
-#[tactic(auto, using(lexemes::proofs::Reading::reads), unfolding(crate::specs::Fields::at_address))]
 pub fn read_at_address(r: &mut TextReader, n: usize) -> Result<Locality, Fault>
     ensures { Reads r.old (at_address n) result r.new }
 {
@@ -77,7 +73,6 @@ pub fn read_at_address(r: &mut TextReader, n: usize) -> Result<Locality, Fault>
 }
 
 // The word self.
-#[tactic(auto, unfolding(crate::specs::Fields::own, text::specs::Bytes::bytes))]
 pub fn read_own(r: &mut TextReader) -> Result<(), Fault>
     ensures { Reads r.old own result r.new }
 {
@@ -85,7 +80,6 @@ pub fn read_own(r: &mut TextReader) -> Result<(), Fault>
 }
 
 // A variable after its v.
-#[tactic(auto, using(lexemes::proofs::Reading::reads), unfolding(crate::specs::Fields::held))]
 pub fn read_held(r: &mut TextReader) -> Result<u8, Fault>
     ensures { Reads r.old held result r.new }
 {

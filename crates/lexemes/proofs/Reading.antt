@@ -14,7 +14,7 @@ use Rattle.readers.specs.Reader.{Reader, pure, and_then, ◌>>=◌, ◌>>◌, fa
 use Rattle.readers.specs.Progress.{came}
 use Rattle.lexemes.specs.Types.{Fault}
 use Rattle.lexemes.specs.Lexemes.{look, byte_at, fail, byte, word, is_digit}
-use Rattle.lexemes.specs.Progress.{TextReader, Reads, Resumes}
+use Rattle.lexemes.specs.Progress.{TextReader, Reads, Resumes, Stands}
 
 module _ {A : Type 0} (r r' : TextReader) where
   pub reads_pure : (a : A) → Reads r (pure a) (Ok a) r
@@ -41,9 +41,13 @@ module _ {A B : Type 0} (r r' : TextReader) (m : Reader A) where
     unfolding ◌>>◌
     reads_next f a o h k = reads_then (λ _. f) a o h k
 
-  reads_failed : (f : A → Reader B) (e : Fault) → Reads r m (Err e) r' → Reads r (m >>= f) (Err e) r'
+  pub reads_failed : (f : A → Reader B) (e : Fault) → Reads r m (Err e) r' → Reads r (m >>= f) (Err e) r'
   unfolding came ◌>>=◌ and_then
   reads_failed f e h = record { gave = rw (← h.gave) refl; same = h.same }
+
+  pub next_failed : (f : Reader B) (e : Fault) → Reads r m (Err e) r' → Reads r (m >> f) (Err e) r'
+  unfolding ◌>>◌
+  next_failed f e h = reads_failed (λ _. f) e h
 
   pub reads_fault : (f : A → Reader B) (e : Fault) (o : Result B Fault) → Reads r m (Err e) r' → IsErrAnd o (λ d. d ≡ e) → Reads r (m >>= f) o r'
   reads_fault f e o h k = let p = err_from_is_err_and o k in rw (p.1, p.2) (reads_failed f e h)
@@ -110,6 +114,11 @@ module _ {A : Type 0} (n : ℕ) (f : ℕ → A → Reader A) where
     turns_end i a h k = resumed r₀ r r _ _ (Ok a) (rw (turns_last i a h) at k) (reads_pure r r a)
 
 pub ruleset turned = (turns_begin, turns_on, turns_fault, turns_end)
+
+-- ---- answers that stand for what is read
+pub stands_fault : {A X : Type 0} (P : A → X → Type 0) (r r' : TextReader) (m : Reader A) (o : Result X Fault) (e : Fault) → Reads r m (Err e) r'
+    → IsErrAnd o (λ d. d ≡ e) → Stands P r m o r'
+stands_fault P r r' m o e h k = let p = err_from_is_err_and o k in rw (p.1, p.2) (record { told = h })
 
 -- ---- the bytes of a word
 module _ (cs : List ℕ) where

@@ -1,4 +1,6 @@
 // Numbers of the planners' notation: plain decimal, with no leading zeros.
+#![tactic(auto, using(crate::proofs::Reading::reads, crate::proofs::Reading::turned), unfolding(crate::specs::Lexemes::is_digit, net::specs::Choice::both, crate::specs::Lexemes::digit, crate::specs::Lexemes::digit_of, crate::specs::Lexemes::longer, crate::specs::Lexemes::another, crate::specs::Lexemes::rest, crate::specs::Lexemes::number))]
+
 ghost use Rattle.std.specs.Prelude.{◌≤◌, ◌≡◌, IfOk};
 ghost use Rattle.lexemes.specs.Lexemes.{is_digit, digit, longer, another, rest, number};
 ghost use Rattle.lexemes.specs.Progress.{Reads};
@@ -7,7 +9,6 @@ use crate::reader::TextReader;
 use readers::fault::Fault;
 
 // Whether a byte is a digit.
-#[tactic(auto, unfolding(crate::specs::Lexemes::is_digit, net::specs::Choice::both))]
 pub fn is_digit(b: u8) -> bool
     ensures { result ≡ is_digit b }
 {
@@ -16,7 +17,6 @@ pub fn is_digit(b: u8) -> bool
 
 impl<'a> TextReader<'a> {
     // A digit.
-    #[tactic(auto, using(crate::proofs::Reading::reads), unfolding(crate::specs::Lexemes::digit, crate::specs::Lexemes::digit_of))]
     fn digit(&mut self) -> Result<usize, Fault>
         ensures read { Reads self.old digit result self.new }
         ensures range { IfOk result (λ v. v ≤ 9) }
@@ -31,7 +31,6 @@ impl<'a> TextReader<'a> {
     }
 
     // One digit more after the number v.
-    #[tactic(auto, using(crate::proofs::Reading::reads), unfolding(crate::specs::Lexemes::longer))]
     fn longer(&mut self, limit: usize, v: usize) -> Result<usize, Fault>
         requires { (v ≤ limit) × (limit ≤ 4294967295) }
         ensures read { Reads self.old (longer limit v) result self.new }
@@ -44,7 +43,6 @@ impl<'a> TextReader<'a> {
     }
 
     // The next digit, where there is one.
-    #[tactic(auto, using(crate::proofs::Reading::reads), unfolding(crate::specs::Lexemes::another))]
     fn another(&mut self, limit: usize, v: usize) -> Result<usize, Fault>
         requires { (v ≤ limit) × (limit ≤ 4294967295) }
         ensures read { Reads self.old (another limit 0 v) result self.new }
@@ -58,7 +56,6 @@ impl<'a> TextReader<'a> {
     }
 
     // The digits after the first.
-    #[tactic(auto, using(crate::proofs::Reading::turned), unfolding(crate::specs::Lexemes::rest, crate::specs::Lexemes::another))]
     fn rest(&mut self, limit: usize, first: usize) -> Result<usize, Fault>
         requires { (first ≤ limit) × (limit ≤ 4294967295) }
         ensures read { Reads self.old (rest limit first) result self.new }
@@ -72,7 +69,6 @@ impl<'a> TextReader<'a> {
     }
 
     // A number up to a limit.
-    #[tactic(auto, using(crate::proofs::Reading::reads), unfolding(crate::specs::Lexemes::number))]
     pub fn number(&mut self, limit: u32) -> Result<usize, Fault>
         ensures read { Reads self.old (number limit) result self.new }
         ensures range { IfOk result (λ v. v ≤ limit) }

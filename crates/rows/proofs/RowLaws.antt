@@ -1,252 +1,146 @@
--- Laws of a row of a text (`specs/Rows.antt`), run from a step. Assumes nothing.
+-- Laws of a row of a text (`specs/Rows.antt`), read by the text reader. Assumes nothing.
 use Prim.Native.Nat.{ℕ, zero, suc, ◌+◌, ◌-◌, ◌<◌, ◌≤◌}
 use mathlib.Core.Path.{◌≡◌, refl, sym, ap, ◌∙◌}
 use mathlib.Core.Bool.{Bool, true, false}
 use mathlib.Core.List.{List}
 use native.Mathlib.Omega.{arith}
+use native.Mathlib.Decide.{dec_le}
 use native.Mathlib.Numerals.{add-one}
-use lib.ListN.{get_or, length, set}
-use lib.Dec.{eqb, leb}
+use lib.ListN.{get_or, length, get_or-eq_default}
+use Rattle.std.proofs.Common.{Result, Ok, Err}
+use Rattle.std.specs.Result.{is_ok}
 use Rattle.text.specs.Bytes.{bytes}
 use Rattle.net.specs.Choice.{choose, both}
-use Rattle.net.specs.Records.{zero_row, with_rights}
+use Rattle.net.specs.Records.{with_rights, address_of}
 use Rattle.net.proofs.Laws.{choose_true, choose_false}
 use Rattle.net.proofs.ReadingLaws.{never}
-use Rattle.readers.specs.Reader.{Parsed, got, fault, Reader, pure, and_then, ◌>>=◌, ◌>>◌, require}
-use Rattle.readers.specs.Progress.{reached, outcome, run_from, Went}
-use Rattle.readers.proofs.ReaderLaws.{after, on, next, stop, no_fault}
-use Rattle.lexemes.specs.Lexemes.{byte_at, look, byte, word, optional, present, is_digit, number}
-use Rattle.lexemes.proofs.WordLaws.{past_text}
-use Rattle.rows.specs.Types.{Step, Fault, Rights, Row}
-use Rattle.rows.specs.Rows.{digits_from, is_got, stands_at, opens_with, any_right, rights, granted, grants, creates, opening, row_rest, row}
-use Rattle.rows.specs.OriginRows.{numbered}
-use Rattle.rows.specs.Progress.{GrantsRead, Digits, holds_at, Granted, Granting}
+use Rattle.readers.specs.Reader.{Reader, pure, ◌>>=◌}
+use Rattle.readers.specs.Progress.{came}
+use Rattle.lexemes.specs.Lexemes.{byte_at, word, optional, is_digit}
+use Rattle.lexemes.specs.Progress.{Reads, Resumes}
+use Rattle.lexemes.proofs.Reading.{resumed, resumes_start, resumes_then, reads_pure, reads_next}
+use Rattle.rows.specs.Types.{TextReader, Fault, Rights, Row}
+use Rattle.rows.specs.Rows.{digits_from, is_got, stands_at, opens_with, rights, granted, grants, creates}
+use Rattle.rows.specs.Progress.{Digits}
 
 -- ---- digits, counted
-module _ (s : List ℕ) (p : ℕ) where
-  pub digits_begin : Digits s p p
-  digits_begin = record { from = omega arith; within = omega arith; rest = ap (λ (k : ℕ). p + digits_from k s p) (omega arith) }
+no_digit : (b : ℕ) → 0 ≡ b → is_digit b ≡ false
+unfolding is_digit both
+no_digit b e = rw (← e) refl
 
-  one_digit : (k j q : ℕ) → k ≡ suc j → is_digit (byte_at s q) ≡ true → digits_from k s q ≡ suc (digits_from j s (suc q))
-  unfolding digits_from
-  one_digit k j q e d = rw e (choose_true _ _ _ d)
-
-  pub digits_more :
-      (q b : ℕ) (digital : Bool) → Digits s p q → q < length s → b ≡ get_or s q 0 → digital ≡ is_digit b → digital ≡ true
-      → Digits s p (q + 1)
+module _ (s : List ℕ) where
+  in_text : (q : ℕ) → Dec (length s ≤ q) → is_digit (byte_at s q) ≡ true → q < length s
   unfolding byte_at
-  digits_more q b digital l h e d t =
-      let here : is_digit (byte_at s q) ≡ true = ap is_digit (sym e) ∙ sym d ∙ t in
-      let more : digits_from (length s - (q - p)) s q ≡ suc (digits_from (length s - ((q + 1) - p)) s (suc q)) =
-      one_digit (length s - (q - p)) (length s - ((q + 1) - p)) q (omega (arith, l.from, l.within)) here in
-      let moved : digits_from (length s - ((q + 1) - p)) s (suc q) ≡ digits_from (length s - ((q + 1) - p)) s (q + 1) =
-      ap (λ (j : ℕ). digits_from (length s - ((q + 1) - p)) s j) (sym (add-one q)) in
-      record { from = omega (arith, l.from); within = omega (arith, l.from, l.within); rest = omega (arith, l.rest, more, moved) }
+  in_text q (yes h) d = never (sym (no_digit (get_or s q 0) (sym (get_or-eq_default s 0 h))) ∙ d)
+  in_text q (no h) d = omega (arith, h)
 
-  none : (k q : ℕ) → is_digit (byte_at s q) ≡ false → digits_from k s q ≡ 0
-  unfolding digits_from
-  none zero q d = refl
-  none (suc k) q d = choose_false _ _ _ d
+  -- a digit stands in the text
+  pub digit_within : (q : ℕ) → is_digit (byte_at s q) ≡ true → q < length s
+  digit_within q d = in_text q (dec_le (length s) q) d
 
-  no_more : (q : ℕ) → Digits s p q → is_digit (byte_at s q) ≡ false → q ≡ p + digits_from (length s) s p
-  no_more q l d = omega (arith, l.rest, none (length s - (q - p)) q d)
+  module _ (p : ℕ) where
+    pub digits_begin : Digits s p p
+    digits_begin = record { from = omega arith; within = omega arith; rest = ap (λ (k : ℕ). p + digits_from k s p) (omega arith) }
 
-  pub digits_stop :
-      (q b : ℕ) (digital : Bool) → Digits s p q → b ≡ get_or s q 0 → digital ≡ is_digit b → digital ≡ false
-      → q ≡ p + digits_from (length s) s p
-  unfolding byte_at
-  digits_stop q b digital l e d f = no_more q l (ap is_digit (sym e) ∙ sym d ∙ f)
+    one_digit : (k j q : ℕ) → k ≡ suc j → is_digit (byte_at s q) ≡ true → digits_from k s q ≡ suc (digits_from j s (suc q))
+    unfolding digits_from
+    one_digit k j q e d = rw e (choose_true _ _ _ d)
 
-  no_digit : (b : ℕ) → 0 ≡ b → is_digit b ≡ false
-  unfolding is_digit both
-  no_digit b e = rw (← e) refl
+    pub digits_more : (q : ℕ) → Digits s p q → is_digit (byte_at s q) ≡ true → Digits s p (q + 1)
+    digits_more q l here =
+        let h : q < length s = digit_within q here in
+        let more : digits_from (length s - (q - p)) s q ≡ suc (digits_from (length s - ((q + 1) - p)) s (suc q)) =
+        one_digit (length s - (q - p)) (length s - ((q + 1) - p)) q (omega (arith, l.from, l.within)) here in
+        let moved : digits_from (length s - ((q + 1) - p)) s (suc q) ≡ digits_from (length s - ((q + 1) - p)) s (q + 1) =
+        ap (λ (j : ℕ). digits_from (length s - ((q + 1) - p)) s j) (sym (add-one q)) in
+        record { from = omega (arith, l.from); within = omega (arith, l.from, l.within); rest = omega (arith, l.rest, more, moved) }
 
-  pub digits_end : (q : ℕ) → Digits s p q → length s ≤ q → q ≡ p + digits_from (length s) s p
-  digits_end q l h = no_more q l (no_digit (byte_at s q) (past_text s q h))
+    none : (k q : ℕ) → is_digit (byte_at s q) ≡ false → digits_from k s q ≡ 0
+    unfolding digits_from
+    none zero q d = refl
+    none (suc k) q d = choose_false _ _ _ d
+
+    pub digits_stop : (q : ℕ) → Digits s p q → is_digit (byte_at s q) ≡ false → q ≡ p + digits_from (length s) s p
+    digits_stop q l d = omega (arith, l.rest, none (length s - (q - p)) q d)
+
+pub ruleset digits = (digit_within, digits_begin, digits_more, digits_stop)
 
 -- ---- words that may stand there
-module _ (s w : List ℕ) where
-  got_place : (q : Step) → reached q ≡ is_got (outcome {A = Unit {0}} q (tt {0}))
-  unfolding reached is_got outcome
-  got_place (Step.At k) = refl
-  got_place (Step.Failed f) = refl
+got_ok : {A : Type 0} (o : Result A Fault) (q : ℕ) → is_ok o ≡ is_got (came o q)
+unfolding is_got came
+got_ok (Ok a) q = refl
+got_ok (Err e) q = refl
 
-  pub word_stands : (p : ℕ) (q : Step) (r : Bool) → Went s (Step.At p) (word w) q tt → r ≡ reached q → r ≡ stands_at w s p
-  unfolding stands_at run_from
-  word_stands p q r v e = e ∙ got_place q ∙ ap is_got v.went
+pub word_stands : (r r' : TextReader) (w : List ℕ) (o : Result (Unit {0}) Fault) → Reads r (word w) o r' → is_ok o ≡ stands_at w r.text.now r.at
+unfolding stands_at
+word_stands r r' w o h = got_ok o r'.at ∙ ap is_got h.gave
 
-module _ (w s : List ℕ) (p b : ℕ) (digital : Bool) (e : b ≡ byte_at s p) (d : digital ≡ is_digit b) where
-  pub opens_is :
-      (q : ℕ) (r : Bool) → digital ≡ true → q ≡ p + digits_from (length s) s p → r ≡ stands_at w s q → r ≡ opens_with w s p
+module _ (r : TextReader) (w : List ℕ) (b : ℕ) (e : b ≡ byte_at r.text.now r.at) where
+  pub opens_is : (q : ℕ) (r' : TextReader) (o : Result (Unit {0}) Fault) (ok : Bool) → is_digit b ≡ true
+      → q ≡ r.at + digits_from (length r.text.now) r.text.now r.at → Reads (record { text = r.text; at = q }) (word w) o r' → ok ≡ is_ok o
+      → ok ≡ opens_with w r.text.now r.at
   unfolding opens_with both
-  opens_is q r t a h = let one : is_digit (byte_at s p) ≡ true = ap is_digit (sym e) ∙ sym d ∙ t in rw (one, ← a) h
+  opens_is q r' o ok t a h d =
+      let one : is_digit (byte_at r.text.now r.at) ≡ true = ap is_digit (sym e) ∙ t in
+      rw (one, ← a) (d ∙ word_stands (record { text = r.text; at = q }) r' w o h)
 
-  pub opens_none : digital ≡ false → false ≡ opens_with w s p
+  pub opens_none : is_digit b ≡ false → false ≡ opens_with w r.text.now r.at
   unfolding opens_with both
-  opens_none t = let no : is_digit (byte_at s p) ≡ false = ap is_digit (sym e) ∙ sym d ∙ t in rw no refl
+  opens_none t = let no : is_digit (byte_at r.text.now r.at) ≡ false = ap is_digit (sym e) ∙ t in rw no refl
 
--- ---- tests at a step
-module _ (test : List ℕ → ℕ → Bool) (s : List ℕ) (p : Step) where
-  pub holds_here : (k : ℕ) (r : Bool) → p ≡ Step.At k → r ≡ test s k → r ≡ holds_at test s p
-  unfolding holds_at
-  holds_here k r e d = rw e d
-
-  pub holds_nowhere : (f : Fault) → p ≡ Step.Failed f → false ≡ holds_at test s p
-  unfolding holds_at
-  holds_nowhere f e = rw e refl
+pub ruleset opened = (opens_is, opens_none)
 
 -- ---- ` n`
-module _ (s : List ℕ) where
-  stands_as : (w : List ℕ) (p : ℕ) (o : Parsed (Unit {0})) → word w s p ≡ o → stands_at w s p ≡ is_got o
-  unfolding stands_at
-  stands_as w p o e = ap is_got e
+module _ (r r' : TextReader) where
+  stands_as : (o : Result (Unit {0}) Fault) → Reads r (word (bytes " n")) o r' → stands_at (bytes " n") r.text.now r.at ≡ is_ok o
+  stands_as o h = sym (word_stands r r' (bytes " n") o h)
 
-  pub creates_is : (p q : Step) (k : ℕ) → Went s p (word (bytes " n")) q tt → q ≡ Step.At k → Went s p creates q true
-  unfolding creates run_from outcome is_got
-  creates_is (Step.At p) q k w e =
-      let read : word (bytes " n") s p ≡ got tt k = sym w.went ∙ ap (λ (x : Step). outcome x tt) e in
-      let both_read = next s (Step.At p) q q (word (bytes " n")) (pure true) tt true w (stop s q true) in
-      record { went = both_read.went ∙ sym (ap (λ (m : Reader Bool). m s p) (choose_true _ _ _ (stands_as (bytes " n") p _ read))) }
-  creates_is (Step.Failed f) q k w e = no_fault (sym w.went ∙ ap (λ (x : Step). outcome x tt) e)
+  pub creates_is : (a : Unit {0}) → Reads r (word (bytes " n")) (Ok a) r' → Reads r creates (Ok true) r'
+  unfolding creates
+  creates_is a h =
+      let read = reads_next r r' (word (bytes " n")) r' (pure true) a (Ok true) h (reads_pure r' r' true) in
+      record { gave = read.gave ∙ sym (ap (λ (m : Reader Bool). m r.text.now r.at) (choose_true _ _ _ (stands_as (Ok a) h))); same = read.same }
 
-  pub creates_none : (p q : Step) (f : Fault) → Went s p (word (bytes " n")) q tt → q ≡ Step.Failed f → Went s p creates p false
-  unfolding creates run_from outcome is_got pure
-  creates_none (Step.At p) q f w e =
-      let read : word (bytes " n") s p ≡ fault f = sym w.went ∙ ap (λ (x : Step). outcome x tt) e in
-      record { went = sym (ap (λ (m : Reader Bool). m s p) (choose_false _ _ _ (stands_as (bytes " n") p _ read))) }
-  creates_none (Step.Failed g) q f w e = record { went = refl }
+  pub creates_none : (e : Fault) → Reads r (word (bytes " n")) (Err e) r' → Reads r creates (Ok false) r
+  unfolding creates
+  creates_none e h =
+      let read = reads_pure r r false in
+      record { gave = read.gave ∙ sym (ap (λ (m : Reader Bool). m r.text.now r.at) (choose_false _ _ _ (stands_as (Err e) h))); same = read.same }
 
--- ---- the rights over an address
-module _ (s : List ℕ) where
-  pub rights_read :
-      (p₀ p₁ p₂ p₃ p₄ q : Step) (i r o e some : Bool) → Went s p₀ (optional 105) p₁ i → Went s p₁ (optional 114) p₂ r
-      → Went s p₂ (optional 111) p₃ o → Went s p₃ (optional 101) p₄ e
-      → some ≡ any_right (record { take = i; read = r; put = o; send = e }) → Went s p₄ (require some 31) q tt
-      → Went s p₀ rights q (record { take = i; read = r; put = o; send = e })
-  unfolding rights
-  rights_read p₀ p₁ p₂ p₃ p₄ q i r o e some a b c d t v =
-      on s p₀ p₁ q _ _ i _ a
-      (on s p₁ p₂ q _ _ r _ b
-      (on s p₂ p₃ q _ _ o _ c (on s p₃ p₄ q _ _ e _ d (next s p₄ q q _ _ tt _ (rw t at v) (stop s q _)))))
-
-  pub granted_read :
-      (p p₁ p₂ q : Step) (low l : ℕ) → Went s p (number 15) p₁ l → Went s p₁ (require (leb low l) 31) p₂ tt
-      → Went s p₂ (byte 58) q tt → Went s p (granted low) q l
-  unfolding granted
-  granted_read p p₁ p₂ q low l a b c = on s p p₁ q _ _ l _ a (next s p₁ p₂ q _ _ tt _ b (next s p₂ q q _ _ tt _ c (stop s q l)))
-
--- ---- where a byte is missing it is missing the second time
-module _ (s : List ℕ) (c : ℕ) where
-  not_present : {C : Type 0} (o : Parsed (Unit {0})) (k : ℕ) → got false k ≡ and_then o s (λ (x : Unit {0}). pure true) → C
-  unfolding and_then pure
-  not_present (got x q) k e = let z : false ≡ true = cc in never z
-  not_present (fault f) k e = no_fault (sym e)
-
-  still_missing :
-      (p k : ℕ) (t : Bool) → eqb (byte_at s p) c ≡ t → got false k ≡ optional c s p
-      → Went s (Step.At k) (optional c) (Step.At k) false
-  unfolding optional look present ◌>>◌ ◌>>=◌ pure choose run_from outcome
-  still_missing p k true e v = not_present (byte c s p) k (rw e at v)
-  still_missing p k false e v =
-      let stays : got false k ≡ got false p = rw e at v in
-      let same : k ≡ p = cc in
-      let again : got false p ≡ optional c s p = rw same at v in
-      record { went = rw same again }
-
-  missing : (p q : Step) → Went s p (optional c) q false → Went s q (optional c) q false
-  unfolding run_from outcome
-  missing (Step.At p) (Step.At k) v = still_missing p k (eqb (byte_at s p) c) refl v.went
-  missing (Step.At p) (Step.Failed g) v = record { went = refl }
-  missing (Step.Failed f) (Step.At k) v = no_fault (sym v.went)
-  missing (Step.Failed f) (Step.Failed g) v = record { went = refl }
+pub ruleset created = (creates_is, creates_none)
 
 -- ---- the addresses of a row
-module _ (s : List ℕ) (p₀ p : Step) (low : ℕ) (row : Row) (space : Bool) (w : Went s p₀ (optional 32) p space) where
-  pub grant_more :
-      (p₁ q : Step) (l : ℕ) (x : Rights) → space ≡ true → Went s p (granted low) p₁ l → Went s p₁ rights q x
-      → Granted s p₀ low row (record { low = l + 1; row = record { create = row.create; rights = set row.rights l x }; next = q })
-  unfolding grants with_rights
-  grant_more p₁ q l x t a b = record {
-    turn = λ k.
-        after s p₀ p (optional 32) _ space w
-        ∙ ap (run_from s p) (choose_true space _ _ t)
-        ∙ after s p p₁ (granted low) _ l a
-        ∙ after s p₁ q rights _ x b;
-  }
+module _ (k : ℕ) where
+  -- one address more, of those after the i-th
+  abbrev pub granting_turn : ℕ → ℕ → Row → Reader Row
+  granting_turn i low row =
+      optional 32 >>= (λ more.
+      choose more
+      (granted low >>= (λ l. rights >>= (λ x. grants (k - (i + 1)) (l + 1) (with_rights row (address_of l) x))))
+      (pure row))
 
-  none_after : (k : ℕ) → Went s p (optional 32) p false → run_from s p (grants k low row) ≡ outcome p row
+  grants_first : (i low : ℕ) (row : Row) → i < k → grants (k - i) low row ≡ granting_turn i low row
   unfolding grants
-  none_after zero v = sym (stop s p row).went
-  none_after (suc k) v = after s p p (optional 32) _ false v ∙ ap (run_from s p) (choose_false false _ _ refl) ∙ sym (stop s p row).went
+  grants_first i low row h = let e : k - i ≡ suc (k - (i + 1)) = omega arith in rw e refl
 
-  pub grant_none : space ≡ false → Granted s p₀ low row (record { low = low; row = row; next = p })
+  grants_none : (i low : ℕ) (row : Row) → k ≤ i → grants (k - i) low row ≡ pure row
   unfolding grants
-  grant_none f = record {
-    turn = λ k.
-        after s p₀ p (optional 32) _ space w
-        ∙ ap (run_from s p) (choose_false space _ _ f)
-        ∙ sym (stop s p row).went
-        ∙ sym (none_after k (missing s 32 p₀ p (rw f at w)));
-  }
+  grants_none i low row h = let e : k - i ≡ 0 = omega arith in rw e refl
 
--- ---- as many as there are
-module _ (s : List ℕ) (p₀ : Step) (row₀ : Row) where
-  pub granting_begin : Granting s p₀ row₀ p₀ 0 0 row₀
-  granting_begin = record { within = omega arith; rest = refl }
+  module _ (r₀ r : TextReader) (i low₀ low : ℕ) (row₀ row : Row) where
+    pub grants_turn : (r' : TextReader) (o : Result Row Fault) → i < k → Resumes r₀ (grants k low₀ row₀) r (grants (k - i) low row)
+        → Reads r (granting_turn i low row) o r' → Reads r₀ (grants k low₀ row₀) o r'
+    grants_turn r' o h l w = resumed r₀ r r' _ _ o (rw (grants_first i low row h) at l) w
 
-  as_many :
-      (p : Step) (i low : ℕ) (row : Row) (r : GrantsRead) (k j : ℕ) → k ≡ suc j → Granted s p low row r
-      → run_from s p (grants k low row) ≡ run_from s r.next (grants j r.low r.row)
-  as_many p i low row r k j e g = rw e (g.turn j)
+    pub grants_end : k ≤ i → Resumes r₀ (grants k low₀ row₀) r (grants (k - i) low row) → Reads r₀ (grants k low₀ row₀) (Ok row) r
+    grants_end h l = resumed r₀ r r _ _ (Ok row) (rw (grants_none i low row h) at l) (reads_pure r r row)
 
-  pub granting_more :
-      (p : Step) (i low : ℕ) (row : Row) (r : GrantsRead) → i < 16 → Granting s p₀ row₀ p i low row → Granted s p low row r
-      → Granting s p₀ row₀ r.next (i + 1) r.low r.row
-  granting_more p i low row r h l g = record { within = omega arith; rest = l.rest ∙ as_many p i low row r (16 - i) (16 - (i + 1)) (omega arith) g }
+    pub grants_on : (r₁ r₂ r₃ : TextReader) (more : Bool) (l : ℕ) (x : Rights) → more ≡ true → i < k
+        → Resumes r₀ (grants k low₀ row₀) r (grants (k - i) low row) → Reads r (optional 32) (Ok more) r₁ → Reads r₁ (granted low) (Ok l) r₂
+        → Reads r₂ rights (Ok x) r₃ → Resumes r₀ (grants k low₀ row₀) r₃ (grants (k - (i + 1)) (l + 1) (with_rights row (address_of l) x))
+    grants_on r₁ r₂ r₃ more l x e h g a b c =
+        let one = resumes_then r₀ r r₁ _ (optional 32) _ more (rw (grants_first i low row h) at g) a in
+        let two = resumes_then r₀ r₁ r₂ _ (granted low) _ l (rw (choose_true more _ _ e) at one) b in
+        resumes_then r₀ r₂ r₃ _ rights _ x two c
 
-  no_more_grants : (p : Step) (k low : ℕ) (row : Row) → k ≡ 0 → run_from s p (grants k low row) ≡ outcome p row
-  unfolding grants
-  no_more_grants p k low row e = rw e (sym (stop s p row).went)
-
-  pub granting_end :
-      (p : Step) (i low : ℕ) (row : Row) → 16 ≤ i → Granting s p₀ row₀ p i low row → Went s p₀ (grants 16 0 row₀) p row
-  granting_end p i low row h l = record { went = sym (l.rest ∙ no_more_grants p (16 - i) low row (omega arith)) }
-
--- ---- a row
-module _ (s : List ℕ) where
-  pub rest_read :
-      (p p₁ p₂ q : Step) (c : Bool) (z r : Row) → Went s p creates p₁ c → z ≡ zero_row
-      → Went s p₁ (grants 16 0 (record { create = c; rights = z.rights })) p₂ r → Went s p₂ (byte 10) q tt → Went s p row_rest q r
-  unfolding row_rest
-  rest_read p p₁ p₂ q c z r b e g h =
-      on s p p₁ q _ _ c _ b (on s p₁ p₂ q _ _ r _ (rw e at g) (next s p₂ q q _ _ tt _ h (stop s q r)))
-
-  pub numbered_read : (p p₁ q : Step) (i l : ℕ) → Went s p (number 15) p₁ l → Went s p₁ (require (eqb l i) 31) q tt → Went s p (numbered i) q tt
-  unfolding numbered
-  numbered_read p p₁ q i l a b = on s p p₁ q _ _ l _ a b
-
-  -- one after another, however they are bracketed
-  regrouped :
-      {A B C : Type 0} (o : Parsed A) (f : A → Reader B) (m : Reader C)
-      → and_then (and_then o s f) s (λ _. m) ≡ and_then o s (λ (a : A). f a >> m)
-  unfolding and_then ◌>>◌ ◌>>=◌
-  regrouped (got a q) f m = refl
-  regrouped (fault g) f m = refl
-
-  opening_is : (p : ℕ) (i : ℕ) → (numbered i >> word (bytes " has")) s p ≡ opening i s p
-  unfolding opening numbered ◌>>◌ ◌>>=◌
-  opening_is p i = regrouped (number 15 s p) (λ (v : ℕ). require (eqb v i) 31) (word (bytes " has"))
-
-  opening_from : (p : Step) (i : ℕ) → run_from s p (numbered i >> word (bytes " has")) ≡ run_from s p (opening i)
-  unfolding run_from
-  opening_from (Step.At p) i = opening_is p i
-  opening_from (Step.Failed f) i = refl
-
-  pub row_read :
-      (p p₁ p₂ q : Step) (i : ℕ) (r : Row) → Went s p (numbered i) p₁ tt → Went s p₁ (word (bytes " has")) p₂ tt → Went s p₂ row_rest q r
-      → Went s p (row i) q r
-  unfolding row
-  row_read p p₁ p₂ q i r a b c =
-      let both_read = next s p p₁ p₂ (numbered i) (word (bytes " has")) tt tt a b in
-      let opened : Went s p (opening i) p₂ tt = record { went = both_read.went ∙ opening_from p i } in
-      next s p p₂ q _ _ tt _ opened c
+pub ruleset granting = (resumes_start, grants_turn, grants_end, grants_on)

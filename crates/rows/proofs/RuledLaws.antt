@@ -6,15 +6,20 @@ use native.Mathlib.Omega.{arith}
 use native.Mathlib.Nat.{not-suc-le-zero}
 use lib.ListN.{get_or, length, length-map, set, replicate, length-append, get_or-replicate}
 use lib.Seq.{append_snoc, set-append_seam}
-use Rattle.net.specs.Choice.{all}
-use Rattle.net.specs.Records.{zero_row, empty_net, row_at, node_at, alike, with_node, with_rows, with_counts, with_format, address_of}
-use Rattle.net.proofs.AllLaws.{all_same}
+use mathlib.Core.Bool.{Bool, true, false, not}
+use lib.Dec.{leb}
+use borrow.Author.Tests.{le-leb, lt-leb}
+use Rattle.net.specs.Choice.{all, implies}
+use Rattle.net.proofs.Laws.{all_i, all_e}
+use Rattle.net.proofs.ReadingLaws.{never}
+use Rattle.net.specs.Records.{zero_row, rights_at, empty_net, row_at, node_at, alike, with_node, with_rows, with_counts, with_format, address_of}
+use Rattle.net.proofs.AllLaws.{all_same, all_more}
 use Rattle.net.proofs.Past.{past_row}
 use Rattle.linking.specs.Source.{Policy, plain, by_origin}
 use Rattle.linking.specs.Compiled.{format_of, addresses_of, filled, rows_of, ruled, unruled, governed}
 use Rattle.linking.proofs.Governed.{put_rows, ruled_more, ruled_counts, ruled_frame, governed_addresses, governed_rows}
 use Rattle.rows.specs.Types.{Locality, Row, Node, Net}
-use Rattle.rows.specs.Rows.{within, all_within}
+use Rattle.rows.specs.Rows.{any_right, within, all_within}
 use Rattle.rows.specs.OriginRows.{all_nodes_within}
 
 -- ---- lists
@@ -123,3 +128,56 @@ nodes_within rss net h e =
     (ap (λ (n : ℕ). all n (λ i. all n (λ j. within n (row_at (node_at (governed (by_origin rss) 0) (address_of i)) (address_of j)))))
     (governed_addresses (by_origin rss) 0)
     ∙ all_same (length rss) _ _ (λ i l. all_same (length rss) _ _ (λ j m. ap (within (length rss)) (row_by_origin rss i j h l m))))
+
+-- ---- tests at each number below a bound, in a loop that stops where one fails
+module _ (test : ℕ → Bool) where
+  pub all_begin : all 0 test ≡ true
+  unfolding all
+  all_begin = refl
+
+  pub all_on : (i : ℕ) → all i test ≡ true → test i ≡ true → all (i + 1) test ≡ true
+  all_on i e d = sym (all_more i test true true (sym e) (sym d))
+
+  pub all_done : (i n : ℕ) → all i test ≡ true → n ≤ i → true ≡ all n test
+  all_done i n e h = sym (all_i n test (λ j l. all_e i test e j (omega arith)))
+
+  stopped : (i n : ℕ) (b : Bool) → b ≡ all n test → i < n → test i ≡ false → false ≡ b
+  stopped i n true e h d = never (sym d ∙ all_e n test (sym e) i h)
+  stopped i n false e h d = refl
+
+  pub all_stop : (i n : ℕ) (b : Bool) → b ≡ test i → b ≡ false → i < n → false ≡ all n test
+  all_stop i n b d f h = stopped i n (all n test) refl h (sym d ∙ f)
+
+-- ---- rights over the addresses from a number on
+none_held : (b c : Bool) → c ≡ false → implies b (not c) ≡ true
+unfolding implies
+none_held true c e = rw e refl
+none_held false c e = refl
+
+some_held : (b c : Bool) → b ≡ true → c ≡ true → implies b (not c) ≡ false
+unfolding implies
+some_held b c d e = rw (d, e) refl
+
+module _ (n : ℕ) (row : Row) where
+  -- none is held over the addresses below l
+  unfoldable pub none_below : ℕ → Bool
+  none_below l = all l (λ j. implies (leb n j) (not (any_right (rights_at row (address_of j)))))
+
+  pub below_begin : none_below n ≡ true
+  unfolding none_below implies
+  below_begin = all_i n _ (λ l h. rw (lt-leb n l h) refl)
+
+  module _ (l : ℕ) (b : Bool) (e : b ≡ any_right (rights_at row (address_of l))) where
+    pub below_on : none_below l ≡ true → b ≡ false → none_below (l + 1) ≡ true
+    unfolding none_below
+    below_on k d = all_on _ l k (none_held (leb n l) _ (sym e ∙ d))
+
+    pub below_stop : b ≡ true → n ≤ l → l < 16 → false ≡ within n row
+    unfolding within
+    below_stop d g h = all_stop _ l 16 false (sym (some_held (leb n l) _ (le-leb n l g) (sym e ∙ d))) refl h
+
+  pub below_done : (l : ℕ) → none_below l ≡ true → 16 ≤ l → true ≡ within n row
+  unfolding none_below within
+  below_done l e h = all_done _ l 16 e h
+
+pub ruleset tested = (all_begin, all_on, all_done, all_stop, below_begin, below_on, below_stop, below_done)

@@ -1,237 +1,175 @@
 // The rows of a text of format 2, by node and origin (document 02, slip 13).
-ghost use Rattle.std.specs.Prelude.{◌≤◌, ◌≡◌, ltb};
-ghost use Rattle.net.specs.Choice.{both, all};
+ghost use Rattle.std.specs.Prelude.{◌-◌, ◌≤◌, ◌≡◌, List, [], ◌∷◌, IfOk};
+ghost use Rattle.net.specs.Choice.{all};
 ghost use Rattle.net.specs.Records.{row_at, node_at, address_of};
-ghost use Rattle.readers.specs.Progress.{Went};
-ghost use Rattle.rows.specs.Types.{Step};
+ghost use Rattle.lexemes.specs.Progress.{Reads, Stands};
 ghost use Rattle.rows.specs.Rows.{within};
-ghost use Rattle.rows.specs.OriginRows.{is_origin_row, names_node, origin_row, fault_where, first_rows, seventeenth, node_rows, number_over};
+ghost use Rattle.rows.specs.OriginRows.{is_origin_row, names_node, origin_row, fault_where, first_rows, seventeenth, node_rows, nodes_after, number_over};
 ghost use Rattle.rows.specs.Policies.{rows_by_origin};
-ghost use Rattle.rows.specs.Progress.{holds_at, number_is, Rowed, NodesGathered, Ruled};
+ghost use Rattle.rows.specs.Progress.{number_is, First, Filled, Origins, Ruled};
 
-use crate::rows::{RowRead, RowsRead, is_within, opens_here, read_numbered, read_rest, with_rows};
-use lexemes::numbers::read_number;
-use lexemes::words::read_word;
+use crate::rows::{is_within, opens_with, put_rows, read_numbered, read_rest};
+use lexemes::reader::TextReader;
 use net::network::Net;
 use net::node::Node;
 use net::policy::Row;
-use readers::step::{Step, is_place, require_that};
+use readers::fault::Fault;
 
-// Node 0's rows, how many there are, and the step after them.
+// Node 0's rows, and how many there are.
 #[derive(Clone, Copy)]
-struct FirstRead {
-    count: usize,
-    rows: [Row; 16],
-    next: Step,
-}
-
-// The rows of a node, and the step after them.
-#[derive(Clone, Copy)]
-struct NodeRead {
-    rows: [Row; 16],
-    next: Step,
+pub(crate) struct FirstRows {
+    pub(crate) count: usize,
+    pub(crate) rows: [Row; 16],
 }
 
 // ---- which lines are rows by origin
 
-// Whether such a row stands at a step; none after a fault.
-pub(crate) fn is_origin_row(s: &[u8], from: Step) -> bool
-    ensures { result ≡ holds_at is_origin_row s.now from }
+// Whether such a row is next.
+#[tactic(auto, unfolding(crate::specs::OriginRows::is_origin_row, text::specs::Bytes::bytes))]
+pub(crate) fn is_origin_row(r: &TextReader) -> bool
+    ensures { result ≡ is_origin_row r.now.text.now r.now.at }
 {
-    opens_here(s, from, b" from")
+    opens_with(r, b" from")
 }
 
-// Whether the number i, rightly written, stands at a step; none after a fault.
-fn is_number(s: &[u8], from: Step, i: usize) -> bool
-    ensures { result ≡ holds_at (number_is i) s.now from }
+// Whether the number i, rightly written, is next.
+#[tactic(auto, using(crate::proofs::OriginLaws::numbered))]
+fn is_number(r: &TextReader, i: usize) -> bool
+    ensures { result ≡ number_is i r.now.text.now r.now.at }
 {
-    let number = read_number(s, from, 15);
-    let next = number.next;
-    let read = is_place(next);
-    let own = number.value == i;
-    read & own
+    let mut ahead = *r;
+    match ahead.number(15) {
+        Ok(v) => v == i,
+        Err(_) => false,
+    }
 }
 
-// Whether a row by origin that names node i stands at a step; none after a fault.
-fn names_node(s: &[u8], from: Step, i: usize) -> bool
-    ensures { result ≡ holds_at (names_node i) s.now from }
+// Whether a row by origin that names node i is next.
+#[tactic(auto, unfolding(crate::specs::OriginRows::names_node, crate::specs::Progress::number_is, net::specs::Choice::both))]
+fn names_node(r: &TextReader, i: usize) -> bool
+    ensures { result ≡ names_node i r.now.text.now r.now.at }
 {
-    let row = is_origin_row(s, from);
-    let own = is_number(s, from, i);
-    row & own
+    is_origin_row(r) && is_number(r, i)
 }
 
 // ---- one row
 
 // The row of node i for origin j.
-fn read_origin_row(s: &[u8], from: Step, i: usize, j: usize) -> RowRead
-    ensures { Went s.now from (origin_row i j) result.next result.row }
+#[tactic(auto, using(lexemes::proofs::Reading::reads), unfolding(crate::specs::OriginRows::origin_row, text::specs::Bytes::bytes))]
+fn read_origin_row(r: &mut TextReader, i: usize, j: usize) -> Result<Row, Fault>
+    ensures { Reads r.old (origin_row i j) result r.new }
 {
-    let node = read_numbered(s, from, i);
-    let between = read_word(s, node, b" from ");
-    let origin = read_numbered(s, between, j);
-    let opened = read_word(s, origin, b" has");
-    read_rest(s, opened)
+    read_numbered(r, i)?;
+    r.word(b" from ")?;
+    read_numbered(r, j)?;
+    r.word(b" has")?;
+    read_rest(r)
 }
 
 // ---- the rows of one node
 
-// Whether the row after n rows of node 0 is one more of them.
-fn is_next_origin(s: &[u8], from: Step, n: usize) -> bool
-    ensures { result ≡ both (ltb n 16) (holds_at (names_node 0) s.now from) }
-{
-    if n < 16 {
-        names_node(s, from, 0)
-    } else {
-        false
-    }
-}
-
 // Node 0's rows, up to the first that names another node; a seventeenth is 22.
-fn read_first_rows(s: &[u8]) -> FirstRead
-    ensures rowed { Rowed s.now (Step.At 0) first_rows result.count result.rows result.next }
-    ensures le_count { (1 ≤ result.count) × (result.count ≤ 16) }
+#[tactic(auto, using(crate::proofs::OriginLaws::firsts))]
+fn read_first_rows(r: &mut TextReader) -> Result<FirstRows, Fault>
+    ensures rowed { Stands First r.old first_rows result r.new }
+    ensures le_count { IfOk result (λ f. (1 ≤ f.count) × (f.count ≤ 16)) }
 {
-    let first = read_origin_row(s, Step::At(0), 0, 0);
-    let none = Row::zero();
-    let mut rows = none.alike();
-    let row = first.row;
-    rows[0] = row;
-    let mut next = first.next;
-    let mut n: usize = 1;
-    let mut more = is_next_origin(s, next, n);
-    while more {
-        let read = read_origin_row(s, next, 0, n);
-        let row = read.row;
-        rows[n] = row;
-        next = read.next;
-        n += 1;
-        more = is_next_origin(s, next, n);
+    let mut rows = Row::zero().alike();
+    rows[0] = read_origin_row(r, 0, 0)?;
+    for n in 1..16usize {
+        if !names_node(r, 0) {
+            return Ok(FirstRows { count: n, rows });
+        }
+        rows[n] = read_origin_row(r, 0, n)?;
     }
-    let another = names_node(s, next, 0);
-    let last = require_that(next, !another, 22);
-    FirstRead {
-        count: n,
-        rows,
-        next: last,
-    }
+    r.require(!names_node(r, 0), 22)?;
+    Ok(FirstRows { count: 16, rows })
 }
 
-// Whether a seventeenth row of node i stands at a step, where it has n rows.
-fn is_seventeenth(s: &[u8], from: Step, n: usize, i: usize) -> bool
-    ensures { result ≡ holds_at (seventeenth n i) s.now from }
+// Whether a seventeenth row of node i is next, where it has n rows.
+#[tactic(auto, unfolding(crate::specs::OriginRows::seventeenth, net::specs::Choice::both))]
+fn is_seventeenth(r: &TextReader, n: usize, i: usize) -> bool
+    ensures { result ≡ seventeenth n i r.now.text.now r.now.at }
 {
-    if n == 16 {
-        names_node(s, from, i)
-    } else {
-        false
-    }
+    n == 16 && names_node(r, i)
 }
 
 // The n rows of node i; a seventeenth is 22.
-fn read_node_rows(s: &[u8], from: Step, n: usize, i: usize) -> NodeRead
+#[tactic(auto, using(crate::proofs::OriginLaws::node))]
+fn read_node_rows(r: &mut TextReader, n: usize, i: usize) -> Result<[Row; 16], Fault>
     requires { n ≤ 16 }
-    ensures { Rowed s.now from (node_rows n i) n result.rows result.next }
+    ensures { Stands (Filled n) r.old (node_rows n i) result r.new }
 {
-    let none = Row::zero();
-    let mut rows = none.alike();
-    let mut next = from;
-    let mut j: usize = 0;
-    while j < n {
-        let read = read_origin_row(s, next, i, j);
-        let row = read.row;
-        rows[j] = row;
-        next = read.next;
-        j += 1;
+    let mut rows = Row::zero().alike();
+    for j in 0..n {
+        rows[j] = read_origin_row(r, i, j)?;
     }
-    let over = is_seventeenth(s, next, n, i);
-    let last = require_that(next, !over, 22);
-    NodeRead { rows, next: last }
+    r.require(!is_seventeenth(r, n, i), 22)?;
+    Ok(rows)
 }
 
 // ---- all rows
 
-// The rows of node 0 give the number n of addresses; then n rows for each node from 1 on.
-fn gather_nodes(s: &[u8]) -> RowsRead
-    ensures { NodesGathered s.now result }
+// The net with node 0's rows, n of them, and then n rows for each node from 1 on.
+#[tactic(auto, unfolding(net::specs::Records::with_counts, net::specs::Records::with_format))]
+fn gather_nodes(r: &mut TextReader, first: &FirstRows) -> Result<Net, Fault>
+    requires { (1 ≤ first.now.count) × (first.now.count ≤ 16) }
+    ensures { (rs : List Row) → First rs first.now → Stands (Origins first.now.count) r.old (nodes_after (first.now.count - 1) first.now.count (rs ∷ [])) result r.new }
 {
-    let first = read_first_rows(s);
-    let n = first.count;
-    let of_first = first.rows;
-    let mut start = Net::empty();
-    start.format = 2;
-    let mut net = with_rows(start, 0, of_first);
-    let mut next = first.next;
-    let mut i: usize = 1;
-    while i < n {
-        let read = read_node_rows(s, next, n, i);
-        let rows = read.rows;
-        net = with_rows(net, i, rows);
-        next = read.next;
-        i += 1;
+    let mut net = Net::empty();
+    net.format = 2;
+    put_rows(&mut net, 0, first.rows);
+    for i in 1..first.count {
+        let rows = read_node_rows(r, first.count, i)?;
+        put_rows(&mut net, i, rows);
     }
-    net.addresses = n;
-    RowsRead { net, next }
+    net.addresses = first.count;
+    Ok(net)
 }
 
 // The number for a row after the last: a seventeenth node is 22.
+#[tactic(auto, unfolding(crate::specs::OriginRows::number_over, net::specs::Choice::choose))]
 fn number_over(n: usize) -> u8
     ensures { result ≡ number_over n }
 {
     if n == 16 { 22 } else { 31 }
 }
 
-// No row after the last one, of n nodes.
-fn none_over(s: &[u8], from: Step, n: usize) -> Step
-    ensures { Went s.now from (fault_where is_origin_row (number_over n)) result tt }
-{
-    let over = is_origin_row(s, from);
-    let number = number_over(n);
-    require_that(from, !over, number)
-}
-
 // No row of a node has a right over an address from n on.
-fn rows_within(node: Node, n: usize) -> bool
+#[tactic(auto, using(crate::proofs::RuledLaws::tested), unfolding(net::specs::Records::row_at))]
+fn rows_within(node: &Node, n: usize) -> bool
     requires { n ≤ 16 }
-    ensures { result ≡ all n (λ j. within n (row_at node (address_of j))) }
+    ensures { result ≡ all n (λ j. within n (row_at node.now (address_of j))) }
 {
-    let mut ok = true;
-    let mut j: usize = 0;
-    while j < n {
-        let row = node.rows[j];
-        let good = is_within(row, n);
-        ok = ok & good;
-        j += 1;
+    for j in 0..n {
+        if !is_within(&node.rows[j], n) {
+            return false;
+        }
     }
-    ok
+    true
 }
 
 // No row of any node has a right over an address without rows.
-fn nodes_within(net: Net) -> bool
-    requires { net.addresses ≤ 16 }
-    ensures { result ≡ all net.addresses (λ i. all net.addresses (λ j. within net.addresses (row_at (node_at net (address_of i)) (address_of j)))) }
+#[tactic(auto, using(crate::proofs::RuledLaws::tested), unfolding(net::specs::Records::node_at))]
+fn nodes_within(net: &Net) -> bool
+    requires { net.now.addresses ≤ 16 }
+    ensures { result ≡ all net.now.addresses (λ i. all net.now.addresses (λ j. within net.now.addresses (row_at (node_at net.now (address_of i)) (address_of j)))) }
 {
-    let n = net.addresses;
-    let mut ok = true;
-    let mut i: usize = 0;
-    while i < n {
-        let node = net.nodes[i];
-        let good = rows_within(node, n);
-        ok = ok & good;
-        i += 1;
+    for i in 0..net.addresses {
+        if !rows_within(&net.nodes[i], net.addresses) {
+            return false;
+        }
     }
-    ok
+    true
 }
 
 // A row for each origin at each node, none over (31, 22), and no right over an address without rows (23).
-pub(crate) fn read_origin_rows(s: &[u8]) -> RowsRead
-    ensures { Ruled s.now rows_by_origin result }
+pub(crate) fn read_origin_rows(r: &mut TextReader) -> Result<Net, Fault>
+    ensures { Stands Ruled r.old rows_by_origin result r.new }
 {
-    let got = gather_nodes(s);
-    let net = got.net;
-    let gathered = got.next;
-    let ended = none_over(s, gathered, net.addresses);
-    let good = nodes_within(net);
-    let next = require_that(ended, good, 23);
-    RowsRead { net, next }
+    let first = read_first_rows(r)?;
+    let net = gather_nodes(r, &first)?;
+    r.require(!is_origin_row(r), number_over(first.count))?;
+    r.require(nodes_within(&net), 23)?;
+    Ok(net)
 }
