@@ -1,54 +1,32 @@
--- Laws of names and chains (`specs/Reading.antt`), run from a step. Assumes nothing.
-use Prim.Native.Nat.{ℕ, zero, suc, ◌+◌, ◌-◌, ◌<◌, ◌≤◌}
+-- Laws of names and chains (`specs/Reading.antt`). Assumes nothing.
+use Prim.Native.Nat.{ℕ, zero, suc, ◌+◌}
 use mathlib.Core.Path.{◌≡◌, refl, sym, ap, ◌∙◌}
 use mathlib.Core.Bool.{Bool, true, false}
 use mathlib.Core.List.{List}
-use native.Mathlib.Omega.{arith}
-use lib.ListN.{length, get_or-eq_default}
 use lib.Dec.{eqb}
 use borrow.Author.Tests.{eq-eqb, ne_eqb}
-use Rattle.net.specs.Choice.{choose, both}
+use Rattle.std.specs.Prelude.{Result, Ok, Err}
+use Rattle.std.specs.Result.{result_unwrap_or}
+use Rattle.net.specs.Choice.{choose}
 use Rattle.net.proofs.Laws.{choose_true, choose_false}
-use Rattle.net.proofs.ReadingLaws.{never}
-use Rattle.readers.specs.Reader.{Reader, pure, and_then, ◌>>=◌}
-use Rattle.readers.specs.Progress.{reached, outcome, run_from, Went}
-use Rattle.readers.proofs.ReaderLaws.{next, one_outcome, no_outcome}
-use Rattle.readers.proofs.Gives.{Fine, Gives, gives_pure, gives_then, gives_and, Any, any, fine_at}
-use Rattle.lexemes.specs.Lexemes.{byte_at, look, fail, byte, number}
-use Rattle.lexemes.specs.declared.numbers.NumberRead.{NumberRead}
-use Rattle.lexemes.specs.Progress.{byte_here, Numbered}
-use Rattle.processes.specs.Types.{Step, Scope}
+use Rattle.readers.specs.Reader.{Parsed, got, fault, Reader, pure, and_then, ◌>>=◌}
+use Rattle.readers.specs.Progress.{came}
+use Rattle.readers.proofs.Gives.{value, Fine, Gives, gives_pure, gives_then, gives_and, Any, any}
+use Rattle.lexemes.specs.Lexemes.{byte_at, look, fail, byte}
+use Rattle.lexemes.specs.Progress.{Reads}
+use Rattle.processes.specs.Types.{Fault, TextReader, Scope}
 use Rattle.terms.specs.Terms.{Process, nil, name, fork, act}
 use Rattle.processes.specs.Reading.{named, called, forked, ends_chain, ended, action, acting, chain}
 use Rattle.processes.specs.Reading as Reading
 use Rattle.terms.specs.Numbering.{start_of, here}
 use Rattle.terms.specs.Table.{start_word}
-use Rattle.processes.specs.Progress.{Begins, Ends, Goes}
-
--- ---- where a chain ends
-module _ (b after : ℕ) where
-  pub ends_name : b ≡ 65 → true ≡ ends_chain b after
-  unfolding ends_chain choose
-  ends_name e = rw e refl
-
-  pub ends_bracket : b ≡ 40 → true ≡ ends_chain b after
-  unfolding ends_chain choose
-  ends_bracket e = rw e refl
-
-  pub ends_nil : b ≡ 110 → eqb after 105 ≡ ends_chain b after
-  unfolding ends_chain choose both
-  ends_nil e = rw e refl
-
-  pub ends_not : (b ≡ 65 → ⊥) → (b ≡ 40 → ⊥) → (b ≡ 110 → ⊥) → false ≡ ends_chain b after
-  unfolding ends_chain choose both
-  ends_not e f g = rw (ne_eqb b 65 e, ne_eqb b 40 f, ne_eqb b 110 g) refl
-
--- ---- a name
-pub name_read : (s : List ℕ) (p q : Step) (r : NumberRead) → Went s p (byte 65) q tt → Numbered s q (number 511) 511 r → Numbered s p named 511 r
-unfolding named
-name_read s p q r w v = record { read = next s p q r.next (byte 65) (number 511) tt r.value w v.read; small = v.small }
+use Rattle.processes.specs.Progress.{Begins}
 
 -- ---- what a chain that begins with A stands for
+ends_name : (b after : ℕ) → b ≡ 65 → true ≡ ends_chain b after
+unfolding ends_chain choose
+ends_name b after e = rw e refl
+
 chain_named :
     (s : List ℕ) (p k : ℕ) (scope : Scope) (inner : Reader Process) → byte_at s p ≡ 65 → chain (suc k) inner scope s p ≡ called s p
 unfolding chain ended look
@@ -57,29 +35,37 @@ chain_named s p k scope inner e =
     ∙ ap (λ (m : Reader Process). m s p)
     (choose_true _ called (choose (eqb (byte_at s p) 40) (forked inner) Reading.stopped) (eq-eqb (byte_at s p) 65 e))
 
-called_is : (s : List ℕ) (p v : ℕ) (q : Step) → outcome q v ≡ named s p → outcome q (name v) ≡ called s p
-unfolding called ◌>>=◌ and_then pure outcome
-called_is s p v (Step.At q) e = rw (sym e) refl
-called_is s p v (Step.Failed f) e = rw (sym e) refl
+-- the name that is read, where it is
+unfoldable pub NamedAs : ℕ → Parsed ℕ → ℕ → Type 0
+NamedAs n (got v q) w = w ≡ v
+NamedAs n (fault f) w = Unit {0}
 
-no_chain : (s : List ℕ) (p k : ℕ) (scope : Scope) (inner : Reader Process) (q : Step) (x : Process) → k ≡ 0
-    → outcome q x ≡ chain k inner scope s p → reached q ≡ true → ⊥
-unfolding chain fail
-no_chain s p k scope inner q x e v h = no_outcome q x _ (rw e at v) h
+called_start :
+    (s : List ℕ) (p n w : ℕ) (o : Parsed ℕ) → named s p ≡ o → NamedAs n o w → (x : Process) (q : ℕ) → got x q ≡ called s p → w ≡ start_word (start_of n x)
+unfolding called ◌>>=◌ and_then pure NamedAs start_of start_word
+called_start s p n w (got v q') e h x q c = let same : got x q ≡ got (name v) q' = c ∙ (rw e refl) in let is : x ≡ name v = cc in rw is h
+called_start s p n w (fault f) e h x q c = let same : got x q ≡ fault f = c ∙ (rw e refl) in absurd (cc)
 
-named_start :
-    (s : List ℕ) (n v : ℕ) (p r : Step) (k : ℕ) (scope : Scope) (inner : Reader Process) (q : Step) (x : Process) → byte_here s p ≡ 65
-    → outcome r v ≡ run_from s p named → outcome q x ≡ run_from s p (chain k inner scope) → reached q ≡ true → v ≡ start_word (start_of n x)
-unfolding byte_here run_from start_of start_word
-named_start s n v (Step.At p) r zero scope inner q x e w o h = absurd (no_chain s p 0 scope inner q x refl o h)
-named_start s n v (Step.At p) r (suc k) scope inner q x e w o h =
-    let is : x ≡ name v = one_outcome q r x (name v) (o ∙ chain_named s p k scope inner e ∙ sym (called_is s p v r w)) h in rw is refl
-named_start s n v (Step.Failed f) r k scope inner q x e w o h = absurd (no_outcome q x f o h)
+module _ (r : TextReader) (n w : ℕ) where
+  named_start :
+      (o : Parsed ℕ) → byte_at r.text.now r.at ≡ 65 → named r.text.now r.at ≡ o → NamedAs n o w
+      → (k : ℕ) (scope : Scope) (inner : Reader Process) (x : Process) (q : ℕ) → got x q ≡ chain k inner scope r.text.now r.at → w ≡ start_word (start_of n x)
+  unfolding chain fail
+  named_start o e d h zero scope inner x q c = absurd (cc)
+  named_start o e d h (suc k) scope inner x q c = called_start r.text.now r.at n w o d h x q (c ∙ chain_named r.text.now r.at k scope inner e)
 
-pub begins_name : (s : List ℕ) (p : Step) (n b : ℕ) (r : NumberRead) → b ≡ byte_here s p → b ≡ 65 → Numbered s p named 511 r → Begins s p n r.value
-begins_name s p n b r e d w = record {
-  begins = λ k scope inner q x v h. named_start s n r.value p r.next k scope inner q x (sym e ∙ d) w.read.went v.went h;
-}
+  pub begins_read : (q : TextReader) → byte_at r.text.now r.at ≡ 65 → Reads r named (Ok w) q → Begins r n w
+  unfolding came NamedAs
+  begins_read q e h = record { begins = λ k scope inner x t c. named_start (got w q.at) e (sym h.gave) refl k scope inner x t.at c.gave }
+
+  pub begins_failed : (q : TextReader) (f : Fault) → byte_at r.text.now r.at ≡ 65 → Reads r named (Err f) q → Begins r n w
+  unfolding came NamedAs
+  begins_failed q f e h = record { begins = λ k scope inner x t c. named_start (fault f) e (sym h.gave) tt k scope inner x t.at c.gave }
+
+pub begins_answer :
+    (r : TextReader) (n : ℕ) (o : Result ℕ Fault) (q : TextReader) → byte_at r.text.now r.at ≡ 65 → Reads r named o q → Begins r n (result_unwrap_or o 0)
+begins_answer r n (Ok w) q e h = begins_read r n w q e h
+begins_answer r n (Err f) q e h = begins_failed r n 0 q f e h
 
 -- ---- what any other chain stands for
 module _ (n : ℕ) where
@@ -119,50 +105,20 @@ module _ (n : ℕ) where
   chain_here s p k scope inner e =
       pick (ends_chain (byte_at s p) (byte_at s (p + 1))) _ _ s p (ended_here s p inner e) ((acts_here inner (chain k inner scope) scope).run s p)
 
+  fine_got : (o : Parsed Process) (x : Process) (q : ℕ) → got x q ≡ o → Fine Any Here o → Here x
+  fine_got (got y q') x q e (value h) = let is : x ≡ y = cc in rw is h
+  fine_got (fault f) x q e g = absurd (cc)
+
   here_start :
-      (s : List ℕ) (p : Step) (k : ℕ) (scope : Scope) (inner : Reader Process) (q : Step) (x : Process) → eqb (byte_here s p) 65 ≡ false
-      → outcome q x ≡ run_from s p (chain k inner scope) → reached q ≡ true → start_of n x ≡ here n
-  unfolding byte_here run_from
-  here_start s (Step.At p) zero scope inner q x e o h = absurd (no_chain s p 0 scope inner q x refl o h)
-  here_start s (Step.At p) (suc k) scope inner q x e o h = fine_at Here q x _ o (chain_here s p k scope inner e) h
-  here_start s (Step.Failed f) k scope inner q x e o h = absurd (no_outcome q x f o h)
+      (s : List ℕ) (p k : ℕ) (scope : Scope) (inner : Reader Process) (x : Process) (q : ℕ) → eqb (byte_at s p) 65 ≡ false
+      → got x q ≡ chain k inner scope s p → start_of n x ≡ here n
+  unfolding chain fail
+  here_start s p zero scope inner x q e o = absurd (cc)
+  here_start s p (suc k) scope inner x q e o = fine_got (chain (suc k) inner scope s p) x q o (chain_here s p k scope inner e)
 
-pub begins_here : (s : List ℕ) (p : Step) (n b : ℕ) → b ≡ byte_here s p → (b ≡ 65 → ⊥) → Begins s p n (512 + n)
-unfolding start_word
-begins_here s p n b e d = record {
-  begins = λ k scope inner q x v h.
-      let t : start_of n x ≡ here n = here_start n s p k scope inner q x (ap (λ (y : ℕ). eqb y 65) (sym e) ∙ ne_eqb b 65 d) v.went h in rw t refl;
+pub begins_here : (r : TextReader) (n b : ℕ) → b ≡ byte_at r.text.now r.at → (b ≡ 65 → ⊥) → Begins r n (512 + n)
+unfolding start_word came
+begins_here r n b e d = record {
+  begins = λ k scope inner x q v.
+      let t : start_of n x ≡ here n = here_start n r.text.now r.at k scope inner x q.at (ap (λ (y : ℕ). eqb y 65) (sym e) ∙ ne_eqb b 65 d) v.gave in rw t refl;
 }
-
-module _ (s : List ℕ) (p : ℕ) where
-  pub ends_past : length s ≤ p → false ≡ ends_chain (byte_at s p) (byte_at s (p + 1))
-  unfolding byte_at ends_chain choose both
-  ends_past h = rw (get_or-eq_default s 0 h) refl
-
-  pub ends_in : (b after : ℕ) (r : Bool) → b ≡ byte_at s p → after ≡ byte_at s (p + 1) → r ≡ ends_chain b after → r ≡ ends_chain (byte_at s p) (byte_at s (p + 1))
-  ends_in b after r e d h = rw (sym e, sym d) h
-
-pub ends_from : (s : List ℕ) (q : Step) (p : ℕ) (r : Bool) → q ≡ Step.At p → r ≡ ends_chain (byte_at s p) (byte_at s (p + 1)) → Ends s q r
-unfolding run_from chain
-ends_from s q p r e d = rw e (record { ends = λ k scope inner. rw d refl })
-
-pub ends_failed : (s : List ℕ) (q : Step) (f : _) → q ≡ Step.Failed f → Ends s q true
-unfolding run_from
-ends_failed s q f e = rw e (record { ends = λ k scope inner. refl })
-
-module _ (s : List ℕ) (p : Step) (k : ℕ) where
-  pub goes_none : k ≡ 0 → Goes s p k false
-  goes_none e = record { more = λ h. never h; done = λ _ l. absurd (omega arith) }
-
-  pub goes_ended : (b : Bool) → Ends s p b → b ≡ true → Goes s p k false
-  goes_ended b w e = record { more = λ h. never h; done = λ _ _. rw e at w }
-
-  pub goes_more : (b : Bool) → Ends s p b → b ≡ false → (k ≡ 0 → ⊥) → Goes s p k true
-  goes_more b w e l = record { more = λ _. (omega arith, rw e at w); done = λ h. never (sym h) }
-
-  -- one of the actions is left, then
-  pub goes_left : (b : Bool) → Goes s p k b → b ≡ true → 1 ≤ k
-  goes_left b g e = (g.more e).0
-
-  pub goes_less : (b : Bool) → Goes s p k b → b ≡ true → k - 1 < k
-  goes_less b g e = let more = (g.more e).0 in omega (arith, more)

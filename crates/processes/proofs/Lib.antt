@@ -1,5 +1,6 @@
 pub mod ActionLaws
 pub mod ChainLaws
 pub mod Fitting
+pub mod Keeping
 pub mod Lengths
 pub mod ProcessLaws

@@ -1,40 +1,21 @@
 -- Describes the code, and is no part of what a reader has to believe: how the readers of `src/`, which store instructions
 -- in a lent table and mark names in lent marks, keep to the definitions.
-use Rattle.std.specs.Prelude.{ℕ, suc, ◌+◌, ◌*◌, ◌<◌, ◌≤◌, Bool, true, false, ◌≡◌, List, ◌++◌}
-use Rattle.net.specs.Choice.{choose}
-use Rattle.net.specs.Records.{zero_instruction}
+pub use Rattle.processes.specs.declared.code.Code.{Code}
+use Rattle.std.specs.Prelude.{ℕ, suc, ◌+◌, ◌*◌, ◌<◌, ◌≤◌, Bool, ◌≡◌, List, ◌++◌, [], Result, Ok, Err, MatchResult}
 use Rattle.text.specs.Buffer.{over}
-use Rattle.readers.specs.Reader.{Reader}
-use Rattle.readers.specs.Progress.{reached, Went, run_from}
-use Rattle.text.specs.Bytes.{bytes}
-use Rattle.lexemes.specs.Lexemes.{byte, word}
-use Rattle.fields.specs.Fields as Fields
-use Rattle.processes.specs.Types.{Step, Target, Instruction, Scope}
+use Rattle.readers.specs.Reader.{Reader, pure, ◌>>=◌, ◌>>◌}
+use Rattle.lexemes.specs.Lexemes.{byte}
+use Rattle.lexemes.specs.Progress.{Reads}
+use Rattle.processes.specs.Types.{Fault, Instruction, TextReader, Kind, Entry, Scope}
+use Rattle.processes.specs.Room.{room}
+use Rattle.processes.specs.Reading.{chain}
 use Rattle.terms.specs.Terms.{Process, Action}
-use Rattle.processes.specs.Reading.{chain, ended, acting, at_target}
 use Rattle.terms.specs.Numbering.{start_of, size, size_in}
-use Rattle.terms.specs.Table.{start_word, target_word, instruction_words, action_words, words_of, words_in, marked, marked_in}
+use Rattle.terms.specs.Table.{start_word, entry_words, action_words, words_of, words_in, marked, marked_in}
 
--- numbers of instructions are counted up to here: where the count comes this far, there are too many by far
-unfoldable pub room : ℕ
-room = 9223372036854775808
-
--- the word w is that of what starts at step p, where the next instruction has the number n
-pub record Begins (s : List ℕ) (p : Step) (n w : ℕ) : Type 0 where
-  pub begins :
-      (k : ℕ) (scope : Scope) (inner : Reader Process) (q : Step) (x : Process) → Went s p (chain k inner scope) q x → reached q ≡ true
-      → w ≡ start_word (start_of n x)
-
--- ---- whether a chain ends at a step
-pub record Ends (s : List ℕ) (p : Step) (b : Bool) : Type 0 where
-  pub ends :
-      (k : ℕ) (scope : Scope) (inner : Reader Process)
-      → run_from s p (chain (suc k) inner scope) ≡ run_from s p (choose b (ended inner) (acting inner (chain k inner scope) scope))
-
--- whether one of at most k actions goes on
-pub record Goes (s : List ℕ) (p : Step) (k : ℕ) (b : Bool) : Type 0 where
-  pub more : b ≡ true → (1 ≤ k) × Ends s p false
-  pub done : b ≡ false → 1 ≤ k → Ends s p true
+-- the word w is that of what starts here, where the next instruction has the number n
+pub record Begins (r : TextReader) (n w : ℕ) : Type 0 where
+  pub begins : (k : ℕ) (scope : Scope) (inner : Reader Process) (x : Process) (q : TextReader) → Reads r (chain k inner scope) (Ok x) q → w ≡ start_word (start_of n x)
 
 -- ---- a process x whose first instruction has the number n, stored and marked
 pub record Kept (x : Process) (n : ℕ) (table : List ℕ) (used : List Bool) (count : ℕ) (table' : List ℕ) (used' : List Bool) : Type 0 where
@@ -42,113 +23,69 @@ pub record Kept (x : Process) (n : ℕ) (table : List ℕ) (used : List Bool) (c
   pub stored : table' ≡ over table (9 * n) (words_of n x)
   pub marks : used' ≡ marked x used
 
--- from step p the reader m comes to step q, with what it read stored and marked
-pub record Coded (s : List ℕ) (p : Step) (m : Reader Process) (n : ℕ) (table : List ℕ) (used : List Bool) (q : Step) (count : ℕ)
-    (table' : List ℕ) (used' : List Bool) : Type 0 where
-  pub tree : Process
-  pub went : Went s p m q tree
-  pub small : count ≤ room
-  pub most : reached q ≡ true → count < room → n + size tree ≤ room
-  pub kept : reached q ≡ true → n + size tree ≤ room → Kept tree n table used count table' used'
+-- what is read and what is answered, a and b, where the reader m comes from r to q with a and P holds of both
+pub record Told {A B : Type 0} (r : TextReader) (m : Reader A) (P : A → B → Type 0) (b : B) (q : TextReader) : Type 0 where
+  pub tree : A
+  pub read : Reads r m (Ok tree) q
+  pub holds : P tree b
 
--- the same with the word of what starts at step p
-pub record Started (s : List ℕ) (p : Step) (m : Reader Process) (n : ℕ) (table : List ℕ) (used : List Bool) (w : ℕ) (q : Step) (count : ℕ)
-    (table' : List ℕ) (used' : List Bool) : Type 0 where
-  pub start : Begins s p n w
-  pub coded : Coded s p m n table used q count table' used'
+-- the reader m comes from r to q with something of which, with what was answered, P holds; or to the same fault
+pub record Keeps {A B : Type 0} (r : TextReader) (m : Reader A) (P : A → B → Type 0) (o : Result B Fault) (q : TextReader) : Type 0 where
+  pub told : MatchResult o (λ b. Told r m P b q) (λ e. Reads r m (Err e) q)
 
--- ---- the same of an action, whose instruction has the number n and the word of what follows it
-pub record KeptIn (a : Action) (w n : ℕ) (table : List ℕ) (used : List Bool) (count : ℕ) (table' : List ℕ) (used' : List Bool) : Type 0 where
+-- a process stored and marked
+pub record Stored (b b' : Code) (tree : Process) (u : Unit {0}) : Type 0 where
+  pub small : b'.count ≤ room
+  pub most : b'.count < room → b.count + size tree ≤ room
+  pub kept : b.count + size tree ≤ room → Kept tree b.count b.table.now b.used.now b'.count b'.table.now b'.used.now
+
+-- the same with the word of its start
+pub record Started (b b' : Code) (tree : Process) (w : ℕ) : Type 0 where
+  pub start : w ≡ start_word (start_of b.count tree)
+  pub stored : Stored b b' tree tt
+
+-- the entry of an instruction that has no start yet
+abbrev pub entry_for : Kind → ℕ → Instruction → Entry
+entry_for k w c = record { kind = k; target = w; template = c; next = 0; second = 0 }
+
+-- ---- an action that holds no process: one instruction, with that entry, but for what follows it
+pub record Alone (a : Action) (e : Entry) : Type 0 where
+  pub words : (n next : ℕ) → action_words n a next ≡ entry_words (record e { next = next })
+  pub none : (n : ℕ) → words_in n a ≡ []
+  pub small : size_in a ≡ 0
+  pub unmarked : (used : List Bool) → marked_in a used ≡ used
+
+-- ---- an action whose instruction has the number n: its entry, and what it holds stored and marked
+pub record KeptIn (a : Action) (n : ℕ) (e : Entry) (table : List ℕ) (used : List Bool) (table' : List ℕ) (used' : List Bool) : Type 0 where
+  pub stored : table' ≡ over table (9 * suc n) (words_in (suc n) a)
+  pub marks : used' ≡ marked_in a used
+  pub words : (next : ℕ) → action_words n a next ≡ entry_words (record e { next = next })
+
+-- where the number n of the action is counted already
+pub record Held (n : ℕ) (b b' : Code) (a : Action) (e : Entry) : Type 0 where
+  pub small : b'.count ≤ room
+  pub most : b'.count < room → b.count + size_in a ≤ room
+  pub counted : b.count + size_in a ≤ room → b'.count ≡ b.count + size_in a
+  pub kept : b.count ≡ suc n → b.count + size_in a ≤ room → KeptIn a n e b.table.now b.used.now b'.table.now b'.used.now
+
+-- ---- an action and its dot, its instruction stored with the word of what follows
+unfoldable pub dotted : Reader Action → Reader Action
+dotted m = m >>= (λ a. byte 46 >> pure a)
+
+pub record KeptAll (a : Action) (w n : ℕ) (table : List ℕ) (used : List Bool) (count : ℕ) (table' : List ℕ) (used' : List Bool) : Type 0 where
   pub counted : count ≡ suc n + size_in a
   pub stored : table' ≡ over table (9 * n) (action_words n a w ++ words_in (suc n) a)
   pub marks : used' ≡ marked_in a used
 
--- the reader m and a dot
-pub record Acted (s : List ℕ) (p : Step) (m : Reader Action) (n : ℕ) (table : List ℕ) (used : List Bool) (q : Step) (count : ℕ)
-    (table' : List ℕ) (used' : List Bool) : Type 0 where
-  pub tree : Action
-  pub middle : Step
-  pub went : Went s p m middle tree
-  pub dot : Went s middle (byte 46) q tt
-  pub small : count ≤ room
+pub record Acted (b b' : Code) (q : TextReader) (a : Action) (u : Unit {0}) : Type 0 where
+  pub small : b'.count ≤ room
   pub word : ℕ
-  pub follows : Begins s q count word
-  pub most : reached q ≡ true → count < room → suc n + size_in tree ≤ room
-  pub kept : reached q ≡ true → suc n + size_in tree ≤ room → KeptIn tree word n table used count table' used'
+  pub follows : Begins q b'.count word
+  pub most : b'.count < room → suc b.count + size_in a ≤ room
+  pub kept : suc b.count + size_in a ≤ room → KeptAll a word b.count b.table.now b.used.now b'.count b'.table.now b'.used.now
 
--- ---- a dot read, and the instruction before it stored with what follows it
-pub record Closed (s : List ℕ) (p : Step) (n count kind target : ℕ) (c : Instruction) (second : ℕ) (table : List ℕ) (q : Step)
-    (table' : List ℕ) : Type 0 where
-  pub dot : Went s p (byte 46) q tt
-  pub word : ℕ
-  pub follows : Begins s q count word
-  pub stored : table' ≡ over table (9 * n) (instruction_words kind target c word second)
-
--- a target read, as its word
-pub record Aimed (s : List ℕ) (p : Step) (addresses : ℕ) (q : Step) (w : ℕ) : Type 0 where
-  pub target : Target
-  pub went : Went s p (at_target addresses) q target
-  pub word : w ≡ target_word target
-
--- the target of an eval read, and the dot after it
-pub record Sent (s : List ℕ) (p : Step) (scope : Scope) (n count sent : ℕ) (table : List ℕ) (q : Step) (table' : List ℕ) : Type 0 where
-  pub aimed : Step
-  pub word : ℕ
-  pub aims : Aimed s p scope.addresses aimed word
-  pub closed : Closed s aimed n count 4 word zero_instruction sent table q table'
-
--- the bracket after a fork read, and its instruction stored
-pub record Shut (s : List ℕ) (p : Step) (n first second : ℕ) (table : List ℕ) (q : Step) (table' : List ℕ) : Type 0 where
-  pub bracket : Went s p (byte 41) q tt
-  pub stored : table' ≡ over table (9 * n) (instruction_words 6 0 zero_instruction first second)
-
--- the template and the target of an in or a read read, and the dot after them
-pub record Filled (s : List ℕ) (p : Step) (scope : Scope) (n kind : ℕ) (table : List ℕ) (q : Step) (count : ℕ) (table' : List ℕ) : Type 0 where
-  pub template : Instruction
-  pub middle : Step
-  pub filled : Went s p (Fields.template true scope.addresses) middle template
-  pub aimed : Step
-  pub word : ℕ
-  pub aims : Aimed s middle scope.addresses aimed word
-  pub closed : Closed s aimed n count kind word template 0 table q table'
-  pub more : n < room → count ≡ n + 1
-  pub most : count < room → n < room
-  pub small : count ≤ room
-
--- ---- the branches of a fork, whose instructions are numbered from m on
-pub record KeptBoth (x y : Process) (m : ℕ) (table : List ℕ) (used : List Bool) (first second count : ℕ) (table' : List ℕ)
-    (used' : List Bool) : Type 0 where
-  pub left : first ≡ start_word (start_of m x)
-  pub right : second ≡ start_word (start_of (m + size x) y)
-  pub counted : count ≡ m + size x + size y
-  pub stored : table' ≡ over table (9 * m) (words_of m x ++ words_of (m + size x) y)
-  pub marks : used' ≡ marked y (marked x used)
-
--- the second branch, after its bar
-pub record Barred (s : List ℕ) (p : Step) (inner : Reader Process) (m : ℕ) (table : List ℕ) (used : List Bool) (w : ℕ) (q : Step)
-    (count : ℕ) (table' : List ℕ) (used' : List Bool) : Type 0 where
-  pub behind : Step
-  pub bar : Went s p (word (bytes " | ")) behind tt
-  pub started : Started s behind inner m table used w q count table' used'
-
-pub record Branched (s : List ℕ) (p : Step) (inner : Reader Process) (m : ℕ) (table : List ℕ) (used : List Bool) (first second : ℕ)
-    (q : Step) (count : ℕ) (table' : List ℕ) (used' : List Bool) : Type 0 where
-  pub x : Process
-  pub y : Process
-  pub before : Step
-  pub behind : Step
-  pub left : Went s p inner before x
-  pub bar : Went s before (word (bytes " | ")) behind tt
-  pub right : Went s behind inner q y
-  pub small : count ≤ room
-  pub most : reached q ≡ true → count < room → m + size x + size y ≤ room
-  pub kept : reached q ≡ true → m + size x + size y ≤ room → KeptBoth x y m table used first second count table' used'
-
--- ---- the chain of k₀ actions at most from step p₀ on is, with what is stored and marked, what that of k from step p on is
-pub record Chained (s : List ℕ) (inner : Reader Process) (scope : Scope) (p₀ : Step) (k₀ n₀ : ℕ) (table₀ : List ℕ) (used₀ : List Bool)
-    (p : Step) (k n : ℕ) (table : List ℕ) (used : List Bool) : Type 0 where
-  pub small : n ≤ room
-  pub rest :
-      (q : Step) (count : ℕ) (table' : List ℕ) (used' : List Bool)
-      → Coded s p (chain k inner scope) n table used q count table' used'
-      → Coded s p₀ (chain k₀ inner scope) n₀ table₀ used₀ q count table' used'
+-- ---- the chain of k₀ actions at most from r₀ on is, with what is stored and marked, what that of k from r on is
+pub record Chained (inner : Reader Process) (scope : Scope) (r₀ : TextReader) (k₀ : ℕ) (b₀ : Code) (r : TextReader) (k : ℕ) (b : Code) : Type 0 where
+  pub small : b.count ≤ room
+  pub same : r.text ≡ r₀.text
+  pub rest : (o : Result (Unit {0}) Fault) (q : TextReader) (b' : Code) → Keeps r (chain k inner scope) (Stored b b') o q → Keeps r₀ (chain k₀ inner scope) (Stored b₀ b') o q

@@ -1,256 +1,107 @@
-// Actions of the planners' notation that hold no process, each with the dot after it: its instruction, which has the
-// number n, is stored with what follows the dot.
-ghost use Rattle.std.specs.Prelude.{◌≤◌, Bool, List};
-ghost use Rattle.net.specs.Records.{zero_instruction};
+// Actions of the planners' notation that hold no process, up to their dots.
+ghost use Rattle.std.specs.Prelude.{◌≡◌};
 ghost use Rattle.text.specs.Bytes.{bytes};
+ghost use Rattle.lexemes.specs.Progress.{Reads};
 ghost use Rattle.terms.specs.Terms.{input, read};
-ghost use Rattle.processes.specs.Reading.{communication, to_one, to_all, receiving, putting, creation, simple};
-ghost use Rattle.processes.specs.Progress.{room, Aimed, Closed, Sent, Filled, Acted};
+ghost use Rattle.processes.specs.Reading.{at_target, communication, receiving, putting, creation, simple};
+ghost use Rattle.processes.specs.Progress.{entry_for, Alone, Keeps};
 
-use crate::names::{one_more, start_here};
 use fields::scope::Scope;
 use fields::sets::read_group;
 use fields::templates::{read_target, read_template};
 use fields::values::read_variable;
-use lexemes::words::{byte_here, read_byte, read_word};
-use net::instruction::Instruction;
-use readers::step::Step;
-use terms::table::{group_word, store, target_word};
-
-// The step after something, and the number of the next instruction.
-#[derive(Clone, Copy)]
-pub struct CodeRead {
-    pub next: Step,
-    pub count: usize,
-}
-
-// The word of a target, and the step after it.
-#[derive(Clone, Copy)]
-pub(crate) struct AimRead {
-    pub word: usize,
-    pub next: Step,
-}
+use lexemes::reader::TextReader;
+use net::instruction::{Instruction, Target};
+use readers::fault::Fault;
+use terms::table::{Entry, Kind, target_word};
 
 // A target, after the bracket that closes its action and @.
-pub(crate) fn read_aim(s: &[u8], from: Step, addresses: usize) -> AimRead
-    ensures { Aimed s.now from addresses result.next result.word }
+#[tactic(auto, using(lexemes::proofs::Reading::reads), unfolding(crate::specs::Reading::at_target, text::specs::Bytes::bytes))]
+pub(crate) fn read_aim(r: &mut TextReader, addresses: usize) -> Result<Target, Fault>
+    ensures { Reads r.old (at_target addresses) result r.new }
 {
-    let shut = read_word(s, from, b")@");
-    let got = read_target(s, shut, addresses);
-    let target = got.target;
-    let word = target_word(target);
-    let next = got.next;
-    AimRead { word, next }
+    r.word(b")@")?;
+    read_target(r, addresses)
 }
 
-// The dot after an action, whose instruction is stored; the next one has the number `count`.
-pub(crate) fn close(
-    s: &[u8],
-    from: Step,
-    n: usize,
-    count: usize,
-    kind: usize,
-    target: usize,
-    c: Instruction,
-    second: usize,
-    table: &mut [usize],
-) -> Step
-    requires { count ≤ room }
-    ensures { Closed s.now from n count kind target c second table.old result table.new }
+// The entry of an instruction that has no start yet.
+pub(crate) fn entry_for(kind: Kind, target: usize, template: Instruction) -> Entry
+    ensures { result ≡ entry_for kind target template }
 {
-    let next = read_byte(s, from, 46);
-    let word = start_here(s, next, count);
-    store(table, n, kind, target, c, word, second);
-    next
+    Entry {
+        target,
+        template,
+        ..Entry::of(kind)
+    }
 }
 
-// The same, without a template.
-pub(crate) fn close_plain(
-    s: &[u8],
-    from: Step,
-    n: usize,
-    count: usize,
-    kind: usize,
-    target: usize,
-    second: usize,
-    table: &mut [usize],
-) -> Step
-    requires { count ≤ room }
-    ensures { Closed s.now from n count kind target zero_instruction second table.old result table.new }
+// What an out of a template is to, by its first byte and the format.
+#[tactic(auto, using(crate::proofs::ActionLaws::singles), unfolding(crate::specs::Reading::receiving, crate::specs::Reading::to_one, crate::specs::Reading::to_all, net::specs::Choice::both))]
+fn read_receiver(r: &mut TextReader, scope: Scope, template: Instruction) -> Result<Entry, Fault>
+    ensures { Keeps r.old (receiving scope template) Alone result r.new }
 {
-    let c = Instruction::zero();
-    close(s, from, n, count, kind, target, c, second, table)
-}
-
-// The target of an eval, and its dot.
-pub(crate) fn close_sent(
-    s: &[u8],
-    from: Step,
-    scope: Scope,
-    n: usize,
-    count: usize,
-    sent: usize,
-    table: &mut [usize],
-) -> Step
-    requires { count ≤ room }
-    ensures { Sent s.now from scope n count sent table.old result table.new }
-{
-    let aim = read_aim(s, from, scope.addresses);
-    let aimed = aim.next;
-    close_plain(s, aimed, n, count, 4, aim.word, sent, table)
-}
-
-// The template and the target of an in or a read, which is opened, and its dot.
-fn read_filled(
-    s: &[u8],
-    from: Step,
-    scope: Scope,
-    n: usize,
-    kind: usize,
-    table: &mut [usize],
-) -> CodeRead
-    requires { n ≤ room }
-    ensures { Filled s.now from scope n kind table.old result.next result.count table.new }
-{
-    let got = read_template(s, from, true, scope.addresses);
-    let c = got.template;
-    let filled = got.next;
-    let aim = read_aim(s, filled, scope.addresses);
-    let aimed = aim.next;
-    let count = one_more(n);
-    let next = close(s, aimed, n, count, kind, aim.word, c, 0, table);
-    CodeRead { next, count }
-}
-
-// The target of an out of the template c, and its dot.
-fn read_to_one(
-    s: &[u8],
-    from: Step,
-    scope: Scope,
-    c: Instruction,
-    n: usize,
-    table: &mut [usize],
-) -> CodeRead
-    requires { n ≤ room }
-    ensures { (used : List Bool) → Acted s.now from (to_one scope c) n table.old used result.next result.count table.new used }
-{
-    let got = read_target(s, from, scope.addresses);
-    let target = got.target;
-    let word = target_word(target);
-    let aimed = got.next;
-    let count = one_more(n);
-    let next = close(s, aimed, n, count, 1, word, c, 0, table);
-    CodeRead { next, count }
-}
-
-// The set of an out of the template c, and its dot.
-fn read_to_all(
-    s: &[u8],
-    from: Step,
-    scope: Scope,
-    c: Instruction,
-    n: usize,
-    table: &mut [usize],
-) -> CodeRead
-    requires { n ≤ room }
-    ensures { (used : List Bool) → Acted s.now from (to_all scope c) n table.old used result.next result.count table.new used }
-{
-    let got = read_group(s, from, scope.addresses);
-    let group = got.group;
-    let word = group_word(group);
-    let aimed = got.next;
-    let count = one_more(n);
-    let next = close(s, aimed, n, count, 7, word, c, 0, table);
-    CodeRead { next, count }
-}
-
-// What an out of the template c is to, by its first byte and the format, and its dot.
-fn read_receiving(
-    s: &[u8],
-    from: Step,
-    scope: Scope,
-    c: Instruction,
-    n: usize,
-    table: &mut [usize],
-) -> CodeRead
-    requires { n ≤ room }
-    ensures { (used : List Bool) → Acted s.now from (receiving scope c) n table.old used result.next result.count table.new used }
-{
-    let b = byte_here(s, from);
-    let brace = b == 123;
-    let sets = scope.format == 2;
-    if brace & sets {
-        read_to_all(s, from, scope, c, n, table)
+    if (r.peek() == b'{') & (scope.format == 2) {
+        let group = read_group(r, scope.addresses)?;
+        Ok(entry_for(Kind::OutAll, group.0 as usize, template))
     } else {
-        read_to_one(s, from, scope, c, n, table)
+        let target = read_target(r, scope.addresses)?;
+        Ok(entry_for(Kind::Out, target_word(target), template))
     }
 }
 
 // An out.
-fn read_out(s: &[u8], from: Step, scope: Scope, n: usize, table: &mut [usize]) -> CodeRead
-    requires { n ≤ room }
-    ensures { (used : List Bool) → Acted s.now from (putting scope) n table.old used result.next result.count table.new used }
+#[tactic(auto, using(crate::proofs::Keeping::keeping), unfolding(crate::specs::Reading::putting, text::specs::Bytes::bytes))]
+fn read_out(r: &mut TextReader, scope: Scope) -> Result<Entry, Fault>
+    ensures { Keeps r.old (putting scope) Alone result r.new }
 {
-    let opened = read_word(s, from, b"out(");
-    let got = read_template(s, opened, false, scope.addresses);
-    let c = got.template;
-    let filled = got.next;
-    let shut = read_word(s, filled, b")@");
-    read_receiving(s, shut, scope, c, n, table)
+    r.word(b"out(")?;
+    let template = read_template(r, false, scope.addresses)?;
+    r.word(b")@")?;
+    read_receiver(r, scope, template)
 }
 
 // An in.
-fn read_in(s: &[u8], from: Step, scope: Scope, n: usize, table: &mut [usize]) -> CodeRead
-    requires { n ≤ room }
-    ensures { (used : List Bool) → Acted s.now from (communication (bytes "in(") input scope) n table.old used result.next result.count table.new used }
+#[tactic(auto, using(crate::proofs::ActionLaws::singles), unfolding(crate::specs::Reading::communication, text::specs::Bytes::bytes))]
+fn read_in(r: &mut TextReader, scope: Scope) -> Result<Entry, Fault>
+    ensures { Keeps r.old (communication (bytes "in(") input scope) Alone result r.new }
 {
-    let opened = read_word(s, from, b"in(");
-    read_filled(s, opened, scope, n, 2, table)
+    r.word(b"in(")?;
+    let template = read_template(r, true, scope.addresses)?;
+    let target = read_aim(r, scope.addresses)?;
+    Ok(entry_for(Kind::In, target_word(target), template))
 }
 
 // A read.
-fn read_read(s: &[u8], from: Step, scope: Scope, n: usize, table: &mut [usize]) -> CodeRead
-    requires { n ≤ room }
-    ensures { (used : List Bool) → Acted s.now from (communication (bytes "read(") read scope) n table.old used result.next result.count table.new used }
+#[tactic(auto, using(crate::proofs::ActionLaws::singles), unfolding(crate::specs::Reading::communication, text::specs::Bytes::bytes))]
+fn read_read(r: &mut TextReader, scope: Scope) -> Result<Entry, Fault>
+    ensures { Keeps r.old (communication (bytes "read(") read scope) Alone result r.new }
 {
-    let opened = read_word(s, from, b"read(");
-    read_filled(s, opened, scope, n, 3, table)
+    r.word(b"read(")?;
+    let template = read_template(r, true, scope.addresses)?;
+    let target = read_aim(r, scope.addresses)?;
+    Ok(entry_for(Kind::Read, target_word(target), template))
 }
 
 // A newloc.
-fn read_newloc(s: &[u8], from: Step, n: usize, table: &mut [usize]) -> CodeRead
-    requires { n ≤ room }
-    ensures { (used : List Bool) → Acted s.now from creation n table.old used result.next result.count table.new used }
+#[tactic(auto, using(crate::proofs::ActionLaws::singles), unfolding(crate::specs::Reading::creation, text::specs::Bytes::bytes))]
+fn read_newloc(r: &mut TextReader) -> Result<Entry, Fault>
+    ensures { Keeps r.old creation Alone result r.new }
 {
-    let opened = read_word(s, from, b"newloc(u");
-    let got = read_variable(s, opened);
-    let read = got.next;
-    let shut = read_byte(s, read, 41);
-    let count = one_more(n);
-    let v = got.variable as usize;
-    let next = close_plain(s, shut, n, count, 5, v, 0, table);
-    CodeRead { next, count }
+    r.word(b"newloc(u")?;
+    let v = read_variable(r)?;
+    r.byte(b')')?;
+    Ok(entry_for(Kind::New, v as usize, Instruction::zero()))
 }
 
 // An action that is no eval, by its first letter.
-pub(crate) fn read_simple(
-    s: &[u8],
-    from: Step,
-    scope: Scope,
-    n: usize,
-    table: &mut [usize],
-) -> CodeRead
-    requires { n ≤ room }
-    ensures { (used : List Bool) → Acted s.now from (simple scope) n table.old used result.next result.count table.new used }
+#[tactic(auto, using(crate::proofs::Keeping::keeping), unfolding(crate::specs::Reading::simple))]
+pub(crate) fn read_simple(r: &mut TextReader, scope: Scope) -> Result<Entry, Fault>
+    ensures { Keeps r.old (simple scope) Alone result r.new }
 {
-    let b = byte_here(s, from);
-    if b == 111 {
-        read_out(s, from, scope, n, table)
-    } else if b == 105 {
-        read_in(s, from, scope, n, table)
-    } else if b == 114 {
-        read_read(s, from, scope, n, table)
-    } else {
-        read_newloc(s, from, n, table)
+    match r.peek() {
+        b'o' => read_out(r, scope),
+        b'i' => read_in(r, scope),
+        b'r' => read_read(r, scope),
+        _ => read_newloc(r),
     }
 }

@@ -2,5 +2,6 @@
 #![tactic(auto)]
 
 pub mod actions;
+pub mod code;
 pub mod names;
 pub mod processes;

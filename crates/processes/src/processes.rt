@@ -1,306 +1,166 @@
-// Processes of the planners' notation. Reading one stores its instructions in a lent table, the first with the number n,
-// and marks the names that it uses. Brackets and evals are d levels at most.
-ghost use Rattle.std.specs.Prelude.{ℕ, ◌≤◌, Bool, List, length};
-ghost use Rattle.lexemes.specs.Lexemes.{fail};
+// Processes of the planners' notation. Reading one stores its instructions in a lent table and marks the names that it
+// uses. Brackets and evals are d levels at most.
+#![tactic(auto, using(crate::proofs::ProcessLaws::processing), unfolding(crate::specs::Reading::called, crate::specs::Reading::stopped, crate::specs::Reading::forked, crate::specs::Reading::ended, crate::specs::Reading::evaluation, crate::specs::Reading::action, crate::specs::Progress::dotted, text::specs::Bytes::bytes))]
+
+ghost use Rattle.std.specs.Prelude.{◌≤◌, ◌+◌, ◌≡◌, min, length};
+ghost use Rattle.lexemes.specs.Progress.{Reads};
 ghost use Rattle.processes.specs.Reading.{called, stopped, forked, ended, evaluation, action, chain, process_at, process};
-ghost use Rattle.processes.specs.Progress.{room, Shut, Branched, Barred, Started, Coded, Acted};
+ghost use Rattle.processes.specs.Room.{room};
+ghost use Rattle.processes.specs.Progress.{dotted, Keeps, Stored, Started, Held, Acted};
 
-use crate::actions::{CodeRead, close_sent, read_simple};
-use crate::names::{goes_on, mark, one_more, read_name, start_here};
+use crate::actions::{entry_for, read_aim, read_simple};
+use crate::code::Code;
+use crate::names::{chain_ends, read_name, start_here};
 use fields::scope::Scope;
-use lexemes::words::{byte_here, fail_from, read_byte, read_word};
-use readers::step::Step;
-use terms::table::store_plain;
-
-// The word of what starts with a process, the step after it, and the number of the next instruction.
-#[derive(Clone, Copy)]
-pub struct StartRead {
-    pub start: usize,
-    pub next: Step,
-    pub count: usize,
-}
-
-// The words of both branches of a fork, the step after them, and the number of the next instruction.
-#[derive(Clone, Copy)]
-struct BranchesRead {
-    first: usize,
-    second: usize,
-    next: Step,
-    count: usize,
-}
+use lexemes::reader::TextReader;
+use net::instruction::Instruction;
+use readers::fault::Fault;
+use terms::table::{Entry, Kind, target_word};
 
 // A name, which makes no instruction.
-fn read_call(s: &[u8], from: Step, n: usize, used: &mut [bool]) -> CodeRead
-    requires { n ≤ room }
-    ensures { (table : List ℕ) → Coded s.now from called n table used.old result.next result.count table used.new }
+fn read_call(r: &mut TextReader, code: &mut Code) -> Result<(), Fault>
+    requires { code.old.count ≤ room }
+    ensures { Keeps r.old called (Stored code.old code.new) result r.new }
 {
-    let got = read_name(s, from);
-    mark(used, got.value);
-    let next = got.next;
-    CodeRead { next, count: n }
+    let k = read_name(r)?;
+    code.mark(k);
+    Ok(())
 }
 
 // A nil.
-fn read_nil(s: &[u8], from: Step, n: usize, table: &mut [usize]) -> CodeRead
-    requires { n ≤ room }
-    ensures { (used : List Bool) → Coded s.now from stopped n table.old used result.next result.count table.new used }
+fn read_nil(r: &mut TextReader, code: &mut Code) -> Result<(), Fault>
+    requires { code.old.count ≤ room }
+    ensures { Keeps r.old stopped (Stored code.old code.new) result r.new }
 {
-    let next = read_word(s, from, b"nil");
-    store_plain(table, n, 0, 0, 0, 0);
-    let count = one_more(n);
-    CodeRead { next, count }
+    r.word(b"nil")?;
+    let n = code.number();
+    code.store(n, Entry::of(Kind::Stop));
+    Ok(())
 }
 
-// No process: a fault.
-fn no_process(from: Step, n: usize, number: u8) -> CodeRead
-    requires { n ≤ room }
-    ensures { (s : List ℕ) (table : List ℕ) (used : List Bool) → Coded s from (fail number) n table used result.next result.count table used }
+// A process, and the word of what it starts with.
+#[cycle(process_text)]
+fn read_started(r: &mut TextReader, d: usize, scope: Scope, code: &mut Code) -> Result<usize, Fault>
+    requires { code.old.count ≤ room }
+    ensures { Keeps r.old (process_at d scope) (Started code.old code.new) result r.new }
 {
-    let next = fail_from(from, number);
-    CodeRead { next, count: n }
-}
-
-// A process, and what it starts with.
-#[cycle(read_action_read_branches_read_chain_read_end_read_eval_read_fork_read_level_read_second_read_started)]
-fn read_started(
-    s: &[u8],
-    from: Step,
-    d: usize,
-    scope: Scope,
-    n: usize,
-    table: &mut [usize],
-    used: &mut [bool],
-) -> StartRead
-    requires { n ≤ room }
-    ensures { Started s.now from (process_at d scope) n table.old used.old result.start result.next result.count table.new used.new }
-{
-    let start = start_here(s, from, n);
-    let got = read_level(s, from, d, scope, n, table, used);
-    let next = got.next;
-    StartRead {
-        start,
-        next,
-        count: got.count,
+    let start = start_here(r, code.count);
+    if d == 0 {
+        return Err(Fault::at(32, r.at, 0));
     }
-}
-
-// The second branch of a fork, after its bar.
-#[cycle(read_action_read_branches_read_chain_read_end_read_eval_read_fork_read_level_read_second_read_started)]
-fn read_second(
-    s: &[u8],
-    from: Step,
-    d: usize,
-    scope: Scope,
-    n: usize,
-    table: &mut [usize],
-    used: &mut [bool],
-) -> StartRead
-    requires { n ≤ room }
-    ensures { Barred s.now from (process_at d scope) n table.old used.old result.start result.next result.count table.new used.new }
-{
-    let bar = read_word(s, from, b" | ");
-    read_started(s, bar, d, scope, n, table, used)
-}
-
-// Both branches of a fork, after its bracket.
-#[cycle(read_action_read_branches_read_chain_read_end_read_eval_read_fork_read_level_read_second_read_started)]
-fn read_branches(
-    s: &[u8],
-    from: Step,
-    d: usize,
-    scope: Scope,
-    n: usize,
-    table: &mut [usize],
-    used: &mut [bool],
-) -> BranchesRead
-    requires { n ≤ room }
-    ensures { Branched s.now from (process_at d scope) n table.old used.old result.first result.second result.next result.count table.new used.new }
-{
-    let left = read_started(s, from, d, scope, n, table, used);
-    let before = left.next;
-    let right = read_second(s, before, d, scope, left.count, table, used);
-    let next = right.next;
-    BranchesRead {
-        first: left.start,
-        second: right.start,
-        next,
-        count: right.count,
-    }
-}
-
-// The bracket after a fork, whose instruction is stored.
-fn shut_fork(
-    s: &[u8],
-    from: Step,
-    n: usize,
-    first: usize,
-    second: usize,
-    table: &mut [usize],
-) -> Step
-    ensures { Shut s.now from n first second table.old result table.new }
-{
-    let next = read_byte(s, from, 41);
-    store_plain(table, n, 6, 0, first, second);
-    next
+    read_chain(r, d - 1, scope, code)?;
+    Ok(start)
 }
 
 // A fork.
-#[cycle(read_action_read_branches_read_chain_read_end_read_eval_read_fork_read_level_read_second_read_started)]
-fn read_fork(
-    s: &[u8],
-    from: Step,
-    d: usize,
-    scope: Scope,
-    n: usize,
-    table: &mut [usize],
-    used: &mut [bool],
-) -> CodeRead
-    requires { n ≤ room }
-    ensures { Coded s.now from (forked (process_at d scope)) n table.old used.old result.next result.count table.new used.new }
+#[cycle(process_text)]
+fn read_fork(r: &mut TextReader, d: usize, scope: Scope, code: &mut Code) -> Result<(), Fault>
+    requires { code.old.count ≤ room }
+    ensures { Keeps r.old (forked (process_at d scope)) (Stored code.old code.new) result r.new }
 {
-    let opened = read_byte(s, from, 40);
-    let number = one_more(n);
-    let both = read_branches(s, opened, d, scope, number, table, used);
-    let behind = both.next;
-    let next = shut_fork(s, behind, n, both.first, both.second, table);
-    CodeRead {
-        next,
-        count: both.count,
-    }
+    let n = code.number();
+    r.byte(b'(')?;
+    let first = read_started(r, d, scope, code)?;
+    r.word(b" | ")?;
+    let second = read_started(r, d, scope, code)?;
+    r.byte(b')')?;
+    let entry = Entry {
+        next: first,
+        second,
+        ..Entry::of(Kind::Fork)
+    };
+    code.store(n, entry);
+    Ok(())
 }
 
 // What ends a chain of actions.
-#[cycle(read_action_read_branches_read_chain_read_end_read_eval_read_fork_read_level_read_second_read_started)]
-fn read_end(
-    s: &[u8],
-    from: Step,
-    d: usize,
-    scope: Scope,
-    n: usize,
-    table: &mut [usize],
-    used: &mut [bool],
-) -> CodeRead
-    requires { n ≤ room }
-    ensures { Coded s.now from (ended (process_at d scope)) n table.old used.old result.next result.count table.new used.new }
+#[cycle(process_text)]
+fn read_end(r: &mut TextReader, d: usize, scope: Scope, code: &mut Code) -> Result<(), Fault>
+    requires { code.old.count ≤ room }
+    ensures { Keeps r.old (ended (process_at d scope)) (Stored code.old code.new) result r.new }
 {
-    let b = byte_here(s, from);
-    if b == 65 {
-        read_call(s, from, n, used)
-    } else if b == 40 {
-        read_fork(s, from, d, scope, n, table, used)
-    } else {
-        read_nil(s, from, n, table)
+    match r.peek() {
+        b'A' => read_call(r, code),
+        b'(' => read_fork(r, d, scope, code),
+        _ => read_nil(r, code),
     }
 }
 
-// An eval and the dot after it.
-#[cycle(read_action_read_branches_read_chain_read_end_read_eval_read_fork_read_level_read_second_read_started)]
+// An eval up to its dot: its entry. Its own number n is counted already.
+#[cycle(process_text)]
 fn read_eval(
-    s: &[u8],
-    from: Step,
+    r: &mut TextReader,
     d: usize,
     scope: Scope,
+    code: &mut Code,
     n: usize,
-    table: &mut [usize],
-    used: &mut [bool],
-) -> CodeRead
-    requires { n ≤ room }
-    ensures { Acted s.now from (evaluation (process_at d scope) scope) n table.old used.old result.next result.count table.new used.new }
+) -> Result<Entry, Fault>
+    requires { code.old.count ≤ room }
+    ensures { Keeps r.old (evaluation (process_at d scope) scope) (Held n code.old code.new) result r.new }
 {
-    let opened = read_word(s, from, b"eval(");
-    let number = one_more(n);
-    let inner = read_started(s, opened, d, scope, number, table, used);
-    let behind = inner.next;
-    let next = close_sent(s, behind, scope, n, inner.count, inner.start, table);
-    CodeRead {
-        next,
-        count: inner.count,
+    r.word(b"eval(")?;
+    let sent = read_started(r, d, scope, code)?;
+    let target = read_aim(r, scope.addresses)?;
+    let entry = entry_for(Kind::Eval, target_word(target), Instruction::zero());
+    Ok(Entry {
+        second: sent,
+        ..entry
+    })
+}
+
+// An action up to its dot: its entry. Its own number n is counted already.
+#[cycle(process_text)]
+fn read_act(
+    r: &mut TextReader,
+    d: usize,
+    scope: Scope,
+    code: &mut Code,
+    n: usize,
+) -> Result<Entry, Fault>
+    requires { code.old.count ≤ room }
+    ensures { Keeps r.old (action (process_at d scope) scope) (Held n code.old code.new) result r.new }
+{
+    if r.peek() == b'e' {
+        read_eval(r, d, scope, code, n)
+    } else {
+        read_simple(r, scope)
     }
 }
 
-// An action and the dot after it.
-#[cycle(read_action_read_branches_read_chain_read_end_read_eval_read_fork_read_level_read_second_read_started)]
-fn read_action(
-    s: &[u8],
-    from: Step,
-    d: usize,
-    scope: Scope,
-    n: usize,
-    table: &mut [usize],
-    used: &mut [bool],
-) -> CodeRead
-    requires { n ≤ room }
-    ensures { Acted s.now from (action (process_at d scope) scope) n table.old used.old result.next result.count table.new used.new }
+// An action and its dot.
+#[cycle(process_text)]
+fn read_action(r: &mut TextReader, d: usize, scope: Scope, code: &mut Code) -> Result<(), Fault>
+    requires { code.old.count ≤ room }
+    ensures { Keeps r.old (dotted (action (process_at d scope) scope)) (Acted code.old code.new r.new) result r.new }
 {
-    if byte_here(s, from) == 101 {
-        read_eval(s, from, d, scope, n, table, used)
-    } else {
-        read_simple(s, from, scope, n, table)
-    }
+    let n = code.number();
+    let entry = read_act(r, d, scope, code, n)?;
+    r.byte(b'.')?;
+    let next = start_here(r, code.count);
+    code.store(n, Entry { next, ..entry });
+    Ok(())
 }
 
 // A chain of actions and its end; no chain has more actions than the text has bytes.
-#[cycle(read_action_read_branches_read_chain_read_end_read_eval_read_fork_read_level_read_second_read_started)]
-fn read_chain(
-    s: &[u8],
-    from: Step,
-    d: usize,
-    scope: Scope,
-    n: usize,
-    table: &mut [usize],
-    used: &mut [bool],
-) -> CodeRead
-    requires { n ≤ room }
-    ensures { Coded s.now from (chain (length s.now) (process_at d scope) scope) n table.old used.old result.next result.count table.new used.new }
+#[cycle(process_text)]
+fn read_chain(r: &mut TextReader, d: usize, scope: Scope, code: &mut Code) -> Result<(), Fault>
+    requires { code.old.count ≤ room }
+    ensures { Keeps r.old (chain (length r.old.text.now) (process_at d scope) scope) (Stored code.old code.new) result r.new }
 {
-    let mut next = from;
-    let mut count = n;
-    let mut left = s.len();
-    while goes_on(s, next, left) {
-        left -= 1;
-        let acted = read_action(s, next, d, scope, count, table, used);
-        next = acted.next;
-        count = acted.count;
+    for i in 0..r.text.len() {
+        if chain_ends(r) {
+            return read_end(r, d, scope, code);
+        }
+        read_action(r, d, scope, code)?;
     }
-    if left == 0 {
-        no_process(next, count, 31)
-    } else {
-        read_end(s, next, d, scope, count, table, used)
-    }
+    Err(Fault::at(31, r.at, 0))
 }
 
-// A process inside brackets and evals, which with it are d levels.
-#[cycle(read_action_read_branches_read_chain_read_end_read_eval_read_fork_read_level_read_second_read_started)]
-fn read_level(
-    s: &[u8],
-    from: Step,
-    d: usize,
-    scope: Scope,
-    n: usize,
-    table: &mut [usize],
-    used: &mut [bool],
-) -> CodeRead
-    requires { n ≤ room }
-    ensures { Coded s.now from (process_at d scope) n table.old used.old result.next result.count table.new used.new }
+// P, and the word of what it starts with.
+#[tactic(auto, using(crate::proofs::ProcessLaws::processing), unfolding(crate::specs::Reading::process))]
+pub fn read_process(r: &mut TextReader, scope: Scope, code: &mut Code) -> Result<usize, Fault>
+    requires { code.old.count ≤ room }
+    ensures { Keeps r.old (process scope) (Started code.old code.new) result r.new }
 {
-    if d == 0 {
-        no_process(from, n, 32)
-    } else {
-        read_chain(s, from, d - 1, scope, n, table, used)
-    }
-}
-
-// P.
-pub fn read_process(
-    s: &[u8],
-    from: Step,
-    scope: Scope,
-    n: usize,
-    table: &mut [usize],
-    used: &mut [bool],
-) -> StartRead
-    requires { n ≤ room }
-    ensures { Started s.now from (process scope) n table.old used.old result.start result.next result.count table.new used.new }
-{
-    read_started(s, from, 33, scope, n, table, used)
+    read_started(r, 33, scope, code)
 }

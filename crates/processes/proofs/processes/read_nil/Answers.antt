@@ -1,0 +1,13 @@
+use Rattle.text.specs.Bytes.{bytes}
+use Rattle.processes.specs.Reading.{stopped}
+use Rattle.processes.proofs.Keeping.{keeps_next, keeps_pure}
+use Rattle.processes.proofs.ProcessLaws.{nil_stored}
+use Rattle.processes.proofs.processes.read_nil.Goals as goal
+
+pub returns : goal.returns
+unfolding stopped bytes
+returns c =
+    keeps_next _ _ _ _ _ _ _ _ c.in_ok-word.ensures
+    (keeps_pure _ _ _ _
+    (nil_stored c.args.code.now c.number-n.new.self c.store.new.self c.number-n.result c.requires c.number-n.ensures.number c.number-n.ensures.counted c.number-n.ensures.table c.number-n.ensures.used
+    (rw c.of.ensures at c.store.ensures.table) c.store.ensures.count c.store.ensures.used))
