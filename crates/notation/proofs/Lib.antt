@@ -1,4 +1,2 @@
-pub mod LineLaws
 pub mod LineLengths
-pub mod LinesLaws
 pub mod TextLaws

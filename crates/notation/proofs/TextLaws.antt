@@ -12,9 +12,12 @@ use Rattle.net.specs.Records.{empty_net, with_counts}
 use Rattle.net.specs.Shape.{Shaped}
 use Rattle.net.proofs.Laws.{choose_true, choose_false, in_range_law, in_range_high}
 use Rattle.keeping.specs.Admission.{admits}
-use Rattle.readers.specs.Reader.{Parsed, fault}
-use Rattle.readers.specs.Progress.{reached, outcome, run_from, Went}
-use Rattle.readers.proofs.ReaderLaws.{on, stop}
+use Rattle.std.proofs.Common.{Result, Ok, Err}
+use Rattle.readers.specs.Reader.{Parsed, got, fault}
+use Rattle.lexemes.specs.Progress.{Reads, Stood, Stands}
+use Rattle.lexemes.proofs.Reading.{reads_pure, reads_then, reads_failed}
+use Rattle.readers.specs.Progress.{came}
+use Rattle.net.proofs.FoldLaws.{fold_none, fold_more, fold_end}
 use Rattle.text.specs.Buffer.{over}
 use Rattle.linking.specs.Source.{Line, Policy, Source}
 use Rattle.linking.specs.Compiled.{total, addresses_of, place_in, code_from, peopled, with_code, governed, compiled}
@@ -29,49 +32,31 @@ use Rattle.linking.proofs.Moved.{moved_all}
 use Rattle.linking.proofs.Peopled.{peopled_any_counts, peopled_frame, after_count}
 use Rattle.linking.proofs.Governed.{governed_addresses, governed_counts}
 use Rattle.linking.proofs.NodeCounts.{none_busy}
-use Rattle.notation.specs.Types.{Step, Instruction, Net, Scope}
+use Rattle.notation.specs.Types.{Fault, TextReader, Instruction, Net, Scope}
 use Rattle.rows.specs.Policies.{policy}
 use Rattle.notation.specs.Scopes.{scope_of}
 use Rattle.notation.specs.Lines.{lines, source}
-use Rattle.rows.specs.declared.rows.RowsRead.{RowsRead}
 use Rattle.rows.specs.Progress.{Ruled}
-use Rattle.notation.specs.LineProgress.{scope_in, state, AllLined}
+use Rattle.notation.specs.LineProgress.{Lines, scope_in, state_of, AllLined}
 use Rattle.notation.specs.Text.{Verdict, Opened, refused, accepted, judged_source, judged, read_of}
-use Rattle.notation.specs.Judging.{judged_net, judged_count, judged_names, judged_step}
+use Rattle.notation.specs.Judging.{judged_net, judged_count, judged_names}
 use Rattle.rows.proofs.PolicyLaws.{format_read, addresses_read}
 
 -- ---- what is judged, one after another
-pub refused_as : (n : ℕ) (s : Net) → s ≡ empty_net → record { answer = Verdict.Refused n; net = s } ≡ refused n
-unfolding refused
-refused_as n s e = ap (λ (t : Net). record { answer = Verdict.Refused n; net = t }) e
-
-pub net_accepted : (s : Net) (ok : Bool) → ok ≡ true → ok ≡ admits s → record { answer = Verdict.Accepted; net = s } ≡ judged_net s
-unfolding judged_net accepted
-net_accepted s ok t e = sym (choose_true _ _ _ (sym e ∙ t))
-
-pub net_refused : (s : Net) (ok : Bool) (o : Opened) → ok ≡ false → ok ≡ admits s → o ≡ refused 30 → o ≡ judged_net s
-unfolding judged_net
-net_refused s ok o f e h = h ∙ sym (choose_false _ _ _ (sym e ∙ f))
-
 no_second : (a b : Bool) → b ≡ false → false ≡ both a b
 unfolding both
 no_second true b e = sym e
 no_second false b e = refl
 
 module _ (table bodies starts : List ℕ) (n : ℕ) (s : Net) (o : Opened) where
-  pub count_none : n ≡ 0 → o ≡ refused 22 → o ≡ judged_count table bodies starts n s
+  pub count_none : n < 1 → o ≡ refused 22 → o ≡ judged_count table bodies starts n s
   unfolding judged_count in_range both
-  count_none z h = h ∙ sym (choose_false _ _ _ (rw (z, lt-leb 1 0 (omega arith)) refl))
+  count_none z h = h ∙ sym (choose_false _ _ _ (rw (lt-leb 1 n z) refl))
 
-  pub count_right :
-      (t : Net) → (n ≡ 0 → ⊥) → n ≤ 512 → t ≡ linked_net (place_at bodies) table starts n s → o ≡ judged_net t
+  pub count_right : (t : Net) → 1 ≤ n → n ≤ 512 → t ≡ linked_net (place_at bodies) table starts n s → o ≡ judged_net t
       → o ≡ judged_count table bodies starts n s
   unfolding judged_count
-  count_right t z m e h = h ∙ ap judged_net e ∙ sym (choose_true _ _ _ (in_range_law 1 n 512 (positive n z) m))
-    where
-      positive : (k : ℕ) → (k ≡ 0 → ⊥) → 1 ≤ k
-      positive zero f = absurd (f refl)
-      positive (suc k) f = omega arith
+  count_right t z m e h = h ∙ ap judged_net e ∙ sym (choose_true _ _ _ (in_range_law 1 n 512 z m))
 
   pub count_many : 512 < n → o ≡ refused 22 → o ≡ judged_count table bodies starts n s
   unfolding judged_count in_range
@@ -86,22 +71,6 @@ module _ (table : List ℕ) (uses : List Bool) (bodies : List ℕ) (defs : List 
     pub names_wrong : ok ≡ false → o ≡ refused 33 → o ≡ judged_names table uses bodies defs starts n twice s
     unfolding judged_names
     names_wrong f h = h ∙ sym (choose_false _ _ _ (sym e ∙ f))
-
-  pub step_place :
-      (q : Step) (p : ℕ) → q ≡ Step.At p → o ≡ judged_names table uses bodies defs starts n twice s
-      → o ≡ judged_step table uses bodies defs starts n twice s q
-  unfolding judged_step
-  step_place q p e h = rw e h
-
-  pub step_fault :
-      (q : Step) (f : _) → q ≡ Step.Failed f → o ≡ refused f.number → o ≡ judged_step table uses bodies defs starts n twice s q
-  unfolding judged_step
-  step_fault q f e h = rw e h
-
--- ---- names that stand for themselves
-pub names_begin : (k : ℕ) → k ≡ 0 → replicate 512 0 ≡ fold k (λ j names. set names j j) (replicate 512 0)
-unfolding fold
-names_begin k e = rw e refl
 
 -- ---- the net of a source
 module _ (x : Policy) (ls : List Line) (few : addresses_of x ≤ 16) (shape : Shaped (governed x 0)) (fit : FitAll ls (begun (governed x 0))) where
@@ -159,57 +128,63 @@ module _ (x : Policy) (ls : List Line) (few : addresses_of x ≤ 16) (shape : Sh
       ranged true e = ap (λ (t : Net). choose (in_range 1 (total ls) 512) (judged_net t) (refused 22)) (linked_compiled (in_range_high 1 (total ls) 512 e))
       ranged false e = choose_false _ _ _ e ∙ sym (choose_false _ _ _ e)
 
+-- ---- before the first line
+pub from_begun :
+    (table : List ℕ) (uses : List Bool) (bodies : List ℕ) (defs : List Bool) (starts : List ℕ) (net : Net)
+    → table ≡ replicate 4608 0 → uses ≡ replicate 512 false → bodies ≡ own_names → defs ≡ replicate 512 false → starts ≡ replicate 64 0
+    → ◌≡◌ {A = State} (record { count = 0; table = table; uses = uses; bodies = bodies; defs = defs; twice = false; starts = starts; net = net }) (begun net)
+unfolding begun
+from_begun table uses bodies defs starts net a b c d e = rw (a, b, c, d, e) refl
+
 -- ---- the whole text
-module _ (s : List ℕ) where
-  -- rows and lines read are the source read
-  source_went :
-      (p q : Step) (x : Policy) (ls : List Line) → Went s (Step.At 0) policy p x → Went s p (lines (scope_of x)) q ls
-      → outcome q (record { policy = x; lines = ls }) ≡ source s 0
-  unfolding source run_from
-  source_went p q x ls w v =
-      let y : Source = record { policy = x; lines = ls } in
-      (on s (Step.At 0) p q policy _ x y w (on s p q q (lines (scope_of x)) _ ls y v (stop s q y))).went
-
-  -- what lines are judged by is known from the net of the policies
-  scope_read : (r : RowsRead) (g : Ruled s policy r) → scope_in r.net ≡ scope_of g.read
-  unfolding scope_in scope_of
-  scope_read r g = rw (addresses_read s policy r g, format_read s policy r g) refl
-
-  from_begun :
-      (r : RowsRead) (g : Ruled s policy r) (table : List ℕ) (uses : List Bool) (bodies : List ℕ) (defs : List Bool) (starts : List ℕ)
-      → table ≡ replicate 4608 0 → uses ≡ replicate 512 false → bodies ≡ own_names → defs ≡ replicate 512 false → starts ≡ replicate 64 0
-      → state 0 table uses bodies defs false starts r.net ≡ begun (governed g.read 0)
-  unfolding state begun
-  from_begun r g table uses bodies defs starts a b c d e = rw (a, b, c, d, e, g.standing) refl
-
-  module _ (x : Policy) (ls : List Line) (few : addresses_of x ≤ 16) (shape : Shaped (governed x 0)) (table : List ℕ) (uses : List Bool)
-      (bodies : List ℕ) (defs : List Bool) (starts : List ℕ) (count : ℕ) (twice : Bool) (net : Net) where
-    read_at_law :
-        (q : Step) (o : Parsed Source) → outcome q (record { policy = x; lines = ls }) ≡ o
-        → (reached q ≡ true → state count table uses bodies defs twice starts net ≡ after_all ls (begun (governed x 0)))
-        → (reached q ≡ true → FitAll ls (begun (governed x 0)))
-        → judged_step table uses bodies defs starts count twice net q ≡ judged o
-    unfolding judged_step judged outcome reached state
-    read_at_law (Step.At q) o e k f =
-        ap parts (k refl) ∙ judged_same x ls few shape (f refl) ∙ ap judged e
-      where
-        parts : State → Opened
-        parts t = judged_names t.table t.uses t.bodies t.defs t.starts t.count t.twice t.net
-    read_at_law (Step.Failed g) o e k f = ap judged e
-
-  pub text_read :
-      (r : RowsRead) (q : Step) (table table' : List ℕ) (uses uses' : List Bool) (bodies bodies' : List ℕ) (defs defs' : List Bool)
-      (starts starts' : List ℕ) (count : ℕ) (twice : Bool) (net : Net) (o : Opened)
-      → table ≡ replicate 4608 0 → uses ≡ replicate 512 false → bodies ≡ own_names → defs ≡ replicate 512 false → starts ≡ replicate 64 0
-      → Shaped r.net → Ruled s policy r
-      → AllLined s r.next (scope_in r.net) (state 0 table uses bodies defs false starts r.net) q
-      (state count table' uses' bodies' defs' twice starts' net)
-      → o ≡ judged_step table' uses' bodies' defs' starts' count twice net q → o ≡ read_of s
+module _ (s : List ℕ) (r₀ : TextReader) (e : r₀.text.now ≡ s) (d : r₀.at ≡ 0) (o : Opened) where
+  -- a source read
+  source_of : (q : ℕ) (x : Result Source Fault) (r : TextReader) → Reads r₀ source x r → judged (came x r.at) ≡ read_of s
   unfolding read_of
-  text_read r q table table' uses uses' bodies bodies' defs defs' starts starts' count twice net o a b c d e shape g l h =
-      let first = from_begun r g table uses bodies defs starts a b c d e in
-      let scope : scope_in r.net ≡ scope_of g.read = scope_read r g in
-      h ∙ read_at_law g.read l.read g.within (rw g.standing at shape) table' uses' bodies' defs' starts' count twice net q (source s 0)
-      (source_went r.next q g.read l.read g.went (subst (λ (x : Scope). Went s r.next (lines x) q l.read) scope l.went))
-      (λ z. l.kept z ∙ ap (after_all l.read) first)
-      (λ z. subst (FitAll l.read) first (l.fit z))
+  source_of q x r h = ap judged (h.gave ∙ ap (λ (t : List ℕ). source t r₀.at) e ∙ ap (source s) d)
+
+  faulty : (f : Fault) (r : TextReader) → Reads r₀ source (Err f) r → o ≡ refused f.number → o ≡ read_of s
+  unfolding judged came
+  faulty f r h g = g ∙ source_of 0 (Err f) r h
+
+  pub policy_fault : (f : Fault) (r : TextReader) → Stands Ruled r₀ policy (Err f) r → o ≡ refused f.number → o ≡ read_of s
+  unfolding source
+  policy_fault f r h g = faulty f r (reads_failed r₀ r policy _ f h.told) g
+
+  module _ (r₁ : TextReader) (net : Net) (g : Stood Ruled r₀ policy net r₁) where
+    -- what lines are judged by is known from the net of the policies
+    scope_read : scope_in net ≡ scope_of g.read
+    unfolding scope_of
+    scope_read = rw (addresses_read g.read net g.stands, format_read g.read net g.stands) refl
+
+    pub lines_fault : (f : Fault) (r : TextReader) → Reads r₁ (lines (scope_in net)) (Err f) r → o ≡ refused f.number → o ≡ read_of s
+    unfolding source
+    lines_fault f r h u =
+        faulty f r
+        (reads_then r₀ r₁ policy r _ g.read (Err f) g.went (reads_failed r₁ r (lines (scope_of g.read)) _ f (rw scope_read at h))) u
+
+    module _ (r : TextReader) (ls : List Line) (h : Reads r₁ (lines (scope_in net)) (Ok ls) r) where
+      source_read : Reads r₀ source (Ok (record { policy = g.read; lines = ls })) r
+      unfolding source
+      source_read =
+          reads_then r₀ r₁ policy r _ g.read (Ok (record { policy = g.read; lines = ls })) g.went
+          (reads_then r₁ r (lines (scope_of g.read)) r _ ls (Ok (record { policy = g.read; lines = ls })) (rw scope_read at h)
+          (reads_pure r r (record { policy = g.read; lines = ls })))
+
+      parts : State → Opened
+      parts t = judged_names t.table t.uses t.bodies t.defs t.starts t.count t.twice t.net
+
+      pub text_read : (b b' : Lines) → Shaped net → state_of b ≡ begun net → AllLined b b' ls tt
+          → o ≡ judged_names b'.code.table.now b'.code.used.now b'.bodies.now b'.defs.now b'.starts.now b'.code.count b'.twice b'.net.now
+          → o ≡ read_of s
+      unfolding judged came parts
+      text_read b b' shape begin l u =
+          let first : state_of b ≡ begun (governed g.read 0) = begin ∙ ap begun g.stands.standing in
+          u
+          ∙ ap parts (l.kept ∙ ap (after_all ls) first)
+          ∙ judged_same g.read ls g.stands.within (rw g.stands.standing at shape) (subst (FitAll ls) first l.fit)
+          ∙ source_of 0 (Ok (record { policy = g.read; lines = ls })) r source_read
+
+pub ruleset judging = (count_none, count_right, count_many, names_judged, names_wrong)
+
+pub ruleset owned = (fold_none, fold_more, fold_end)
