@@ -4,6 +4,7 @@ ghost use Rattle.std.specs.Prelude.{◌≤◌, Bool, List};
 ghost use Rattle.net.specs.Records.{zero_instruction};
 ghost use Rattle.text.specs.Bytes.{bytes};
 ghost use Rattle.terms.specs.Terms.{input, read};
+ghost use Rattle.terms.specs.Table.{kind_number};
 ghost use Rattle.processes.specs.Reading.{communication, to_one, to_all, receiving, putting, creation, simple};
 ghost use Rattle.processes.specs.Progress.{room, Aimed, Closed, Sent, Filled, Acted};
 
@@ -15,7 +16,7 @@ use fields::values::read_variable;
 use lexemes::words::{byte_here, read_byte, read_word};
 use net::instruction::Instruction;
 use readers::step::Step;
-use terms::table::{group_word, store, target_word};
+use terms::table::{Entry, Kind, store, target_word};
 
 // The step after something, and the number of the next instruction.
 #[derive(Clone, Copy)]
@@ -49,18 +50,25 @@ pub(crate) fn close(
     from: Step,
     n: usize,
     count: usize,
-    kind: usize,
+    kind: Kind,
     target: usize,
     c: Instruction,
     second: usize,
     table: &mut [usize],
 ) -> Step
     requires { count ≤ room }
-    ensures { Closed s.now from n count kind target c second table.old result table.new }
+    ensures { Closed s.now from n count (kind_number kind) target c second table.old result table.new }
 {
     let next = read_byte(s, from, 46);
     let word = start_here(s, next, count);
-    store(table, n, kind, target, c, word, second);
+    let entry = Entry {
+        kind,
+        target,
+        template: c,
+        next: word,
+        second,
+    };
+    store(table, n, entry);
     next
 }
 
@@ -70,13 +78,13 @@ pub(crate) fn close_plain(
     from: Step,
     n: usize,
     count: usize,
-    kind: usize,
+    kind: Kind,
     target: usize,
     second: usize,
     table: &mut [usize],
 ) -> Step
     requires { count ≤ room }
-    ensures { Closed s.now from n count kind target zero_instruction second table.old result table.new }
+    ensures { Closed s.now from n count (kind_number kind) target zero_instruction second table.old result table.new }
 {
     let c = Instruction::zero();
     close(s, from, n, count, kind, target, c, second, table)
@@ -97,7 +105,7 @@ pub(crate) fn close_sent(
 {
     let aim = read_aim(s, from, scope.addresses);
     let aimed = aim.next;
-    close_plain(s, aimed, n, count, 4, aim.word, sent, table)
+    close_plain(s, aimed, n, count, Kind::Eval, aim.word, sent, table)
 }
 
 // The template and the target of an in or a read, which is opened, and its dot.
@@ -106,11 +114,11 @@ fn read_filled(
     from: Step,
     scope: Scope,
     n: usize,
-    kind: usize,
+    kind: Kind,
     table: &mut [usize],
 ) -> CodeRead
     requires { n ≤ room }
-    ensures { Filled s.now from scope n kind table.old result.next result.count table.new }
+    ensures { Filled s.now from scope n (kind_number kind) table.old result.next result.count table.new }
 {
     let got = read_template(s, from, true, scope.addresses);
     let c = got.template;
@@ -139,7 +147,7 @@ fn read_to_one(
     let word = target_word(target);
     let aimed = got.next;
     let count = one_more(n);
-    let next = close(s, aimed, n, count, 1, word, c, 0, table);
+    let next = close(s, aimed, n, count, Kind::Out, word, c, 0, table);
     CodeRead { next, count }
 }
 
@@ -157,10 +165,10 @@ fn read_to_all(
 {
     let got = read_group(s, from, scope.addresses);
     let group = got.group;
-    let word = group_word(group);
+    let word = group.0 as usize;
     let aimed = got.next;
     let count = one_more(n);
-    let next = close(s, aimed, n, count, 7, word, c, 0, table);
+    let next = close(s, aimed, n, count, Kind::OutAll, word, c, 0, table);
     CodeRead { next, count }
 }
 
@@ -205,7 +213,7 @@ fn read_in(s: &[u8], from: Step, scope: Scope, n: usize, table: &mut [usize]) ->
     ensures { (used : List Bool) → Acted s.now from (communication (bytes "in(") input scope) n table.old used result.next result.count table.new used }
 {
     let opened = read_word(s, from, b"in(");
-    read_filled(s, opened, scope, n, 2, table)
+    read_filled(s, opened, scope, n, Kind::In, table)
 }
 
 // A read.
@@ -214,7 +222,7 @@ fn read_read(s: &[u8], from: Step, scope: Scope, n: usize, table: &mut [usize]) 
     ensures { (used : List Bool) → Acted s.now from (communication (bytes "read(") read scope) n table.old used result.next result.count table.new used }
 {
     let opened = read_word(s, from, b"read(");
-    read_filled(s, opened, scope, n, 3, table)
+    read_filled(s, opened, scope, n, Kind::Read, table)
 }
 
 // A newloc.
@@ -228,7 +236,7 @@ fn read_newloc(s: &[u8], from: Step, n: usize, table: &mut [usize]) -> CodeRead
     let shut = read_byte(s, read, 41);
     let count = one_more(n);
     let v = got.variable as usize;
-    let next = close_plain(s, shut, n, count, 5, v, 0, table);
+    let next = close_plain(s, shut, n, count, Kind::New, v, 0, table);
     CodeRead { next, count }
 }
 

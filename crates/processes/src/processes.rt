@@ -10,7 +10,7 @@ use crate::names::{goes_on, mark, one_more, read_name, start_here};
 use fields::scope::Scope;
 use lexemes::words::{byte_here, fail_from, read_byte, read_word};
 use readers::step::Step;
-use terms::table::store_plain;
+use terms::table::{Entry, Kind, store};
 
 // The word of what starts with a process, the step after it, and the number of the next instruction.
 #[derive(Clone, Copy)]
@@ -46,7 +46,7 @@ fn read_nil(s: &[u8], from: Step, n: usize, table: &mut [usize]) -> CodeRead
     ensures { (used : List Bool) → Coded s.now from stopped n table.old used result.next result.count table.new used }
 {
     let next = read_word(s, from, b"nil");
-    store_plain(table, n, 0, 0, 0, 0);
+    store(table, n, Entry::of(Kind::Stop));
     let count = one_more(n);
     CodeRead { next, count }
 }
@@ -140,7 +140,12 @@ fn shut_fork(
     ensures { Shut s.now from n first second table.old result table.new }
 {
     let next = read_byte(s, from, 41);
-    store_plain(table, n, 6, 0, first, second);
+    let entry = Entry {
+        next: first,
+        second,
+        ..Entry::of(Kind::Fork)
+    };
+    store(table, n, entry);
     next
 }
 
