@@ -8,7 +8,7 @@ use image::reader::LONGEST_IMAGE;
 use net::network::Net;
 use notation::reading::{Opened, Verdict, read_text};
 use std::fmt::InlineText;
-use writer::pack::{Packed, write_image};
+use writer::pack::{Unwritten, write_image};
 
 // Prints a line: a word and a number.
 fn print_line(rt: &HostRuntime, word: &str, n: usize) -> Result<(), Failure> {
@@ -26,9 +26,9 @@ fn store(rt: &HostRuntime, image: &[u8]) -> Result<(), Failure> {
 fn pack_net(rt: &HostRuntime, net: Net) -> Result<(), Failure> {
     let mut out = [0u8; LONGEST_IMAGE];
     match write_image(net, &mut out) {
-        Packed::Written(n) => return store(rt, out.get(..n).ok_or(Failure::Short)?),
-        Packed::NotFresh => say(rt, b"no image gives the net\n"),
-        Packed::NoRoom => say(rt, b"no room for the image\n"),
+        Ok(n) => return store(rt, out.get(..n).ok_or(Failure::Short)?),
+        Err(Unwritten::NotFresh) => say(rt, b"no image gives the net\n"),
+        Err(Unwritten::NoRoom) => say(rt, b"no room for the image\n"),
     }
     Err(Failure::Short)
 }

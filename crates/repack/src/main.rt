@@ -4,16 +4,16 @@
 
 use files::{Failure, print_first, read_file, say};
 use image::reader::{LONGEST_IMAGE, read_image};
-use writer::pack::{Packed, write_image};
+use writer::pack::{Unwritten, write_image};
 
 // Prints the image of the net that an image gives.
 fn repack(rt: &HostRuntime, image: &[u8]) -> Result<(), Failure> {
     let opened = read_image(image);
     let mut out = [0u8; LONGEST_IMAGE];
     match write_image(opened.net, &mut out) {
-        Packed::Written(n) => print_first(rt, &out, n),
-        Packed::NotFresh => Ok(()),
-        Packed::NoRoom => {
+        Ok(n) => print_first(rt, &out, n),
+        Err(Unwritten::NotFresh) => Ok(()),
+        Err(Unwritten::NoRoom) => {
             say(rt, b"no room for the image\n");
             Err(Failure::Short)
         }

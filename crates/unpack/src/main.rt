@@ -10,7 +10,7 @@ use lines::shown::all_parts;
 use net::network::Net;
 use readers::fault::Fault;
 use text_writer::whole::{LONGEST_WRITTEN, write_text};
-use writer::pack::Packed;
+use writer::pack::Unwritten;
 
 // Prints the line of a refusal.
 fn print_refused(rt: &HostRuntime, fault: Fault) -> Result<(), Failure> {
@@ -23,9 +23,9 @@ fn print_refused(rt: &HostRuntime, fault: Fault) -> Result<(), Failure> {
 fn print_net(rt: &HostRuntime, net: Net) -> Result<(), Failure> {
     let mut out = [0u8; LONGEST_WRITTEN];
     match write_text(net, &mut out) {
-        Packed::Written(n) => return print_first(rt, &out, n),
-        Packed::NotFresh => say(rt, b"no image gives the net\n"),
-        Packed::NoRoom => say(rt, b"no room for the text\n"),
+        Ok(n) => return print_first(rt, &out, n),
+        Err(Unwritten::NotFresh) => say(rt, b"no image gives the net\n"),
+        Err(Unwritten::NoRoom) => say(rt, b"no room for the text\n"),
     }
     Err(Failure::Short)
 }
