@@ -1,5 +1,5 @@
 -- The rows of a node by its format (`node_rows_bits` of `ImageOf.antt`). Assumes nothing.
-use Rattle.std.proofs.Common.{◌≡◌, ℕ, sym, ap, ◌∙◌, refl}
+use Rattle.std.proofs.Common.{◌≡◌, ℕ, sym}
 use lib.Dec.{eqb}
 use borrow.Author.Tests.{eq-eqb, ne_eqb}
 use Rattle.net.specs.Records.{row_at, address_of}

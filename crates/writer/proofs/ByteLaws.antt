@@ -10,7 +10,7 @@ use borrow.Author.Tests.{le-leb, lt-leb}
 use Rattle.std.specs.Prelude.{Ok, Err}
 use Rattle.net.proofs.Laws.{choose_true, choose_false}
 use Rattle.text.specs.Buffer.{over}
-use Rattle.writer.specs.Calls.{Packed, Unwritten, placed_of, placed_in}
+use Rattle.writer.specs.Calls.{Unwritten, placed_of, placed_in}
 use Rattle.written.specs.ImageOf.{digit, number_in}
 use Rattle.text.specs.Joined.{joined}
 use Rattle.writer.specs.Packing.{bytes_in}

@@ -3,7 +3,7 @@
 use Rattle.std.specs.Prelude.{Ok, Err, ℕ, ◌≡◌, List, length, take, drop}
 use Rattle.image.specs.Image.{opened_of, accepted}
 use Rattle.writer.specs.Types.{Net}
-use Rattle.writer.specs.Calls.{Packed, Unwritten, packed_of, packed_number, image_in}
+use Rattle.writer.specs.Calls.{Unwritten, packed_of, packed_number, image_in}
 use Rattle.written.specs.WrittenClaims.{Bytes}
 
 -- what is written is an image that gives the net, and the bytes beyond it stay

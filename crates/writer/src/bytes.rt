@@ -13,7 +13,11 @@ use text::writer::Writer;
 fn bit_at(bits: &[bool], at: usize) -> usize
     ensures { (result ≡ digit (get_or bits.now at false)) × (result ≤ 1) }
 {
-    if at < bits.len() { usize::from(bits[at]) } else { 0 }
+    if at < bits.len() {
+        usize::from(bits[at])
+    } else {
+        0
+    }
 }
 
 // The byte that eight bits write.

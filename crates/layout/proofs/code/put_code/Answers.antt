@@ -1,5 +1,5 @@
 use Rattle.layout.proofs.PartLaws.{part_more}
-use Rattle.net.specs.Records.{instruction_at, place_of}
+use Rattle.net.specs.Records.{instruction_at}
 use Rattle.written.specs.ImageOf.{instruction_bits}
 use Rattle.layout.proofs.CountLaws.{first_code}
 use Rattle.layout.proofs.code.put_code.Goals as goal

@@ -1,4 +1,4 @@
-use Rattle.std.proofs.Common.{◌≡◌, ◌++◌, ◌∷◌}
+use Rattle.std.proofs.Common.{◌≡◌}
 use Rattle.net.specs.Records.{instruction_at, place_of}
 use Rattle.written.specs.ImageOf.{instruction_bits}
 use Rattle.text.specs.Joined.{joined}

@@ -1,6 +1,6 @@
-use Rattle.std.proofs.Common.{◌≡◌, ◌-◌, ◌++◌, ◌∷◌}
+use Rattle.std.proofs.Common.{◌≡◌}
 use Rattle.net.specs.Records.{pattern_at}
-use Rattle.written.specs.ImageOf.{bits_of, pattern_bits}
+use Rattle.written.specs.ImageOf.{pattern_bits}
 use Rattle.text.specs.Joined.{joined}
 use Rattle.text.specs.Writer.{after}
 use Rattle.layout.proofs.code.put_template.Given as goal

@@ -1,5 +1,5 @@
 use Rattle.layout.proofs.PartLaws.{part_more}
-use Rattle.net.specs.Records.{node_at, address_of}
+use Rattle.net.specs.Records.{node_at}
 use Rattle.written.specs.ImageOf.{tuples_bits}
 use Rattle.layout.proofs.CountLaws.{first_node}
 use Rattle.layout.proofs.nodes.put_all_tuples.Goals as goal

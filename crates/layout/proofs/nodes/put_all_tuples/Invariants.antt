@@ -1,4 +1,4 @@
-use Rattle.std.proofs.Common.{◌≡◌, ◌++◌, ◌∷◌}
+use Rattle.std.proofs.Common.{◌≡◌}
 use Rattle.net.specs.Records.{node_at, address_of}
 use Rattle.written.specs.ImageOf.{tuples_bits}
 use Rattle.text.specs.Joined.{joined}

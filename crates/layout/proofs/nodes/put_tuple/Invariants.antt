@@ -1,6 +1,6 @@
-use Rattle.std.proofs.Common.{◌≡◌, ◌-◌, ◌++◌, ◌∷◌}
+use Rattle.std.proofs.Common.{◌≡◌}
 use Rattle.net.specs.Records.{field_at}
-use Rattle.written.specs.ImageOf.{bits_of, item_bits}
+use Rattle.written.specs.ImageOf.{item_bits}
 use Rattle.text.specs.Joined.{joined}
 use Rattle.text.specs.Writer.{after}
 use Rattle.layout.proofs.nodes.put_tuple.Given as goal

@@ -1,6 +1,6 @@
-use Rattle.std.proofs.Common.{◌≡◌, ◌++◌, ◌∷◌}
+use Rattle.std.proofs.Common.{◌≡◌}
 use Rattle.net.specs.Records.{tuple_at}
-use Rattle.written.specs.ImageOf.{bits_of, tuple_bits}
+use Rattle.written.specs.ImageOf.{tuple_bits}
 use Rattle.text.specs.Joined.{joined}
 use Rattle.text.specs.Writer.{after}
 use Rattle.layout.proofs.nodes.put_tuples.Given as goal
