@@ -8,11 +8,11 @@
 use check::same;
 use files::{Failure, argument, is_given, print, read_file, say};
 use image::reader::LONGEST_IMAGE;
-use listing::checking::{Age, Checked, LONGEST_LISTING, check_listing, line_of, number_of};
+use listing::checking::{Age, LONGEST_LISTING, Mismatch, check_listing, line_of, number_of};
 use std::fmt::InlineText;
 
 // Prints an answer: 0, or a number and a line.
-fn print_checked(rt: &HostRuntime, checked: Checked) -> Result<(), Failure> {
+fn print_checked(rt: &HostRuntime, checked: Result<(), Mismatch>) -> Result<(), Failure> {
     let number = number_of(checked);
     if number == 0 {
         return print(rt, b"0\n");
