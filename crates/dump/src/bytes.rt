@@ -53,32 +53,18 @@ impl Dump for u16 {
     }
 }
 
-impl Dump for u32 {
-    fn dump<S: Sink>(&self, sink: &mut S) {
-        self.to_le_bytes().dump(sink);
-    }
-}
-
-impl Dump for u64 {
-    fn dump<S: Sink>(&self, sink: &mut S) {
-        self.to_le_bytes().dump(sink);
-    }
-}
-
-// In two's complement.
-impl Dump for i32 {
-    fn dump<S: Sink>(&self, sink: &mut S) {
-        self.to_le_bytes().dump(sink);
-    }
-}
-
 // A count in one byte: its remainder by 256.
 pub(crate) fn low_byte(n: usize) -> u8 {
     (n % 256) as u8
 }
 
 // A kind in one byte, then a value of four.
-pub(crate) fn dump_kind<V: Dump + Drop, S: Sink>(kind: u8, value: V, sink: &mut S) {
+pub(crate) fn dump_kind<S: Sink>(kind: u8, value: [u8; 4], sink: &mut S) {
     kind.dump(sink);
     value.dump(sink);
+}
+
+// A kind, then a value of one byte in four.
+pub(crate) fn dump_small<S: Sink>(kind: u8, value: u8, sink: &mut S) {
+    dump_kind(kind, [value, 0, 0, 0], sink);
 }

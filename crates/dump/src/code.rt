@@ -1,5 +1,5 @@
 // Instructions as bytes (the layout stands in lib.rt).
-use crate::bytes::{Dump, Sink, dump_kind, low_byte};
+use crate::bytes::{Dump, Sink, dump_kind, dump_small, low_byte};
 use net::instruction::{Action, Instruction, Pattern, Target, TemplateField};
 use net::locality::Place;
 
@@ -36,12 +36,12 @@ impl Dump for Action {
 impl Dump for TemplateField {
     fn dump<S: Sink>(&self, sink: &mut S) {
         match self.pattern {
-            Pattern::Reading(x) => dump_kind(0, x, sink),
-            Pattern::Address(l) => dump_kind(1, u32::from(l.0), sink),
-            Pattern::Own => dump_kind(2, 0u32, sink),
-            Pattern::Held(v) => dump_kind(3, u32::from(v), sink),
-            Pattern::FormalReading(v) => dump_kind(4, u32::from(v), sink),
-            Pattern::FormalAddress(v) => dump_kind(5, u32::from(v), sink),
+            Pattern::Reading(x) => dump_kind(0, x.to_le_bytes(), sink),
+            Pattern::Address(l) => dump_small(1, l.0, sink),
+            Pattern::Own => dump_small(2, 0, sink),
+            Pattern::Held(v) => dump_small(3, v, sink),
+            Pattern::FormalReading(v) => dump_small(4, v, sink),
+            Pattern::FormalAddress(v) => dump_small(5, v, sink),
         }
     }
 }

@@ -19,5 +19,5 @@ impl Sink for Digest {
 pub fn put_digest(out: &mut [u8], net: &Net) {
     let mut digest = Digest(0);
     dump_state(net, &mut digest);
-    digest.0.dump(&mut Room { out, at: 0 });
+    digest.0.to_le_bytes().dump(&mut Room { out, at: 0 });
 }

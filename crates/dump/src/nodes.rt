@@ -1,5 +1,5 @@
 // The nodes of a net as bytes (the layout stands in lib.rt).
-use crate::bytes::{Dump, Sink, dump_kind, low_byte};
+use crate::bytes::{Dump, Sink, dump_kind, dump_small, low_byte};
 use net::locality::{Locality, Place};
 use net::node::Node;
 use net::policy::{Rights, Row};
@@ -41,9 +41,9 @@ impl Dump for Row {
 impl Dump for Variable {
     fn dump<S: Sink>(&self, sink: &mut S) {
         match self.value {
-            Value::Unset => dump_kind(0, 0u32, sink),
-            Value::Reading(x) => dump_kind(1, x, sink),
-            Value::Address(l) => dump_kind(2, u32::from(l.0), sink),
+            Value::Unset => dump_small(0, 0, sink),
+            Value::Reading(x) => dump_kind(1, x.to_le_bytes(), sink),
+            Value::Address(l) => dump_small(2, l.0, sink),
         }
     }
 }
@@ -60,8 +60,8 @@ impl Dump for Process {
 impl Dump for Field {
     fn dump<S: Sink>(&self, sink: &mut S) {
         match self.item {
-            Item::Reading(x) => dump_kind(1, x, sink),
-            Item::Address(l) => dump_kind(2, u32::from(l.0), sink),
+            Item::Reading(x) => dump_kind(1, x.to_le_bytes(), sink),
+            Item::Address(l) => dump_small(2, l.0, sink),
         }
     }
 }

@@ -71,6 +71,7 @@ fn fill<'a, R: Read>(
     ensures { IfOk result (λ read. length read.now ≤ length buffer.old) }
 {
     let mut count = 0;
+    // Kept: a read gives as many bytes as it likes, so there is nothing to go over.
     while count < buffer.len() {
         let more = named(rt, reader.read(&mut buffer[count..]), b"cannot read", name)?;
         if more == 0 {
@@ -148,6 +149,18 @@ pub fn read_next<'a>(rt: &HostRuntime, buffer: &'a mut [u8]) -> Result<&'a [u8],
     }
     read_exact(rt, &mut buffer[..count])?;
     Ok(&buffer[..count])
+}
+
+// Takes turns until one fails, as at the end of the input. A proved loop has to end, and nothing says that the input does:
+// no run uses up these turns.
+pub fn take_turns<F: Fn(&HostRuntime) -> Result<(), Failure>>(rt: &HostRuntime, turn: F)
+    requires { F.IsAlwaysCallable turn }
+{
+    for _ in 0..u64::MAX {
+        if turn(rt).is_err() {
+            break;
+        }
+    }
 }
 
 // Prints bytes.

@@ -8,7 +8,7 @@ ghost use Rattle.std.specs.Prelude.{◌≡◌};
 ghost use Rattle.notation.specs.Text.{number_of};
 
 use dump::put_net;
-use files::{Failure, print, read_next};
+use files::{Failure, print, read_next, take_turns};
 use notation::reading::{Verdict, read_text};
 
 // The answer's number in document 01, "The planners' notation".
@@ -36,11 +36,6 @@ fn take_turn(rt: &HostRuntime) -> Result<(), Failure> {
     answer(rt, read_next(rt, &mut text)?)
 }
 
-// A proved loop has to end, and nothing says that the input does: no run uses up these turns.
 fn main(rt: HostRuntime) {
-    for _ in 0..u64::MAX {
-        if take_turn(&rt).is_err() {
-            break;
-        }
-    }
+    take_turns(&rt, take_turn);
 }

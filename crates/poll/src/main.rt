@@ -10,7 +10,7 @@
 
 use dump::digest::put_digest;
 use dump::put_net;
-use files::{Failure, print, read_exact, read_next};
+use files::{Failure, print, read_exact, read_next, take_turns};
 use image::reader::{number_of, place_of};
 use lean::engine::{Engine, StartedText};
 use net::network::Net;
@@ -124,11 +124,6 @@ fn take_turn(rt: &HostRuntime) -> Result<(), Failure> {
     }
 }
 
-// A proved loop has to end, and nothing says that the input does: no run uses up these turns.
 fn main(rt: HostRuntime) {
-    for _ in 0..u64::MAX {
-        if take_turn(&rt).is_err() {
-            break;
-        }
-    }
+    take_turns(&rt, take_turn);
 }
