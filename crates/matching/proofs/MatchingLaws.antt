@@ -11,11 +11,12 @@ use lib.ListN.{set, replicate, length, length-map, get_or-eq_default}
 use mir.Syntax.{w32}
 use mir.Val.{SFits, to_z, of_z}
 use mir.ValLaws.{to_z-of_z}
+use Rattle.std.specs.Prelude.{Option, Some, None}
 use Rattle.net.proofs.Past.{past_tuple}
 use Rattle.net.specs.Choice.{both, implies, all, fold}
 use Rattle.matching.specs.Types.{Locality, Value, Variable, Item, Tuple, Pattern, Process, Node, Instruction}
 use Rattle.net.specs.Records.{field_at, variable_at, tuple_at, pattern_at, zero_field, zero_tuple}
-use Rattle.matching.specs.Matching.{Want, Wanted, Evaluated, Found, zero_wanted, held_item, value_of, want_of}
+use Rattle.matching.specs.Matching.{Want, Wanted, Evaluated, zero_wanted, held_item, value_of, want_of}
 use Rattle.matching.specs.Matching.{defined_field, wants_of, evaluated_of, same_item, oldest_of}
 use Rattle.net.specs.Readings.{same_reading}
 use Rattle.matching.specs.Matching.{bound_of, bound_at, matched_of}
@@ -108,12 +109,12 @@ module _ (n : Node) (i : ℕ) (e : length n.tuples ≡ 16) (h : 16 ≤ i) where
   bound_past p r t x d q = rw (none, ← (zero_fields p x), ← d) q
 
 -- ---- what a template meets
-module _ (p r : Process) (n : Node) (e : Evaluated) (f : Found) where
-  pub bound_at_law : (i : ℕ) → f ≡ Found.At i → r ≡ bound_of p (tuple_at n i) e → r ≡ bound_at f p n e
+module _ (p r : Process) (n : Node) (e : Evaluated) (f : Option ℕ) where
+  pub bound_at_law : (i : ℕ) → f ≡ Some i → r ≡ bound_of p (tuple_at n i) e → r ≡ bound_at f p n e
   unfolding bound_at
   bound_at_law i d q = rw d q
 
-  pub bound_nowhere : f ≡ Found.Nothing → r ≡ p → r ≡ bound_at f p n e
+  pub bound_nowhere : f ≡ None → r ≡ p → r ≡ bound_at f p n e
   unfolding bound_at
   bound_nowhere d q = rw d q
 

@@ -15,37 +15,30 @@ use net::tuple::{Item, Tuple, Value};
 
 // What a template field asks of a tuple's field once its variables are read: one item, or any reading
 // or any address, to be bound to a variable.
-#[derive(Clone, Copy)]
+#[derive(Clone, Copy, PartialEq, Eq, Debug)]
 pub enum Want {
     Exactly(Item),
     AnyReading(u8),
     AnyAddress(u8),
 }
 
-#[derive(Clone, Copy)]
+#[derive(Clone, Copy, PartialEq, Eq, Debug)]
 pub struct Wanted {
     pub want: Want,
 }
 
 // An evaluated template. `defined` says that every variable whose value it needs was set.
-#[derive(Clone, Copy)]
+#[derive(Clone, Copy, PartialEq, Eq, Debug)]
 pub struct Evaluated {
     pub defined: bool,
     pub count: usize,
     pub wants: [Wanted; 4],
 }
 
-// The place of a tuple among a node's tuples.
-#[derive(Clone, Copy)]
-pub enum Found {
-    At(usize),
-    Nothing,
-}
-
-// What a template meets at a node, and the process once its formals are bound.
-#[derive(Clone, Copy)]
+// What a template meets at a node: the place of a tuple among the node's, and the process once its formals are bound.
+#[derive(Clone, Copy, PartialEq, Eq, Debug)]
 pub struct Matched {
-    pub found: Found,
+    pub found: Option<usize>,
     pub process: Process,
 }
 
@@ -344,7 +337,7 @@ fn fits_stored(i: usize, stored: usize, t: Tuple, e: Evaluated) -> bool
 }
 
 // The oldest tuple of the node that fits: tuples stand oldest first.
-fn oldest(n: Node, e: Evaluated) -> Found
+fn oldest(n: Node, e: Evaluated) -> Option<usize>
     ensures { result ≡ oldest_of n e }
 {
     let mut i = 0;
@@ -352,11 +345,11 @@ fn oldest(n: Node, e: Evaluated) -> Found
         let t = n.tuples[i];
         let good = fits_stored(i, n.stored, t, e);
         if good {
-            return Found::At(i);
+            return Some(i);
         }
         i += 1;
     }
-    Found::Nothing
+    None
 }
 
 // ---- binding: each formal's variable is set to the field that it met
@@ -433,12 +426,12 @@ fn bound_to(n: Node, i: usize, p: Process, e: Evaluated) -> Process
 }
 
 // The process once a tuple was looked for: bound where one was found, unchanged where none was.
-fn bound_found(found: Found, p: Process, n: Node, e: Evaluated) -> Process
+fn bound_found(found: Option<usize>, p: Process, n: Node, e: Evaluated) -> Process
     ensures { result ≡ bound_at found p n e }
 {
     match found {
-        Found::At(i) => bound_to(n, i, p, e),
-        Found::Nothing => p,
+        Some(i) => bound_to(n, i, p, e),
+        None => p,
     }
 }
 

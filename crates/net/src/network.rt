@@ -18,17 +18,16 @@ pub struct Net {
 
 impl Net {
     // The net that a refused image gives.
+    #[tactic(auto, unfolding(crate::specs::Records::empty_net))]
     pub fn empty() -> Net
         ensures { result ≡ empty_net }
     {
-        let node = Node::zero();
-        let instruction = Instruction::zero();
         Net {
             format: 0,
             addresses: 0,
             length: 0,
-            nodes: [node; 16],
-            code: [instruction; 512],
+            nodes: [Node::zero(); 16],
+            code: [Instruction::zero(); 512],
         }
     }
 }

@@ -34,7 +34,7 @@ use Rattle.linking.specs.Source.{Line, definition, process, tuple}
 use Rattle.linking.specs.Compiled.{size_of, placed}
 use Rattle.linking.specs.Counts.{processes_in, tuples_in, counted}
 use Rattle.linking.specs.State.{State, after, entered, unplaced}
-use Rattle.notation.specs.Types.{Step, Locality, Place, Tuple, Process, Node, Changed, Net, Scope}
+use Rattle.notation.specs.Types.{Step, Locality, Place, Tuple, Process, Node, Net, Scope}
 use Rattle.notation.specs.Lines.{definition_line, process_line, tuple_line, placed_line, located_line, line}
 use Rattle.notation.specs.LineProgress.{state, Lined, Slotted, Roomed, Owner, Here, Defined, Tupled, Placed, Located, AnyLined}
 
@@ -147,10 +147,6 @@ lined_as :
     (s : List ℕ) (p q : Step) (m m' : Reader Line) (before behind : State) → run_from s p m ≡ run_from s p m' → Lined s p m before q behind
     → Lined s p m' before q behind
 lined_as s p q m m' before behind e l = record { read = l.read; went = record { went = l.went.went ∙ e }; small = l.small; kept = l.kept }
-
-pub stored_is : (x : Node) (t u : Tuple) (c : Changed) → u ≡ t → c ≡ put_in x u → c.node ≡ with_tuple x t
-unfolding put_in
-stored_is x t u c d e = ap (λ (y : Changed). y.node) e ∙ ap (with_tuple x) d
 
 module _ (s : List ℕ) (p q : Step) (scope : Scope) (b n count : ℕ) (twice twice' : Bool) (a : Locality) (node people : Node) (table table' : List ℕ)
     (uses uses' : List Bool) (starts starts' : List ℕ) (e : b ≡ byte_here s p) where

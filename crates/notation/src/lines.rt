@@ -195,12 +195,11 @@ fn read_tuple_after(s: &[u8], from: Step, scope: Scope, m: usize) -> TupleRead
 }
 
 // The node of address a with a tuple as its newest, which bears that mark.
+#[tactic(auto, using(net::proofs::NodeLaws::put_or))]
 fn stored_in(node: Node, a: Locality, t: Tuple) -> Node
     ensures { result ≡ with_tuple node (marked a t) }
 {
-    let tuple = t.marked(a);
-    let changed = node.put(tuple);
-    changed.node
+    node.put(t.marked(a)).unwrap_or(node)
 }
 
 // A tuple, which is the newest.

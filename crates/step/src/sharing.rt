@@ -43,15 +43,11 @@ fn room_at_all(nodes: [Node; 16], g: Group) -> bool
 }
 
 // The node x at address l with the tuple added as the newest, where that is a member of the set.
+#[tactic(auto, using(net::proofs::NodeLaws::put_or), unfolding(net::specs::Choice::choose))]
 fn given(g: Group, l: Locality, x: Node, t: Tuple) -> Node
     ensures { result ≡ choose (member g l) (with_tuple x t) x }
 {
-    if g.has(l) {
-        let put = x.put(t);
-        put.node
-    } else {
-        x
-    }
+    if g.has(l) { x.put(t).unwrap_or(x) } else { x }
 }
 
 // The nodes with the tuple added at each member.
