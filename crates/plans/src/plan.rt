@@ -212,11 +212,11 @@ fn granted_plan(
         Request::Stop => stop_plan(y),
         Request::Out(_, q) => out_plan(a, p, y, q, e),
         Request::In(_, q) => {
-            let met = match_template(p, y, e);
+            let met = match_template(p, &y, e);
             in_plan(met.process, y, q, met.found)
         }
         Request::Read(_, q) => {
-            let met = match_template(p, y, e);
+            let met = match_template(p, &y, e);
             read_plan(met.process, y, q, met.found)
         }
         Request::Eval(_, sent, q) => eval_plan(a, p, y, sent, q, within),
