@@ -68,6 +68,16 @@ unmet a b y r h p q = sym (when_lt y a b r h p) ∙ q
 pub met : (a b : ℕ) (y r : Bool) → a < b → r ≡ y → r ≡ true → true ≡ implies (ltb a b) y
 met a b y r h p q = sym q ∙ when_lt y a b r h p
 
+-- the same where the condition is what a callee answered
+pub kept : (a y s r : Bool) → s ≡ a → s ≡ true → r ≡ y → r ≡ true → true ≡ implies a y
+kept a y s r p q e f = sym f ∙ when_true r y a (sym p ∙ q) e
+
+pub broken : (a y s r : Bool) → s ≡ a → s ≡ true → r ≡ y → r ≡ false → implies a y ≡ false
+broken a y s r p q e f = sym (when_true r y a (sym p ∙ q) e) ∙ f
+
+pub idle : (a y s : Bool) → s ≡ a → s ≡ false → true ≡ implies a y
+idle a y s p q = when_false y a (sym p ∙ q)
+
 -- two tests that agree at each number below n
 pub all_same : (n : ℕ) (f g : ℕ → Bool) → ((i : ℕ) → i < n → f i ≡ g i) → all n f ≡ all n g
 unfolding all
