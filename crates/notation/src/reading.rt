@@ -40,7 +40,7 @@ fn refuse(n: u8) -> Opened
 fn judge_net(net: Net) -> Opened
     ensures { result ≡ judged_net net }
 {
-    if admitted(net) {
+    if admitted(&net) {
         let answer = Verdict::Accepted;
         Opened { answer, net }
     } else {

@@ -204,8 +204,8 @@ pub fn turn_of(seat: Seat, c: Instruction) -> Turn
 
 // Whether the code that a request of the process p at address a sends keeps within the row that the node y has for it.
 #[tactic(auto, unfolding(crate::specs::Turn::sent_within))]
-fn sent_within(code: [Instruction; 512], a: Locality, p: Process, y: Node, r: Request) -> bool
-    ensures { result ≡ sent_within code a p y r }
+fn sent_within(code: &[Instruction; 512], a: Locality, p: Process, y: Node, r: Request) -> bool
+    ensures { result ≡ sent_within code.now a p y r }
 {
     match r {
         Request::Eval(l, sent, _) => {
@@ -250,13 +250,13 @@ pub fn plan_of(turn: Turn, y: Node, within: bool) -> Plan
 }
 
 // The plan of a turn, with the code that it may send.
-pub fn plan_with(code: [Instruction; 512], turn: Turn, y: Node) -> Plan
-    ensures { result ≡ plan_with code turn y }
+#[tactic(auto, unfolding(crate::specs::Turn::plan_with))]
+pub fn plan_with(code: &[Instruction; 512], turn: Turn, y: Node) -> Plan
+    ensures { result ≡ plan_with code.now turn y }
 {
     let seat = turn.seat;
     let request = turn.request;
-    let host = host_of(seat.pick);
-    let within = sent_within(code, host, seat.process, y, request);
+    let within = sent_within(code, host_of(seat.pick), seat.process, y, request);
     plan_of(turn, y, within)
 }
 
