@@ -80,8 +80,8 @@ pub fn visit(marks: &mut [bool], waiting: &mut [u16], count: usize, action: Acti
     left
 }
 
-// The places reached from a place. Each is marked and put to wait when it is first met, so it waits once at most and 512
-// places are room enough.
+// The places reached from a place. Each is marked and put to wait when it is first met, so it waits once at most and
+// 512 places are room enough.
 pub fn reached(code: &[Instruction; 512], p: Place) -> [bool; 512]
     ensures { result ≡ reached_of code.now p }
 {

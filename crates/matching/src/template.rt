@@ -26,8 +26,8 @@ pub struct Wanted {
 }
 
 // An evaluated template. `defined` says that every variable whose value it needs was set.
-// Kept: `defined` beside the wants: an eval and a new ask for no defined template (`asked` of plans), and `evaluated_of`
-// gives the wants in either case (`lean_code`, TemplateLaws).
+// Kept: `defined` beside the wants: an eval and a new ask for no defined template (`asked` of plans), and
+// `evaluated_of` gives the wants in either case (`lean_code`, TemplateLaws).
 #[derive(Clone, Copy, PartialEq, Eq, Debug)]
 pub struct Evaluated {
     pub defined: bool,
@@ -163,6 +163,7 @@ fn fits(t: Tuple, e: Evaluated) -> bool
     true
 }
 
+// Kept: an index, which the edit `youngest_tuple` turns round.
 // The oldest tuple of the node that fits: tuples stand oldest first.
 fn oldest(n: &Node, e: Evaluated) -> Option<usize>
     ensures value { result ≡ oldest_of n.now e }

@@ -45,6 +45,7 @@ pub enum Action {
 
 // An action with the `count` template fields of an out, to one or to all of a set, an in or a read; the fields past them
 // are zero.
+// Kept: `count` beside the template: no heap, and `pick` answers for nets whose fields past it are not zero.
 #[derive(Clone, Copy, PartialEq, Eq, Debug)]
 pub struct Instruction {
     pub action: Action,

@@ -7,6 +7,7 @@ use crate::node::Node;
 
 // `addresses` nodes are in use and `length` instructions are code; the records past them are zero. In format 1 a node's
 // rows are all alike; in format 2 it has one for each origin.
+// Kept: the counts beside the arrays: no heap, and `pick` answers for nets whose records past them are not zero.
 #[derive(Clone, Copy, PartialEq, Eq, Debug)]
 pub struct Net {
     pub format: usize,

@@ -9,6 +9,7 @@ use crate::process::Process;
 use crate::tuple::Tuple;
 
 // A node: its policy, which is a row for each origin, its process slots and its tuple space, oldest tuple first.
+// Kept: `stored` beside the tuples: no heap, and `pick` answers for nets whose tuples past it are not zero.
 #[derive(Clone, Copy, PartialEq, Eq, Debug)]
 pub struct Node {
     pub rows: [Row; 16],
@@ -91,6 +92,7 @@ impl Node {
         Node { rows, ..self }
     }
 
+    // Kept: a twin of `with_rights` of rows: each is one guarded store into its own record.
     // The node with another row for an origin, or as it was past the last one.
     #[tactic(auto, unfolding(crate::specs::Records::with_row, crate::specs::Records::with_rows))]
     pub fn with_row(mut self, o: Locality, row: Row) -> Node
@@ -132,6 +134,7 @@ impl Node {
         node
     }
 
+    // Kept: a loop for `position`: tried, and the chain's result did not come out at the goal `returns`.
     // The lowest free slot.
     fn free_slot(self) -> Option<usize>
         ensures { result ≡ free_slot self }

@@ -31,6 +31,7 @@ pub struct Field {
 
 // A tuple of `count` fields; the fields past them are zero. `mark` is the address of the node where its out was performed; an
 // image's tuples have that of their own node (document 02, slip 8).
+// Kept: `count` beside the fields: no heap, and `pick` answers for nets whose fields past it are not zero.
 #[derive(Clone, Copy, PartialEq, Eq, Debug)]
 pub struct Tuple {
     pub count: usize,
@@ -82,6 +83,7 @@ impl Tuple {
         Tuple { mark: a, ..self }
     }
 
+    // Kept: a twin of `with_pattern`: one function over both records would take the array and the count apart.
     // The tuple with one field more, or as it was where it has four.
     #[tactic(auto, unfolding(crate::specs::Records::with_field, crate::specs::Choice::choose))]
     pub fn with_field(mut self, f: Field) -> Tuple

@@ -125,6 +125,7 @@ fn in_plan(p: Process, y: Node, q: Place, found: Option<usize>) -> Plan
     }
 }
 
+// Kept: a twin of `in_plan`: only the arm of a tuple that is found differs, and it is one line.
 #[tactic(auto, unfolding(crate::specs::Plan::read_plan))]
 fn read_plan(p: Process, y: Node, q: Place, found: Option<usize>) -> Plan
     ensures { result ≡ read_plan p y q found }
@@ -155,7 +156,8 @@ fn eval_plan(a: Locality, p: Process, y: Node, sent: Place, q: Place, within: bo
     }
 }
 
-// A new address l, opened in a net of format f by a process p hosted at the node x of address a: p holds it in its variable v.
+// A new address l, opened in a net of format f by a process p hosted at the node x of address a: p holds it in its
+// variable v.
 #[tactic(auto, unfolding(crate::specs::Plan::opening))]
 fn open_plan(f: usize, a: Locality, p: Process, x: Node, v: u8, q: Place, l: Locality) -> Plan
     ensures { result ≡ opening f a p x v q l }
