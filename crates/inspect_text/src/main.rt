@@ -12,6 +12,7 @@ use files::{Failure, print, read_next, take_turns};
 use notation::reading::{Verdict, read_text};
 
 // The answer's number in document 01, "The planners' notation".
+#[tactic(auto, unfolding(notation::specs::Text::number_of))]
 fn number_of(answer: Verdict) -> u8
     ensures { result ≡ number_of answer }
 {
