@@ -27,6 +27,7 @@ pub(crate) trait Dump {
 }
 
 // All elements, one after another.
+// Kept, here and in `replay`: what writes and what reads go over an array alike, and share no trait.
 impl<T: Dump, const N: usize> Dump for [T; N] {
     fn dump<S: Sink>(&self, sink: &mut S) {
         for x in self {

@@ -74,6 +74,7 @@ fn without_creation(mut net: Net) -> Net {
 }
 
 // The line of a first pick of address 0, slot 0.
+// Kept: what is printed of all other answers is one word, so that no number serves.
 fn line_of(answer: Answer) -> &'static [u8] {
     match answer {
         Answer::NoRight => b"pick 1 0 0 4\n",

@@ -20,6 +20,7 @@ fn answer(rt: &HostRuntime, image: &[u8]) -> Result<(), Failure> {
     print(rt, &out)
 }
 
+// Kept, here and in `inspect_text`: two lines, which one function that takes the answerer would make no plainer.
 // Reads one image and writes what is made of it; fails at the end of the input.
 fn take_turn(rt: &HostRuntime) -> Result<(), Failure> {
     let mut image = [0u8; 65535];

@@ -8,6 +8,7 @@ use image::reader::LONGEST_IMAGE;
 use printing::print_register;
 use registers::register::named_register;
 
+// Kept, here and in `register_text`: what they share is `print_register`; the file, its room and the call are left.
 // Reads the files, each of which is named where it cannot be read, and prints the register.
 fn run(rt: &HostRuntime) -> Result<(), Failure> {
     let mut buffer = [0u8; LONGEST_IMAGE + 1];

@@ -34,7 +34,7 @@ fn make_picks(rt: &HostRuntime, mut net: Net, picks: &[u8]) -> Result<Net, Failu
     Ok(net)
 }
 
-// Its frame is no part of that of the picks before.
+// Kept, here and in `poll`: `dump` knows no streams. Its frame is no part of that of the picks before.
 #[inline(never)]
 fn write_net(rt: &HostRuntime, net: &Net) -> Result<(), Failure> {
     let mut out = [0u8; 27668];

@@ -39,6 +39,8 @@ fn unpack(rt: &HostRuntime, image: &[u8]) -> Result<(), Failure> {
     }
 }
 
+// Kept, here, in `repack` and in `pack`: two lines, of which a shared function would take the name, the room and the
+// work.
 // Reads the file, which is named where it cannot be read, and prints the text.
 fn run(rt: &HostRuntime) -> Result<(), Failure> {
     let mut image = [0u8; LONGEST_IMAGE + 1];
