@@ -6,30 +6,20 @@
 #![tactic(auto)]
 
 use check::same;
-use files::{argument, is_given, print, print_first, read_file, say};
+use files::{Failure, argument, is_given, print, read_file, say};
 use image::reader::LONGEST_IMAGE;
-use listing::checking::{Age, Checked, LONGEST_LISTING, check_listing, line_of, number_of};
-use text::decimal::{put_decimal, put_marked};
-use text::writing::put;
+use listing::checking::{Age, LONGEST_LISTING, Mismatch, check_listing, line_of, number_of};
+use std::fmt::InlineText;
 
-// Prints a number and a line.
-fn print_fault(rt: &HostRuntime, number: usize, i: usize) {
-    let mut line = [0u8; 48];
-    let first = put_decimal(&mut line, 0, number);
-    let second = put_marked(&mut line, first, 32, i);
-    let end = put(&mut line, second, 10);
-    print_first(rt, &line, end);
-}
-
-// Prints an answer.
-fn print_checked(rt: &HostRuntime, checked: Checked) {
+// Prints an answer: 0, or a number and a line.
+fn print_checked(rt: &HostRuntime, checked: Result<(), Mismatch>) -> Result<(), Failure> {
     let number = number_of(checked);
     if number == 0 {
-        print(rt, b"0\n");
-    } else {
-        let i = line_of(checked);
-        print_fault(rt, number, i);
+        return print(rt, b"0\n");
     }
+    let i = line_of(checked);
+    let line = InlineText::<48>::of(format_args!("{number} {i}\n"));
+    print(rt, line.as_str().as_bytes())
 }
 
 // Room for what is read of a listing.
@@ -37,46 +27,42 @@ fn listing_room() -> [u8; LONGEST_LISTING + 1] {
     [0; LONGEST_LISTING + 1]
 }
 
-// Reads the files, and checks the listing.
-fn check_files(rt: &HostRuntime, age: Age) {
+// Reads the files, each of which is named where it cannot be read, and checks the listing.
+fn check_files(rt: &HostRuntime, age: Age) -> Result<(), Failure> {
     let mut image = [0u8; LONGEST_IMAGE + 1];
     let mut picks = [0u8; 65536];
     let mut text = listing_room();
     let net = read_file(rt, b"net.bin", &mut image);
     let list = read_file(rt, b"picks.bin", &mut picks);
     let listing = read_file(rt, b"listing.txt", &mut text);
-    if net.failed || list.failed || listing.failed {
-        return;
-    }
-    let n = net.count;
-    let k = list.count;
-    let m = listing.count;
-    let checked = check_listing(&image[..n], &picks[..k], &text[..m], age);
-    print_checked(rt, checked);
+    print_checked(rt, check_listing(net?, list?, listing?, age))
 }
 
-// Goes by what the argument calls the listing.
-fn check_called(rt: &HostRuntime, word: &[u8]) {
+// The age that a word means.
+fn age_of(word: &[u8]) -> Option<Age> {
     if same(word, b"old") {
-        check_files(rt, Age::Old);
+        Some(Age::Old)
     } else if same(word, b"new") {
-        check_files(rt, Age::New);
+        Some(Age::New)
     } else {
-        say(rt, b"check_listing takes one argument, old or new\n");
+        None
     }
 }
 
-// Goes by the one argument; one of more than four bytes counts as none.
-fn check_argument(rt: &HostRuntime) {
+// The age that the one argument names; one of more than four bytes counts as none.
+fn age_given(rt: &HostRuntime) -> Option<Age> {
+    if is_given(rt, 2) {
+        return None;
+    }
     let mut word = [0u8; 4];
-    let n = argument(rt, 1, &mut word);
-    check_called(rt, &word[..n]);
+    age_of(argument(rt, 1, &mut word).ok()?)
 }
 
+// What fails is named where it does, and the status stays 0.
 fn main(rt: HostRuntime) {
-    if is_given(&rt, 1) && !is_given(&rt, 2) {
-        check_argument(&rt);
-    } else {
-        check_called(&rt, b"");
-    }
+    let Some(age) = age_given(&rt) else {
+        say(&rt, b"check_listing takes one argument, old or new\n");
+        return;
+    };
+    let _ = check_files(&rt, age);
 }

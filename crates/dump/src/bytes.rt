@@ -1,58 +1,71 @@
-// Numbers put into a buffer, little-endian. Each function puts at `at` and gives the place after what it
-// put; what does not fit is left off.
-use text::signed::complement;
+// What records are dumped as: bytes, one after another. Numbers are little-endian.
 
-pub fn put(out: &mut [u8], at: usize, b: u8) -> usize {
-    if at < out.len() {
-        out[at] = b;
-        at + 1
-    } else {
-        at
+// What takes bytes.
+pub(crate) trait Sink {
+    fn put(&mut self, b: u8);
+}
+
+// A lent buffer, and the place of the next byte in it; what does not fit is left off.
+#[derive(Drop)]
+pub(crate) struct Room<'a> {
+    pub out: &'a mut [u8],
+    pub at: usize,
+}
+
+impl Sink for Room<'_> {
+    fn put(&mut self, b: u8) {
+        if self.at < self.out.len() {
+            self.out[self.at] = b;
+            self.at += 1;
+        }
     }
 }
 
-pub fn put_flag(out: &mut [u8], at: usize, flag: bool) -> usize {
-    if flag {
-        put(out, at, 1)
-    } else {
-        put(out, at, 0)
+// What can be dumped.
+pub(crate) trait Dump {
+    fn dump<S: Sink>(&self, sink: &mut S);
+}
+
+// All elements, one after another.
+// Kept, here and in `replay`: what writes and what reads go over an array alike, and share no trait.
+impl<T: Dump, const N: usize> Dump for [T; N] {
+    fn dump<S: Sink>(&self, sink: &mut S) {
+        for x in self {
+            x.dump(sink);
+        }
+    }
+}
+
+impl Dump for u8 {
+    fn dump<S: Sink>(&self, sink: &mut S) {
+        sink.put(*self);
+    }
+}
+
+impl Dump for bool {
+    fn dump<S: Sink>(&self, sink: &mut S) {
+        u8::from(*self).dump(sink);
+    }
+}
+
+impl Dump for u16 {
+    fn dump<S: Sink>(&self, sink: &mut S) {
+        self.to_le_bytes().dump(sink);
     }
 }
 
 // A count in one byte: its remainder by 256.
-pub fn put_count(out: &mut [u8], at: usize, n: usize) -> usize {
-    let low = (n % 256) as u8;
-    put(out, at, low)
+pub(crate) fn low_byte(n: usize) -> u8 {
+    (n % 256) as u8
 }
 
-pub fn put_two(out: &mut [u8], at: usize, x: u16) -> usize {
-    let low = (x % 256) as u8;
-    let high = (x / 256) as u8;
-    let next = put(out, at, low);
-    put(out, next, high)
+// A kind in one byte, then a value of four.
+pub(crate) fn dump_kind<S: Sink>(kind: u8, value: [u8; 4], sink: &mut S) {
+    kind.dump(sink);
+    value.dump(sink);
 }
 
-pub fn put_four(out: &mut [u8], at: usize, x: u32) -> usize {
-    let low = (x % 65536) as u16;
-    let high = (x / 65536) as u16;
-    let next = put_two(out, at, low);
-    put_two(out, next, high)
-}
-
-pub fn put_eight(out: &mut [u8], at: usize, x: u64) -> usize {
-    let low = (x % 4294967296) as u32;
-    let high = (x / 4294967296) as u32;
-    let next = put_four(out, at, low);
-    put_four(out, next, high)
-}
-
-// A kind in one byte, then a number in four.
-pub fn put_kind(out: &mut [u8], at: usize, kind: u8, value: u32) -> usize {
-    let next = put(out, at, kind);
-    put_four(out, next, value)
-}
-
-pub fn put_reading(out: &mut [u8], at: usize, kind: u8, x: i32) -> usize {
-    let value = complement(x);
-    put_kind(out, at, kind, value)
+// A kind, then a value of one byte in four.
+pub(crate) fn dump_small<S: Sink>(kind: u8, value: u8, sink: &mut S) {
+    dump_kind(kind, [value, 0, 0, 0], sink);
 }

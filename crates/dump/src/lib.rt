@@ -31,50 +31,26 @@
 // first 12,820 are the format, the counts and the nodes.
 #![tactic(auto)]
 
-use crate::bytes::{put_count, put_two};
-use crate::code::put_instruction;
-use crate::nodes::put_node;
+use crate::bytes::{Dump, Room, Sink, low_byte};
 use net::network::Net;
 
-pub mod bytes;
+mod bytes;
 mod code;
 pub mod digest;
 mod nodes;
-pub mod taken;
-
-fn put_nodes(out: &mut [u8], at: usize, net: Net) -> usize {
-    let mut next = at;
-    let mut i = 0;
-    while i < 16 {
-        let node = net.nodes[i];
-        next = put_node(out, next, node);
-        i += 1;
-    }
-    next
-}
-
-fn put_code(out: &mut [u8], at: usize, net: Net) -> usize {
-    let mut next = at;
-    let mut i = 0;
-    while i < 512 {
-        let instruction = net.code[i];
-        next = put_instruction(out, next, instruction);
-        i += 1;
-    }
-    next
-}
 
 // The format, the counts and the nodes: all that is not code.
-pub fn put_state(out: &mut [u8], at: usize, net: Net) -> usize {
-    let formed = put_count(out, at, net.format);
-    let counted = put_count(out, formed, net.addresses);
+fn dump_state<S: Sink>(net: &Net, sink: &mut S) {
     let length = (net.length % 65536) as u16;
-    let measured = put_two(out, counted, length);
-    put_nodes(out, measured, net)
+    low_byte(net.format).dump(sink);
+    low_byte(net.addresses).dump(sink);
+    length.dump(sink);
+    net.nodes.dump(sink);
 }
 
-// The whole net at a place; gives the place after it.
-pub fn put_net(out: &mut [u8], at: usize, net: Net) -> usize {
-    let peopled = put_state(out, at, net);
-    put_code(out, peopled, net)
+// Puts the whole net at the start of a buffer.
+pub fn put_net(out: &mut [u8], net: &Net) {
+    let mut room = Room { out, at: 0 };
+    dump_state(net, &mut room);
+    net.code.dump(&mut room);
 }

@@ -4,106 +4,68 @@
 // empty; where one cannot be read, nothing is printed.
 #![tactic(auto)]
 
-ghost use Rattle.std.specs.Prelude.{◌≤◌};
-
-use files::{print, print_first, read_file, say};
+use files::{Failure, print, print_first, read_file, say};
 use image::reader::{LONGEST_IMAGE, read_image};
 use net::network::Net;
 use plans::answer::Answer;
 use registers::register::{Registered, register};
 use step::machine::Machine;
 
-// The number that two bytes write, lower first.
-fn number_of(low: u8, high: u8) -> usize
-    ensures { result ≤ 65535 }
-{
-    let units = low as usize;
-    let rest = high as usize;
-    units + rest * 256
-}
-
-// The length that the two bytes at a place write; 0 past the end.
-fn length_at(edges: &[u8], at: usize) -> usize
-    ensures { result ≤ 65535 }
-{
-    if at < edges.len() {
-        if at + 1 < edges.len() {
-            return number_of(edges[at], edges[at + 1]);
+// The first part of a list, which stands after its length in two bytes, lower first, and what follows it. Both are empty
+// where the list is cut short.
+fn split_part(list: &[u8]) -> (&[u8], &[u8]) {
+    if let [low, high, rest @ ..] = list {
+        let n = u16::from_le_bytes([*low, *high]) as usize;
+        if n <= rest.len() {
+            return rest.split_at(n);
         }
     }
-    0
+    (&[], &[])
 }
 
-// The part that starts at a place; an empty one where there is none.
-fn part_at(edges: &[u8], at: usize) -> &[u8] {
-    let n = length_at(edges, at);
-    if at < edges.len() {
-        let left = edges.len() - at;
-        if n + 2 <= left {
-            let from = at + 2;
-            return &edges[from..from + n];
-        }
-    }
-    &edges[..0]
-}
-
-// The place after it.
-fn after(edges: &[u8], at: usize) -> usize {
-    let n = length_at(edges, at);
-    if at < edges.len() {
-        let left = edges.len() - at;
-        if n + 2 <= left {
-            return at + 2 + n;
-        }
-    }
-    edges.len()
-}
-
-// Prints the register of an image and its picks; false where that fails.
+// Prints the register of an image and its picks.
 #[inline(never)]
-fn print_register(rt: &HostRuntime, image: &[u8], picks: &[u8]) -> bool {
+fn print_register(rt: &HostRuntime, image: &[u8], picks: &[u8]) -> Result<(), Failure> {
     let mut out = [0u8; 65536];
-    let written = register(image, picks, &mut out);
-    match written {
+    match register(image, picks, &mut out) {
         Registered::Written(n) => print_first(rt, &out, n),
         Registered::NoRoom => {
             say(rt, b"no room for a register\n");
-            false
+            Err(Failure::Short)
         }
     }
 }
 
-// Prints the edge that starts at a place; false where that fails.
-fn print_edge(rt: &HostRuntime, edges: &[u8], at: usize) -> bool {
-    let image = after(edges, at);
-    let picks = after(edges, image);
-    print(rt, b"edge ")
-        && print(rt, part_at(edges, at))
-        && print(rt, b"\n")
-        && print_register(rt, part_at(edges, image), part_at(edges, picks))
+// Prints the first edge of a list, and gives the others.
+fn print_edge<'a>(rt: &HostRuntime, list: &'a [u8]) -> Result<&'a [u8], Failure> {
+    let (name, after) = split_part(list);
+    let (image, last) = split_part(after);
+    let (picks, others) = split_part(last);
+    print(rt, b"edge ")?;
+    print(rt, name)?;
+    print(rt, b"\n")?;
+    print_register(rt, image, picks)?;
+    Ok(others)
 }
 
-// The place after the edge that starts at a place.
-fn after_edge(edges: &[u8], at: usize) -> usize {
-    let image = after(edges, at);
-    let picks = after(edges, image);
-    after(edges, picks)
-}
-
-// Prints each edge; false where that fails. No list has so many that the turns run out.
-fn print_edges(rt: &HostRuntime, edges: &[u8]) -> bool {
-    let mut at = 0;
-    let mut turns = 1000usize;
-    while turns > 0 && at < edges.len() && print_edge(rt, edges, at) {
-        at = after_edge(edges, at);
-        turns -= 1;
+// Prints each edge. No list has so many that the turns run out.
+fn print_edges(rt: &HostRuntime, list: &[u8]) -> Result<(), Failure> {
+    let mut left = list;
+    for _ in 0..1000 {
+        if left.is_empty() {
+            return Ok(());
+        }
+        left = print_edge(rt, left)?;
     }
-    at >= edges.len()
+    if left.is_empty() {
+        Ok(())
+    } else {
+        Err(Failure::TooLong)
+    }
 }
 
 // The net, of format 1, without the right to create at address 0, which no pick takes away.
-fn without_creation(start: Net) -> Net {
-    let mut net = start;
+fn without_creation(mut net: Net) -> Net {
     let node = net.nodes[0];
     let mut row = node.rows[0];
     row.create = false;
@@ -111,37 +73,37 @@ fn without_creation(start: Net) -> Net {
     net
 }
 
-// Prints the line of a first pick of address 0, slot 0.
-fn print_answer(rt: &HostRuntime, answer: Answer) -> bool {
+// The line of a first pick of address 0, slot 0.
+// Kept: what is printed of all other answers is one word, so that no number serves.
+fn line_of(answer: Answer) -> &'static [u8] {
     match answer {
-        Answer::NoRight => print(rt, b"pick 1 0 0 4\n"),
-        Answer::NoRoom => print(rt, b"pick 1 0 0 3\n"),
-        _ => print(rt, b"pick 1 0 0 other\n"),
+        Answer::NoRight => b"pick 1 0 0 4\n",
+        Answer::NoRoom => b"pick 1 0 0 3\n",
+        _ => b"pick 1 0 0 other\n",
     }
 }
 
 // Prints what such a pick is answered in a net that no image gives. Its frame is no part of that of the edges before.
 #[inline(never)]
-fn print_barred(rt: &HostRuntime, image: &[u8]) -> bool {
-    let opened = read_image(image);
-    let net = without_creation(opened.net);
-    let machine = Machine { net };
-    let picked = machine.pick(0);
-    let answer = picked.answer;
-    print(rt, b"edge creation at 16 addresses, n withdrawn\n") && print_answer(rt, answer)
+fn print_barred(rt: &HostRuntime, image: &[u8]) -> Result<(), Failure> {
+    let net = without_creation(read_image(image).net);
+    let picked = Machine { net }.pick(0);
+    print(rt, b"edge creation at 16 addresses, n withdrawn\n")?;
+    print(rt, line_of(picked.answer))
 }
 
-fn main(rt: HostRuntime) {
+// Reads the files, each of which is named where it cannot be read, and prints the edges.
+fn run(rt: &HostRuntime) -> Result<(), Failure> {
     let mut edges = [0u8; 65536];
     let mut image = [0u8; LONGEST_IMAGE + 1];
-    let list = read_file(&rt, b"edges.bin", &mut edges);
-    let barred = read_file(&rt, b"creation.bin", &mut image);
-    if list.failed || barred.failed {
-        return;
-    }
-    let n = list.count;
-    let k = barred.count;
-    if print_edges(&rt, &edges[..n]) {
-        print_barred(&rt, &image[..k]);
-    }
+    let list = read_file(rt, b"edges.bin", &mut edges);
+    let barred = read_file(rt, b"creation.bin", &mut image);
+    let (list, barred) = (list?, barred?);
+    print_edges(rt, list)?;
+    print_barred(rt, barred)
+}
+
+// What fails is named where it does, and the status stays 0.
+fn main(rt: HostRuntime) {
+    let _ = run(&rt);
 }

@@ -1,5 +1,7 @@
 // The public calls of `image`, `run` and `registers` for programs in other languages: numbers and byte slices alone. include/cavindorum.h
 // declares them for C.
+// Kept: the C interface. The calls give numbers, take a buffer for what they write, and stand once for images and once
+// for texts.
 #![tactic(auto)]
 
 ghost use Rattle.std.specs.Prelude.{◌≡◌, length};

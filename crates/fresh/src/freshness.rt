@@ -124,6 +124,6 @@ pub fn is_fresh(net: Net) -> bool
 {
     let ordered = sound(net);
     let starting = nodes_start(net);
-    let within = admitted(net);
+    let within = admitted(&net);
     ordered & (starting & within)
 }

@@ -31,7 +31,7 @@ fn read_entry(
     ensures { Went (seen s.now) from (entry k code a x slot tt) result tt }
 {
     let p = x.processes[slot];
-    let ok = admits_process(code, x, a, p);
+    let ok = admits_process(&code, &x, a, p);
     let got = read_place(s, from, k);
     let read = got.next;
     require_in(read, got.at, 9, ok, 30)

@@ -8,10 +8,12 @@ ghost use Rattle.std.specs.Prelude.{◌≡◌};
 ghost use Rattle.notation.specs.Text.{number_of};
 
 use dump::put_net;
-use files::{print, read_next};
+use files::{Failure, print, read_next, take_turns};
 use notation::reading::{Verdict, read_text};
 
+// Kept, here and in `poll`: a number is what a test tool writes of a refusal.
 // The answer's number in document 01, "The planners' notation".
+#[tactic(auto, unfolding(notation::specs::Text::number_of))]
 fn number_of(answer: Verdict) -> u8
     ensures { result ≡ number_of answer }
 {
@@ -21,30 +23,21 @@ fn number_of(answer: Verdict) -> u8
     }
 }
 
-// Writes what is made of one text; false where that fails.
-fn answer(rt: &HostRuntime, text: &[u8]) -> bool {
+// Writes what is made of one text.
+fn answer(rt: &HostRuntime, text: &[u8]) -> Result<(), Failure> {
     let opened = read_text(text);
-    let answer = opened.answer;
-    let net = opened.net;
     let mut out = [0u8; 27669];
-    out[0] = number_of(answer);
-    put_net(&mut out, 1, net);
+    out[0] = number_of(opened.answer);
+    put_net(&mut out[1..], &opened.net);
     print(rt, &out)
 }
 
-// Reads one text and writes what is made of it; false at the end of the input.
-fn take_turn(rt: &HostRuntime) -> bool {
+// Reads one text and writes what is made of it; fails at the end of the input.
+fn take_turn(rt: &HostRuntime) -> Result<(), Failure> {
     let mut text = [0u8; 65535];
-    let next = read_next(rt, &mut text);
-    let n = next.count;
-    !next.failed && answer(rt, &text[..n])
+    answer(rt, read_next(rt, &mut text)?)
 }
 
-// A proved loop has to end, and nothing says that the input does: no run uses up these turns.
 fn main(rt: HostRuntime) {
-    for _ in 0..u64::MAX {
-        if !take_turn(&rt) {
-            break;
-        }
-    }
+    take_turns(&rt, take_turn);
 }

@@ -1,11 +1,23 @@
--- Describes the code, and is no part of what a reader has to believe: the locals of the loop over reached places, the places at
--- which it goes on from the one that it visits, and one visit.
+-- Describes the code, and is no part of what a reader has to believe: a right by its name, the locals of the loop over reached
+-- places, the places at which it goes on from the one that it visits, and one visit.
 pub use Rattle.keeping.specs.declared.reaching.Onward.{Onward}
+pub use Rattle.keeping.specs.declared.rights.Right.{Right}
 use Rattle.std.specs.Prelude.{ℕ, zero, suc, ◌+◌, ◌-◌, ◌<◌, ◌≤◌, ◌≡◌, Bool, true, false, List, [], ◌∷◌, get_or, length, ltb}
 use Rattle.net.specs.Choice.{choose}
 use Rattle.net.specs.Records.{place_of}
-use Rattle.keeping.specs.Types.{Place, Action}
+use Rattle.keeping.specs.Types.{Locality, Place, Row, Action}
+use Rattle.keeping.specs.Keeping.{may_take, may_read, may_put, may_send}
 use Rattle.keeping.specs.Reaching.{Search, meet, meet_all, followers}
+
+-- ---- a right by its name
+
+unfoldable pub grants : Row → Right → Locality → Bool
+grants r Right.Take = may_take r
+grants r Right.Read = may_read r
+grants r Right.Put = may_put r
+grants r Right.Send = may_send r
+
+-- ---- places
 
 -- the place q, or p where q is past the code
 unfoldable pub low_or : Place → Place → Place

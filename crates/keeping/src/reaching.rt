@@ -9,27 +9,29 @@ use net::locality::Place;
 
 // The places that follow an action, each below 512. Where there is no first or no second one, or none below 512,
 // the place of the action itself stands for it.
-#[derive(Clone, Copy)]
+#[derive(Clone, Copy, PartialEq, Eq, Debug)]
 pub struct Onward {
     pub first: Place,
     pub second: Place,
 }
 
 // The place q, or p where no instruction stands at q.
+#[tactic(auto, unfolding(crate::specs::Worklist::low_or, net::specs::Choice::choose))]
 fn low_or(q: Place, p: Place) -> Place
     ensures { result ≡ low_or q p }
 {
-    let at = q.0 as usize;
-    if at < 512 { q } else { p }
+    if (q.0 as usize) < 512 { q } else { p }
 }
 
 // From place p on to the places q and s.
+#[tactic(auto, unfolding(crate::specs::Worklist::onward_to))]
 fn on_to(p: Place, q: Place, s: Place) -> Onward
     ensures { result ≡ onward_to p q s }
 {
-    let first = low_or(q, p);
-    let second = low_or(s, p);
-    Onward { first, second }
+    Onward {
+        first: low_or(q, p),
+        second: low_or(s, p),
+    }
 }
 
 // The places that follow an action at place p. The sent place of an eval does not.
@@ -78,9 +80,10 @@ pub fn visit(marks: &mut [bool], waiting: &mut [u16], count: usize, action: Acti
     left
 }
 
-// The places reached from a place: the search of `keeps` without its judgement.
-pub fn reached(code: [Instruction; 512], p: Place) -> [bool; 512]
-    ensures { result ≡ reached_of code p }
+// The places reached from a place. Each is marked and put to wait when it is first met, so it waits once at most and
+// 512 places are room enough.
+pub fn reached(code: &[Instruction; 512], p: Place) -> [bool; 512]
+    ensures { result ≡ reached_of code.now p }
 {
     let mut marks = [false; 512];
     let start = p.0 as usize;
@@ -91,11 +94,8 @@ pub fn reached(code: [Instruction; 512], p: Place) -> [bool; 512]
     let mut count: usize = 1;
     marks[start] = true;
     while 0 < count {
-        let top = count - 1;
-        let at = waiting[top] as usize;
-        let instruction = code[at];
-        let action = instruction.action;
-        count = visit(&mut marks, &mut waiting, count, action);
+        let at = waiting[count - 1] as usize;
+        count = visit(&mut marks, &mut waiting, count, code[at].action);
     }
     marks
 }

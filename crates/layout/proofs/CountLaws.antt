@@ -1,4 +1,5 @@
 -- The counts of a sound net are within its arrays (`specs/Counts.antt`). Assumes nothing.
+use Rattle.std.proofs.Common.{length, take, get_or, sym, subst}
 use Prim.Native.Nat.{ℕ, ◌<◌, ◌≤◌}
 use mathlib.Core.Path.{◌≡◌}
 use mathlib.Core.Bool.{true}
@@ -14,6 +15,7 @@ use Rattle.sound.proofs.NodeChanges.{zero_node_law}
 use Rattle.sound.proofs.CodeFacts.{InstructionOk, instruction_each}
 use Rattle.sound.proofs.NetFacts.{sound_apart}
 use Rattle.sound.proofs.NetChanges.{zero_instruction_law}
+use Rattle.layout.proofs.PartLaws.{inside, taken}
 
 few_none : zero_tuple.count ≤ 4
 unfolding zero_tuple
@@ -50,6 +52,31 @@ counts_of s shape h =
           filled_each {Q = λ (c : Instruction). c.count ≤ 4} ok.code_ok (instruction_few f n k)
           (of_zero (λ (c : Instruction). c.count ≤ 4) (instruction_few f n k _ (zero_instruction_law f n k))) p.0;
     }
+
+-- ---- the elements that the code writes: the first ones of an array
+pub first_node :
+    (s : Net) (i : ℕ) (e : Node) → Counts s → i < length (take s.addresses s.nodes)
+    → NodeCounts (get_or (take s.addresses s.nodes) i e)
+unfolding node_at
+first_node s i e h l =
+    let few : NodeCounts (node_at s (address_of i)) = h.nodes_few (address_of i) (omega (arith, h.addresses_few, inside s.nodes i s.addresses l)) in
+    subst NodeCounts (sym (taken s.nodes i s.addresses l e _)) few
+
+pub first_code :
+    (s : Net) (i : ℕ) (e : Instruction) → Counts s → i < length (take s.length s.code)
+    → (get_or (take s.length s.code) i e).count ≤ 4
+unfolding instruction_at
+first_code s i e h l =
+    let few : (instruction_at s.code (place_of i)).count ≤ 4 = h.code_few (place_of i) (omega (arith, h.length_few, inside s.code i s.length l)) in
+    subst (λ (c : Instruction). c.count ≤ 4) (sym (taken s.code i s.length l e _)) few
+
+pub first_fields :
+    (x : Node) (i : ℕ) (e : Tuple) → NodeCounts x → i < length (take x.stored x.tuples)
+    → (get_or (take x.stored x.tuples) i e).count ≤ 4
+unfolding tuple_at
+first_fields x i e h l =
+    let few : (tuple_at x i).count ≤ 4 = h.fields_few i (omega (arith, h.stored_few, inside x.tuples i x.stored l)) in
+    subst (λ (t : Tuple). t.count ≤ 4) (sym (taken x.tuples i x.stored l e _)) few
 
 -- ---- as the code uses them
 pub few_node : (s : Net) (a n : ℕ) → Counts s → a < n → n ≤ 16 → NodeCounts (node_at s (address_of a))

@@ -1,3 +1,4 @@
 pub mod CountLaws
 pub mod NumberLaws
+pub mod PartLaws
 pub mod RowLaws

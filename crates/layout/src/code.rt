@@ -1,173 +1,109 @@
 // What an image writes of the code (document 01, "The image", 5; document 02, slip 11).
-ghost use Rattle.std.specs.Prelude.{◌≤◌, ◌++◌};
-ghost use Rattle.net.specs.Records.{pattern_at};
-ghost use Rattle.written.specs.ImageOf.{bits_of, place_bits, variable_bits, reading_bits, target_bits, pattern_bits};
-ghost use Rattle.text.specs.Joined.{joined};
-ghost use Rattle.written.specs.ImageOf.{template_bits, action_bits, instruction_bits, code_bits};
+#![tactic(auto, using(text::proofs::WriterLaws::writing), unfolding(written::specs::ImageOf::address_bits, written::specs::ImageOf::variable_bits, written::specs::ImageOf::target_bits, written::specs::ImageOf::pattern_bits, written::specs::ImageOf::template_bits, written::specs::ImageOf::action_bits, written::specs::ImageOf::instruction_bits, written::specs::ImageOf::code_bits))]
+
+ghost use Rattle.std.specs.Prelude.{◌≡◌, ◌≤◌, ◌++◌};
 ghost use Rattle.layout.specs.Counts.{Counts};
-ghost use Rattle.text.specs.Writing.{Wrote};
+ghost use Rattle.text.specs.Writer.{after};
+ghost use Rattle.written.specs.ImageOf.{bits_of, place_bits, target_bits, pattern_bits, template_bits, instruction_bits, code_bits};
 
 use crate::bits::{put_number, put_pair};
-use crate::fields::{one_less, put_place, put_reading, put_variable};
+use crate::fields::{put_place, put_reading, put_variable};
 use net::instruction::{Action, Instruction, Pattern, Target};
-use net::locality::{Group, Place};
+use net::locality::Place;
 use net::network::Net;
+use text::writer::Writer;
 
 // A target.
-fn put_target(out: &mut [bool], at: usize, target: Target) -> usize
-    ensures { Wrote out.old at (target_bits target) out.new result }
+fn put_target(out: &mut Writer<'_, bool>, target: Target)
+    ensures { out.new ≡ after out.old (target_bits target) }
 {
     match target {
-        Target::Written(l) => put_pair(out, at, 2, 0, 4, l.0 as usize),
-        Target::Own => put_number(out, at, 2, 1),
-        Target::Held(v) => put_pair(out, at, 2, 2, 3, v as usize),
+        Target::Written(l) => put_pair(out, 2, 0, 4, usize::from(l.0)),
+        Target::Own => put_number(out, 2, 1),
+        Target::Held(v) => put_pair(out, 2, 2, 3, usize::from(v)),
     }
-}
-
-// A template field that is a reading.
-fn put_reading_pattern(out: &mut [bool], at: usize, x: i32) -> usize
-    ensures { Wrote out.old at (bits_of 3 0 ++ reading_bits x) out.new result }
-{
-    let next = put_number(out, at, 3, 0);
-    put_reading(out, next, x)
 }
 
 // A template field.
-fn put_pattern(out: &mut [bool], at: usize, pattern: Pattern) -> usize
-    ensures { Wrote out.old at (pattern_bits pattern) out.new result }
+fn put_pattern(out: &mut Writer<'_, bool>, pattern: Pattern)
+    ensures { out.new ≡ after out.old (pattern_bits pattern) }
 {
     match pattern {
-        Pattern::Reading(x) => put_reading_pattern(out, at, x),
-        Pattern::Address(l) => put_pair(out, at, 3, 1, 4, l.0 as usize),
-        Pattern::Own => put_number(out, at, 3, 2),
-        Pattern::Held(v) => put_pair(out, at, 3, 3, 3, v as usize),
-        Pattern::FormalReading(v) => put_pair(out, at, 3, 4, 3, v as usize),
-        Pattern::FormalAddress(v) => put_pair(out, at, 3, 5, 3, v as usize),
+        Pattern::Reading(x) => {
+            put_number(out, 3, 0);
+            put_reading(out, x);
+        }
+        Pattern::Address(l) => put_pair(out, 3, 1, 4, usize::from(l.0)),
+        Pattern::Own => put_number(out, 3, 2),
+        Pattern::Held(v) => put_pair(out, 3, 3, 3, usize::from(v)),
+        Pattern::FormalReading(v) => put_pair(out, 3, 4, 3, usize::from(v)),
+        Pattern::FormalAddress(v) => put_pair(out, 3, 5, 3, usize::from(v)),
     }
 }
 
-// Each field of a template.
-fn put_patterns(out: &mut [bool], at: usize, c: Instruction) -> usize
-    requires { c.count ≤ 4 }
-    ensures { Wrote out.old at (joined c.count (λ i. pattern_bits (pattern_at c i))) out.new result }
+// A template: its field count less one, then each field.
+fn put_template(out: &mut Writer<'_, bool>, c: &Instruction)
+    requires { c.now.count ≤ 4 }
+    ensures { out.new ≡ after out.old (template_bits c.now) }
 {
-    let n = c.count;
-    let mut next = at;
-    let mut i = 0;
-    while i < n {
-        let field = c.template[i];
-        let pattern = field.pattern;
-        next = put_pattern(out, next, pattern);
-        i += 1;
+    put_number(out, 2, c.count.saturating_sub(1));
+    for field in &c.template[..c.count] {
+        put_pattern(out, field.pattern);
     }
-    next
-}
-
-// A template.
-fn put_template(out: &mut [bool], at: usize, c: Instruction) -> usize
-    requires { c.count ≤ 4 }
-    ensures { Wrote out.old at (template_bits c) out.new result }
-{
-    let less = one_less(c.count);
-    let next = put_number(out, at, 2, less);
-    put_patterns(out, next, c)
 }
 
 // An out, an in or a read, by its kind: target, template and next place.
-fn put_access(
-    out: &mut [bool],
-    at: usize,
-    kind: usize,
-    t: Target,
-    c: Instruction,
-    p: Place,
-) -> usize
-    requires { c.count ≤ 4 }
-    ensures { Wrote out.old at (bits_of 3 kind ++ (target_bits t ++ (template_bits c ++ place_bits p))) out.new result }
+fn put_access(out: &mut Writer<'_, bool>, kind: usize, t: Target, c: &Instruction, p: Place)
+    requires { c.now.count ≤ 4 }
+    ensures { out.new ≡ after out.old (bits_of 3 kind ++ (target_bits t ++ (template_bits c.now ++ place_bits p))) }
 {
-    let first = put_number(out, at, 3, kind);
-    let second = put_target(out, first, t);
-    let third = put_template(out, second, c);
-    put_place(out, third, p)
+    put_number(out, 3, kind);
+    put_target(out, t);
+    put_template(out, c);
+    put_place(out, p);
 }
 
-// An eval: target, sent place and next place.
-fn put_eval(out: &mut [bool], at: usize, t: Target, sent: Place, p: Place) -> usize
-    ensures { Wrote out.old at (bits_of 3 4 ++ (target_bits t ++ (place_bits sent ++ place_bits p))) out.new result }
+// An instruction: the kind of its action, then what the action holds.
+fn put_instruction(out: &mut Writer<'_, bool>, c: &Instruction)
+    requires { c.now.count ≤ 4 }
+    ensures { out.new ≡ after out.old (instruction_bits c.now) }
 {
-    let first = put_number(out, at, 3, 4);
-    let second = put_target(out, first, t);
-    let third = put_place(out, second, sent);
-    put_place(out, third, p)
-}
-
-// A new: variable and next place.
-fn put_new(out: &mut [bool], at: usize, v: u8, p: Place) -> usize
-    ensures { Wrote out.old at (bits_of 3 5 ++ (variable_bits v ++ place_bits p)) out.new result }
-{
-    let first = put_number(out, at, 3, 5);
-    let second = put_variable(out, first, v);
-    put_place(out, second, p)
-}
-
-// A fork: two places.
-fn put_fork(out: &mut [bool], at: usize, p: Place, q: Place) -> usize
-    ensures { Wrote out.old at (bits_of 3 6 ++ (place_bits p ++ place_bits q)) out.new result }
-{
-    let first = put_number(out, at, 3, 6);
-    let second = put_place(out, first, p);
-    put_place(out, second, q)
-}
-
-// An out to a set: the set, template and next place.
-fn put_spread(out: &mut [bool], at: usize, g: Group, c: Instruction, p: Place) -> usize
-    requires { c.count ≤ 4 }
-    ensures { Wrote out.old at (bits_of 3 7 ++ (bits_of 16 g.0 ++ (template_bits c ++ place_bits p))) out.new result }
-{
-    let first = put_number(out, at, 3, 7);
-    let second = put_number(out, first, 16, g.0 as usize);
-    let third = put_template(out, second, c);
-    put_place(out, third, p)
-}
-
-// An action, with the template of its instruction.
-fn put_action(out: &mut [bool], at: usize, c: Instruction, action: Action) -> usize
-    requires { c.count ≤ 4 }
-    ensures { Wrote out.old at (action_bits c action) out.new result }
-{
-    match action {
-        Action::Stop => put_number(out, at, 3, 0),
-        Action::Out(t, p) => put_access(out, at, 1, t, c, p),
-        Action::In(t, p) => put_access(out, at, 2, t, c, p),
-        Action::Read(t, p) => put_access(out, at, 3, t, c, p),
-        Action::Eval(t, sent, p) => put_eval(out, at, t, sent, p),
-        Action::New(v, p) => put_new(out, at, v, p),
-        Action::Fork(p, q) => put_fork(out, at, p, q),
-        Action::OutAll(g, p) => put_spread(out, at, g, c, p),
+    match c.action {
+        Action::Stop => put_number(out, 3, 0),
+        Action::Out(t, p) => put_access(out, 1, t, c, p),
+        Action::In(t, p) => put_access(out, 2, t, c, p),
+        Action::Read(t, p) => put_access(out, 3, t, c, p),
+        Action::Eval(t, sent, p) => {
+            put_number(out, 3, 4);
+            put_target(out, t);
+            put_place(out, sent);
+            put_place(out, p);
+        }
+        Action::New(v, p) => {
+            put_number(out, 3, 5);
+            put_variable(out, v);
+            put_place(out, p);
+        }
+        Action::Fork(p, q) => {
+            put_number(out, 3, 6);
+            put_place(out, p);
+            put_place(out, q);
+        }
+        Action::OutAll(g, p) => {
+            put_number(out, 3, 7);
+            put_number(out, 16, usize::from(g.0));
+            put_template(out, c);
+            put_place(out, p);
+        }
     }
-}
-
-// An instruction.
-fn put_instruction(out: &mut [bool], at: usize, c: Instruction) -> usize
-    requires { c.count ≤ 4 }
-    ensures { Wrote out.old at (instruction_bits c) out.new result }
-{
-    let action = c.action;
-    put_action(out, at, c, action)
 }
 
 // The code.
-pub(crate) fn put_code(out: &mut [bool], at: usize, net: Net) -> usize
-    requires { Counts net }
-    ensures { Wrote out.old at (code_bits net) out.new result }
+pub(crate) fn put_code(out: &mut Writer<'_, bool>, net: &Net)
+    requires { Counts net.now }
+    ensures { out.new ≡ after out.old (code_bits net.now) }
 {
-    let n = net.length;
-    let mut next = at;
-    let mut i = 0;
-    while i < n {
-        let c = net.code[i];
-        next = put_instruction(out, next, c);
-        i += 1;
+    for c in &net.code[..net.length] {
+        put_instruction(out, c);
     }
-    next
 }

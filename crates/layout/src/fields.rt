@@ -1,44 +1,39 @@
 // Fields that stand in several places of an image.
-ghost use Rattle.std.specs.Prelude.{◌-◌, ◌≡◌};
+#![tactic(auto, using(text::proofs::WriterLaws::writing), unfolding(written::specs::ImageOf::address_bits, written::specs::ImageOf::place_bits, written::specs::ImageOf::variable_bits, written::specs::ImageOf::reading_bits))]
+
+ghost use Rattle.std.specs.Prelude.{◌≡◌};
+ghost use Rattle.text.specs.Writer.{after};
 ghost use Rattle.written.specs.ImageOf.{address_bits, place_bits, variable_bits, reading_bits};
-ghost use Rattle.text.specs.Writing.{Wrote};
 
 use crate::bits::put_number;
 use net::locality::{Locality, Place};
 use text::signed::complement;
+use text::writer::Writer;
 
 // An address.
-pub fn put_address(out: &mut [bool], at: usize, l: Locality) -> usize
-    ensures { Wrote out.old at (address_bits l) out.new result }
+pub fn put_address(out: &mut Writer<'_, bool>, l: Locality)
+    ensures { out.new ≡ after out.old (address_bits l) }
 {
-    put_number(out, at, 4, l.0 as usize)
+    put_number(out, 4, usize::from(l.0));
 }
 
 // A code place.
-pub fn put_place(out: &mut [bool], at: usize, p: Place) -> usize
-    ensures { Wrote out.old at (place_bits p) out.new result }
+pub fn put_place(out: &mut Writer<'_, bool>, p: Place)
+    ensures { out.new ≡ after out.old (place_bits p) }
 {
-    put_number(out, at, 9, p.0 as usize)
+    put_number(out, 9, usize::from(p.0));
 }
 
 // A variable.
-pub fn put_variable(out: &mut [bool], at: usize, v: u8) -> usize
-    ensures { Wrote out.old at (variable_bits v) out.new result }
+pub fn put_variable(out: &mut Writer<'_, bool>, v: u8)
+    ensures { out.new ≡ after out.old (variable_bits v) }
 {
-    put_number(out, at, 3, v as usize)
+    put_number(out, 3, usize::from(v));
 }
 
 // A reading.
-pub fn put_reading(out: &mut [bool], at: usize, x: i32) -> usize
-    ensures { Wrote out.old at (reading_bits x) out.new result }
+pub fn put_reading(out: &mut Writer<'_, bool>, x: i32)
+    ensures { out.new ≡ after out.old (reading_bits x) }
 {
-    let value = complement(x);
-    put_number(out, at, 32, value as usize)
-}
-
-// One less, or 0.
-pub fn one_less(n: usize) -> usize
-    ensures { result ≡ n - 1 }
-{
-    if 0 < n { n - 1 } else { 0 }
+    put_number(out, 32, complement(x) as usize);
 }

@@ -9,6 +9,7 @@ use native.Mathlib.Omega.{arith}
 use lib.Dec.{ltb, leb}
 use lib.ListN.{get_or}
 use borrow.Author.Tests.{ltb-true, lt-leb}
+use Rattle.std.specs.Prelude.{Some, None}
 use Rattle.net.specs.Choice.{choose, both}
 use Rattle.net.specs.Records.{address_of, node_at, row_for, variable_at}
 use Rattle.net.proofs.NodeLaws.{row_in_law}
@@ -16,7 +17,6 @@ use Rattle.matching.specs.declared.template.Evaluated.{Evaluated}
 use Rattle.matching.specs.Matching.{evaluated_of}
 use Rattle.sound.specs.Soundness.{value_sound, target_sound}
 use Rattle.sound.proofs.CodeFacts.{Acts}
-use Rattle.plans.specs.declared.request.Aim.{Aim}
 use Rattle.plans.specs.declared.request.Request.{Request}
 use Rattle.plans.specs.Request.{target_of, at, spoken, asked, request_of, granted}
 use Rattle.step.specs.Pick.{unchanged, carried_out, acting}
@@ -205,7 +205,7 @@ module _
     by_word :
         (known far : Bool) → defined_words ws (template_words c) ≡ known → ltb x 256 ≡ far
         → P (choose (both known far) (choose (not (in_variable t)) (x % 16) (choose (grants_flags fs (x % 16) right) (x % 16) 20)) 22)
-        (stepping (in_variable t) (choose known (at (choose far (Aim.At (address_of x)) Aim.Nowhere) f) Request.Lack))
+        (stepping (in_variable t) (choose known (at (choose far (Some (address_of x)) None) f) Request.Lack))
     unfolding both choose at
     by_word false far d h = subst (P 22) (sym (lack_is (in_variable t))) lacks
     by_word true false d h = subst (P 22) (sym (lack_is (in_variable t))) lacks

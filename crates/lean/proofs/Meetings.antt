@@ -8,10 +8,10 @@ use native.Mathlib.Omega.{arith}
 use lib.Dec.{ltb}
 use lib.ListN.{length, get_or}
 use borrow.Author.Tests.{ltb-true, ltb-false}
+use Rattle.std.specs.Prelude.{Option, Some, None}
 use Rattle.net.specs.Choice.{choose}
 use Rattle.net.specs.Records.{address_of, node_at, tuple_at, moved_to}
 use Rattle.matching.specs.declared.template.Evaluated.{Evaluated}
-use Rattle.matching.specs.declared.template.Found.{Found}
 use Rattle.matching.specs.Matching.{evaluated_of, oldest_of, bound_of, bound_at, matched_of}
 use Rattle.sound.proofs.NodeFacts.{TupleOk, NodeOk}
 use Rattle.sound.proofs.NetChanges.{node_at_law}
@@ -71,10 +71,10 @@ module _
     stored_is : x.stored ≡ get_or w.stored l 0
     stored_is = stored_at start (nodes_are start w seat.stands) w l low
 
-    found_is : oldest_of x e ≡ choose (ltb met 16) (Found.At met) Found.Nothing
+    found_is : oldest_of x e ≡ choose (ltb met 16) (Some met) None
     found_is =
         subst
-        (λ (n : ℕ). oldest_of x e ≡ choose (ltb (oldest_of_first n) 16) (Found.At (oldest_of_first n)) Found.Nothing)
+        (λ (n : ℕ). oldest_of x e ≡ choose (ltb (oldest_of_first n) 16) (Some (oldest_of_first n)) None)
         stored_is
         (oldest_in_law w.count a ws p (seat_few start w a k ws p c seat) seat.used (seat_ranged start w a k ws p c seat)
         (seat_values start w a k ws p c seat) c (seat_fields start w a k ws p c seat) there x store each
@@ -109,15 +109,15 @@ module _
 
     -- ---- what is met
     module _
-        (Q : Met → Found → Process → Type 0)
+        (Q : Met → Option ℕ → Process → Type 0)
         (some : (j : ℕ) → j < 16 → j < get_or w.stored l 0
-        → Q (met_with j (with_slot w.slots a k (bound_to j))) (Found.At j) (bound_of p (tuple_at x j) e))
-        (none : (j : ℕ) → 16 ≤ j → Q (met_with j w.slots) Found.Nothing p)
+        → Q (met_with j (with_slot w.slots a k (bound_to j))) (Some j) (bound_of p (tuple_at x j) e))
+        (none : (j : ℕ) → 16 ≤ j → Q (met_with j w.slots) None p)
       where
         by_test :
             (b : Bool) → ltb met 16 ≡ b
             → Q (choose b (met_with met (with_slot w.slots a k (bound_to met))) (met_with met w.slots))
-            (choose b (Found.At met) Found.Nothing) (bound_at (choose b (Found.At met) Found.Nothing) p x e)
+            (choose b (Some met) None) (bound_at (choose b (Some met) None) p x e)
         unfolding choose bound_at
         by_test true h = some met (ltb-true met 16 h) (met_stored (ltb-true met 16 h))
         by_test false h = none met (ltb-false met 16 h)

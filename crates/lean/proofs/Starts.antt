@@ -10,9 +10,9 @@ use lib.Dec.{ltb, leb}
 use lib.ListN.{length, get_or, set, length-set}
 use lib.Seq.{get_or-set_same, get_or-set_other}
 use borrow.Author.Tests.{le-leb, lt-leb}
+use Rattle.std.specs.Prelude.{Option, Some, None}
 use Rattle.net.specs.Choice.{choose}
 use Rattle.net.specs.Records.{address_of, place_of, node_at, moved_to, copied_to, sent_from, free_slot, free_process}
-use Rattle.net.specs.declared.node.Slot.{Slot}
 use Rattle.matching.specs.Matching.{evaluated_of}
 use Rattle.sound.proofs.CodeFacts.{Acts}
 use Rattle.plans.specs.Answer.{number_of}
@@ -48,8 +48,8 @@ busy_word us = go (dec_le 512 (get_or us 8 0))
     go (no h) = let l : get_or us 8 0 < 512 = omega arith in rw (busy_in_law us l) (sym (lt-leb 512 (get_or us 8 0) l))
 
 -- the slot that a number stands for
-slot_named : ℕ → Slot
-slot_named j = choose (ltb j 4) (Slot.Number j) Slot.Full
+slot_named : ℕ → Option ℕ
+slot_named j = choose (ltb j 4) (Some j) None
 
 module _ (start : Net) (w : Words) (a k : ℕ) (ws : List ℕ) (p : Process) (c : Instruction) (seat : Seated start w a k ws p c) where
   abbrev s : Net
@@ -58,7 +58,7 @@ module _ (start : Net) (w : Words) (a k : ℕ) (ws : List ℕ) (p : Process) (c 
   free_is : (l : ℕ) → l < 16 → free_slot (node_at s (address_of l)) ≡ slot_named (free_slot_in (get_or w.slots l []))
   unfolding free_slot free_slot_in slot_named
   free_is l h =
-      first_number 4 _ Slot.Number Slot.Full
+      first_number 4 _ Some None
       ∙ ap slot_named
       (first_same 4 _ _ (λ j. j) 4
       (λ j g.
@@ -91,7 +91,7 @@ module _ (start : Net) (w : Words) (a k : ℕ) (ws : List ℕ) (p : Process) (c 
     copied : (j : ℕ)
         → Agrees start
         (after_acted w (acted_with 0 (start_in (with_word w.slots a k 8 (get_or h 3 0)) l j (copy_of (slot_at w.slots a k) h origin))))
-        (started_in s (address_of a) k (address_of l) p copy q (Slot.Number j))
+        (started_in s (address_of a) k (address_of l) p copy q (Some j))
     unfolding after_acted started_in performed number_of start_in with_word
     copied j =
         let near : l % 16 ≡ l = omega arith in
@@ -122,7 +122,7 @@ module _ (start : Net) (w : Words) (a k : ℕ) (ws : List ℕ) (p : Process) (c 
     started =
         let near : l % 16 ≡ l = omega arith in
         rw (near, free_is l low)
-        (alike (λ (x : Acted) (u : Slot). Agrees start (after_acted w x) (started_in s (address_of a) k (address_of l) p copy q u)) _ _ _ _ _
+        (alike (λ (x : Acted) (u : Option ℕ). Agrees start (after_acted w x) (started_in s (address_of a) k (address_of l) p copy q u)) _ _ _ _ _
         (λ _. copied _) (λ _. same_acted start w a k ws p c seat 3 Answer.NoRoom refl))
 
 -- ---- an action that has no target

@@ -6,11 +6,11 @@ use mathlib.Core.List.{List}
 use native.Mathlib.Omega.{arith}
 use lib.ListN.{get_or, set}
 use borrow.Author.Tests.{lt-ltb, le-ltb, lt-leb}
+use Rattle.std.specs.Prelude.{Option, Some, None}
 use Rattle.net.specs.Choice.{choose}
 use Rattle.net.specs.Records.{address_of, node_at, tuple_at}
 use Rattle.net.proofs.Laws.{choose_true, choose_false}
 use Rattle.matching.specs.declared.template.Evaluated.{Evaluated}
-use Rattle.matching.specs.declared.template.Found.{Found}
 use Rattle.matching.specs.Matching.{evaluated_of, bound_of}
 use Rattle.sound.proofs.CodeFacts.{Acts}
 use Rattle.plans.specs.declared.request.Request.{Request}
@@ -62,7 +62,7 @@ module _
     take_some :
         (j : ℕ) → j < 16 → j < get_or w.stored l 0
         → Agrees start (after_moved w (take_met l w.stored w.tuples (met_with j (with_slot w.slots a k (bound j)))))
-        (in_found s (address_of a) k (address_of l) q (Found.At j) (bound_of p (tuple_at (node_at s (address_of l)) j) e))
+        (in_found s (address_of a) k (address_of l) q (Some j) (bound_of p (tuple_at (node_at s (address_of l)) j) e))
     unfolding take_met removed_of in_found after_moved performed number_of
     take_some j g m =
         rw (choose_true _ _ _ (lt-ltb j 16 g), fewer_is (omega arith), near) (record {
@@ -80,7 +80,7 @@ module _
     take_none :
         (j : ℕ) → 16 ≤ j
         → Agrees start (after_moved w (take_met l w.stored w.tuples (met_with j w.slots)))
-        (in_found s (address_of a) k (address_of l) q Found.Nothing p)
+        (in_found s (address_of a) k (address_of l) q None p)
     unfolding take_met in_found number_of
     take_none j g = rw (choose_false _ _ _ (le-ltb j 16 g)) (same_moved start w a k ws p c seat 2 Answer.NoTuple refl)
 
@@ -91,14 +91,14 @@ module _
     take_reached =
         rw (choose_false _ _ _ (lt-leb 16 l low))
         (meeting start w a k ws p c seat there q next l used
-        (λ (m : Met) (f : Found) (r : Process). Agrees start (after_moved w (take_met l w.stored w.tuples m)) (in_found s (address_of a) k (address_of l) q f r))
+        (λ (m : Met) (f : Option ℕ) (r : Process). Agrees start (after_moved w (take_met l w.stored w.tuples m)) (in_found s (address_of a) k (address_of l) q f r))
         take_some take_none h at_next at_count)
 
     -- ---- read
     read_some :
         (j : ℕ) → j < 16 → j < get_or w.stored l 0
         → Agrees start (after_acted w (read_met (met_with j (with_slot w.slots a k (bound j)))))
-        (read_found s (address_of a) k q (Found.At j) (bound_of p (tuple_at (node_at s (address_of l)) j) e))
+        (read_found s (address_of a) k q (Some j) (bound_of p (tuple_at (node_at s (address_of l)) j) e))
     unfolding read_met read_found after_acted performed number_of
     read_some j g m =
         rw (choose_true _ _ _ (lt-ltb j 16 g)) (record {
@@ -112,7 +112,7 @@ module _
 
     read_none :
         (j : ℕ) → 16 ≤ j
-        → Agrees start (after_acted w (read_met (met_with j w.slots))) (read_found s (address_of a) k q Found.Nothing p)
+        → Agrees start (after_acted w (read_met (met_with j w.slots))) (read_found s (address_of a) k q None p)
     unfolding read_met read_found number_of
     read_none j g = rw (choose_false _ _ _ (le-ltb j 16 g)) (same_acted start w a k ws p c seat 2 Answer.NoTuple refl)
 
@@ -123,7 +123,7 @@ module _
     read_reached =
         rw (choose_false _ _ _ (lt-leb 16 l low))
         (meeting start w a k ws p c seat there q next l used
-        (λ (m : Met) (f : Found) (r : Process). Agrees start (after_acted w (read_met m)) (read_found s (address_of a) k q f r))
+        (λ (m : Met) (f : Option ℕ) (r : Process). Agrees start (after_acted w (read_met m)) (read_found s (address_of a) k q f r))
         read_some read_none h at_next at_count)
 
 -- ---- the actions

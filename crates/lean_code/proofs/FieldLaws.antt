@@ -10,6 +10,7 @@ use lib.Dec.{eqb, leb, ltb}
 use lib.IntN.{ℤ}
 use lib.ListN.{get_or}
 use borrow.Author.Tests.{ltb-true, lt-ltb, le-leb, ne_eqb, eqb-false, not-true}
+use Rattle.std.specs.Prelude.{Some, None}
 use Rattle.net.specs.Choice.{choose, both, in_range}
 use Rattle.net.specs.Records.{address_of, variable_at}
 use Rattle.net.specs.declared.tuple.Item.{Item}
@@ -20,7 +21,6 @@ use Rattle.net.proofs.Laws.{both_end, choose_true}
 use Rattle.net.proofs.ReadingLaws.{never}
 use Rattle.matching.specs.Matching.{held_item, defined_field, want_of, same_item, fits_field}
 use Rattle.sound.specs.Soundness.{pattern_sound, is_actual, target_sound}
-use Rattle.plans.specs.declared.request.Aim.{Aim}
 use Rattle.plans.specs.Request.{target_of}
 use Rattle.plans.specs.Additions.{item_of}
 use Rattle.lean_words.specs.Items.{reading_word, item_word, item_in, value_in}
@@ -163,13 +163,13 @@ module _
 
     pub target_in_law :
         (t : Target) → target_sound n t ≡ true
-        → target_of (address_of a) p t ≡ choose (ltb (word_of t) 256) (Aim.At (address_of (word_of t))) Aim.Nowhere
+        → target_of (address_of a) p t ≡ choose (ltb (word_of t) 256) (Some (address_of (word_of t))) None
     unfolding target_from target_written target_of target_sound
     target_in_law (Target.Written l) s =
         let below : l.0 < n = ltb-true l.0 n s in
-        sym (choose_true _ _ _ (lt-ltb (word_from ws a 9 l.0) 256 (omega (arith, from_code ws a l.0))) ∙ ap (λ (w : ℕ). Aim.At (address_of w)) (from_code ws a l.0))
+        sym (choose_true _ _ _ (lt-ltb (word_from ws a 9 l.0) 256 (omega (arith, from_code ws a l.0))) ∙ ap (λ (w : ℕ). Some (address_of w)) (from_code ws a l.0))
     target_in_law Target.Own s =
-        sym (choose_true _ _ _ (lt-ltb (word_from ws a 25 0) 256 (omega (arith, from_host ws a 0))) ∙ ap (λ (w : ℕ). Aim.At (address_of w)) (from_host ws a 0))
+        sym (choose_true _ _ _ (lt-ltb (word_from ws a 25 0) 256 (omega (arith, from_host ws a 0))) ∙ ap (λ (w : ℕ). Some (address_of w)) (from_host ws a 0))
     target_in_law (Target.Held v) s =
         let l : v < 8 = ltb-true v 8 s in
         rw (values v l, from_variable ws a v 0 l) (aim_in (get_or ws v 0))

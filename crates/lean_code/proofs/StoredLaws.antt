@@ -7,6 +7,7 @@ use mathlib.Core.List.{List, []}
 use lib.Dec.{ltb}
 use lib.ListN.{get_or}
 use borrow.Author.Tests.{ltb-true, lt-ltb}
+use Rattle.std.specs.Prelude.{Some, None}
 use Rattle.net.specs.Choice.{choose, both}
 use Rattle.net.specs.Records.{address_of, variable_at, tuple_at}
 use Rattle.net.specs.declared.tuple.Tuple.{Tuple}
@@ -15,7 +16,6 @@ use Rattle.net.specs.declared.node.Node.{Node}
 use Rattle.net.specs.declared.instruction.Instruction.{Instruction}
 use Rattle.net.proofs.Laws.{choose_true}
 use Rattle.matching.specs.declared.template.Evaluated.{Evaluated}
-use Rattle.matching.specs.declared.template.Found.{Found}
 use Rattle.matching.specs.Matching.{evaluated_of, fits_of, oldest_of, matched_of}
 use Rattle.matching.proofs.MatchingPromise.{matching_promise as promise}
 use Rattle.sound.proofs.NodeFacts.{TupleOk}
@@ -54,12 +54,12 @@ module _
         ∙ sym (fits_in_law n a ws p few hosted r values c ok known (get_or ts j []) (ranged j l)
         (subst (TupleOk n) (each j l) (tuples_ok j l h)))
 
-    pub oldest_in_law : oldest_of x e ≡ choose (ltb oldest 16) (Found.At oldest) Found.Nothing
+    pub oldest_in_law : oldest_of x e ≡ choose (ltb oldest 16) (Some oldest) None
     unfolding oldest_of oldest_in
     oldest_in_law =
-        first_same 16 _ _ Found.At Found.Nothing
+        first_same 16 _ _ Some None
         (λ j l. both_as (ltb j x.stored) _ _ (λ h. fits_at j l (ltb-true j x.stored h)) ∙ both_turned _ _)
-        ∙ first_number 16 _ Found.At Found.Nothing
+        ∙ first_number 16 _ Some None
 
     -- it is stored
     pub oldest_stored : oldest < 16 → oldest < x.stored

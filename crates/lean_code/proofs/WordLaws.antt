@@ -9,6 +9,7 @@ use native.Mathlib.Decide.{dec_le}
 use lib.Dec.{eqb, leb, ltb}
 use lib.IntN.{ℤ}
 use borrow.Author.Tests.{lt-ltb, le-ltb, le-leb, lt-leb, eq-eqb, ne_eqb, eqb-true, eqb-false}
+use Rattle.std.specs.Prelude.{Some, None}
 use Rattle.net.specs.Choice.{choose, both, in_range}
 use Rattle.net.specs.Readings.{same_reading}
 use Rattle.net.specs.Records.{address_of}
@@ -16,7 +17,6 @@ use Rattle.net.specs.declared.tuple.Item.{Item}
 use Rattle.net.specs.declared.tuple.Value.{Value}
 use Rattle.net.proofs.Laws.{choose_true, choose_false, in_range_law, in_range_low, in_range_high}
 use Rattle.matching.specs.Matching.{is_set, held_item, same_item, is_reading, is_address, value_of}
-use Rattle.plans.specs.declared.request.Aim.{Aim}
 use Rattle.plans.specs.Request.{aim_of}
 use Rattle.lean_words.specs.Items.{reading_word, reading_in, address_in, item_word, item_in, value_in}
 use Rattle.lean_words.proofs.BackLaws.{word_above}
@@ -176,10 +176,10 @@ module _ (w : ℕ) where
       (λ h. ap value_of (item_reading w h))
 
   -- the address that a value is
-  pub aim_in : aim_of (value_in w) ≡ choose (ltb w 256) (Aim.At (address_of w)) Aim.Nowhere
+  pub aim_in : aim_of (value_in w) ≡ choose (ltb w 256) (Some (address_of w)) None
   unfolding aim_of
   aim_in =
-      by_word (λ x. aim_of x ≡ choose (ltb w 256) (Aim.At (address_of w)) Aim.Nowhere)
+      by_word (λ x. aim_of x ≡ choose (ltb w 256) (Some (address_of w)) None)
       (λ h. sym (choose_true _ _ _ (lt-ltb w 256 h)))
       (λ h. sym (choose_false _ _ _ (le-ltb w 256 (omega arith))))
       (λ h. sym (choose_false _ _ _ (le-ltb w 256 (omega arith))))

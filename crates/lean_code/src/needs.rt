@@ -66,7 +66,7 @@ fn add_reached(need: &mut [bool; 69], marked: bool, c: Instruction)
 pub fn needs_from(code: [Instruction; 512], p: Place) -> [bool; 69]
     ensures { result ≡ needs_of code p }
 {
-    let marks = reached(code, p);
+    let marks = reached(&code, p);
     let mut need = [false; 69];
     let mut q = 0;
     while q < 512 {

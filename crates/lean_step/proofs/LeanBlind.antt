@@ -7,6 +7,7 @@ use mathlib.Core.List.{List}
 use lib.Dec.{eqb, ltb}
 use lib.ListN.{get_or}
 use borrow.Author.Tests.{eqb-true, ltb-true}
+use Rattle.std.specs.Prelude.{Option, Some, None}
 use Rattle.net.specs.Choice.{choose, both, first_below}
 use Rattle.net.specs.Records.{node_at, process_at, tuple_at, instruction_at, row_at, row_for, zero_row, sent_from, free_slot}
 use Rattle.net.proofs.Laws.{choose_false}
@@ -18,8 +19,8 @@ use Rattle.plans.specs.Request.{target_of, at, spoken, asked, request_of}
 use Rattle.step.specs.Pick.{host_of, slot_of, spare_of, unchanged, performed, stopped, out, out_all, in_found, input, read_found, read}
 use Rattle.step.specs.Pick.{started_in, eval, fork, create, carried_out}
 use Rattle.step.proofs.EachMember.{room_same}
-use Rattle.lean_step.specs.Types.{Locality, Place, Row, Process, Node, Slot, Target, Action, Instruction, Net, Evaluated, Found}
-use Rattle.lean_step.specs.Types.{Answer, Aim, Request, Picked}
+use Rattle.lean_step.specs.Types.{Locality, Place, Row, Process, Node, Target, Action, Instruction, Net, Evaluated}
+use Rattle.lean_step.specs.Types.{Answer, Request, Picked}
 use Rattle.lean_step.specs.LeanStep.{in_variable, at_variable, lean_acting, lean_process_step, lean_slot_step, lean_step_of}
 use Rattle.lean_step.specs.LeanBlind.{NodeButRows, NetButRows, named, Meets, Aims, out_aims, in_aims, read_aims, eval_aims}
 use Rattle.lean_step.specs.LeanBlind.{NoneHeld, LeanBlind}
@@ -52,11 +53,11 @@ module _ (x y : Node) (h : NodeButRows x y) where
   found_same : (p : Process) (e : Evaluated) → (matched_of p x e).found ≡ (matched_of p y e).found
   unfolding matched_of oldest_of tuple_at
   found_same p e i =
-      first_below 16 (λ j. both (ltb j (h.stored i)) (fits_of (get_or (h.tuples i) j past_tuple) e)) Found.At Found.Nothing
+      first_below 16 (λ j. both (ltb j (h.stored i)) (fits_of (get_or (h.tuples i) j past_tuple) e)) Some None
 
   slot_same : free_slot x ≡ free_slot y
   unfolding free_slot process_at
-  slot_same i = first_below 4 (λ j. not (get_or (h.processes i) j past_process).busy) Slot.Number Slot.Full
+  slot_same i = first_below 4 (λ j. not (get_or (h.processes i) j past_process).busy) Some None
 
   process_same : (k : ℕ) → process_at x k ≡ process_at y k
   unfolding process_at
@@ -64,29 +65,29 @@ module _ (x y : Node) (h : NodeButRows x y) where
 
 -- ---- what a request comes to, of the process p in slot k of address a
 module _ (s t : Net) (alike : NetButRows s t) (a : Locality) (k : ℕ) (p : Process) where
-  in_same : (l : Locality) (q : Place) (f : Found) (r r' : Process) → (in_found s a k l q f r).answer ≡ (in_found t a k l q f r').answer
+  in_same : (l : Locality) (q : Place) (f : Option ℕ) (r r' : Process) → (in_found s a k l q f r).answer ≡ (in_found t a k l q f r').answer
   unfolding in_found
-  in_same l q (Found.At i) r r' = performed_answer _ _
-  in_same l q Found.Nothing r r' = refused_answer _ _ _
+  in_same l q (Some i) r r' = performed_answer _ _
+  in_same l q None r r' = refused_answer _ _ _
 
   in_answer :
-      (l : Locality) (q : Place) (f g : Found) (r r' : Process) → f ≡ g → (in_found s a k l q f r).answer ≡ (in_found t a k l q g r').answer
-  in_answer l q f g r r' e = in_same l q f r r' ∙ ap (λ (i : Found). (in_found t a k l q i r').answer) e
+      (l : Locality) (q : Place) (f g : Option ℕ) (r r' : Process) → f ≡ g → (in_found s a k l q f r).answer ≡ (in_found t a k l q g r').answer
+  in_answer l q f g r r' e = in_same l q f r r' ∙ ap (λ (i : Option ℕ). (in_found t a k l q i r').answer) e
 
-  read_same : (q : Place) (f : Found) (r r' : Process) → (read_found s a k q f r).answer ≡ (read_found t a k q f r').answer
+  read_same : (q : Place) (f : Option ℕ) (r r' : Process) → (read_found s a k q f r).answer ≡ (read_found t a k q f r').answer
   unfolding read_found
-  read_same q (Found.At i) r r' = performed_answer _ _
-  read_same q Found.Nothing r r' = refused_answer _ _ _
+  read_same q (Some i) r r' = performed_answer _ _
+  read_same q None r r' = refused_answer _ _ _
 
   read_answer :
-      (q : Place) (f g : Found) (r r' : Process) → f ≡ g → (read_found s a k q f r).answer ≡ (read_found t a k q g r').answer
-  read_answer q f g r r' e = read_same q f r r' ∙ ap (λ (i : Found). (read_found t a k q i r').answer) e
+      (q : Place) (f g : Option ℕ) (r r' : Process) → f ≡ g → (read_found s a k q f r).answer ≡ (read_found t a k q g r').answer
+  read_answer q f g r r' e = read_same q f r r' ∙ ap (λ (i : Option ℕ). (read_found t a k q i r').answer) e
 
   started_answer :
-      (l : Locality) (copy : Process) (q : Place) (j : Slot) → (started_in s a k l p copy q j).answer ≡ (started_in t a k l p copy q j).answer
+      (l : Locality) (copy : Process) (q : Place) (j : Option ℕ) → (started_in s a k l p copy q j).answer ≡ (started_in t a k l p copy q j).answer
   unfolding started_in
-  started_answer l copy q (Slot.Number j) = performed_answer _ _
-  started_answer l copy q Slot.Full = refused_answer _ _ _
+  started_answer l copy q (Some j) = performed_answer _ _
+  started_answer l copy q None = refused_answer _ _ _
 
   -- in the lowest free slot of each
   start_answer :
@@ -94,7 +95,7 @@ module _ (s t : Net) (alike : NetButRows s t) (a : Locality) (k : ℕ) (p : Proc
       → (started_in s a k l p copy q (free_slot (node_at s l))).answer ≡ (started_in t a k l p copy q (free_slot (node_at t l))).answer
   start_answer l copy q =
       started_answer l copy q (free_slot (node_at s l))
-      ∙ ap (λ (j : Slot). (started_in t a k l p copy q j).answer) (slot_same _ _ (alike.nodes l))
+      ∙ ap (λ (j : Option ℕ). (started_in t a k l p copy q j).answer) (slot_same _ _ (alike.nodes l))
 
   -- at an eval the target's row for the host is the same
   AdmitsAlike : Request → Type 0
@@ -137,10 +138,10 @@ module _ (s t : Net) (alike : NetButRows s t) (a : Locality) (k : ℕ) (p : Proc
 
   -- what is asked
   at_admits :
-      (f : Locality → Request) (aim : Aim) → ((l : Locality) → aim ≡ Aim.At l → AdmitsAlike (f l)) → AdmitsAlike (at aim f)
+      (f : Locality → Request) (aim : Option Locality) → ((l : Locality) → aim ≡ Some l → AdmitsAlike (f l)) → AdmitsAlike (at aim f)
   unfolding at AdmitsAlike
-  at_admits f (Aim.At l) h = h l refl
-  at_admits f Aim.Nowhere h = tt
+  at_admits f (Some l) h = h l refl
+  at_admits f None h = tt
 
   told_admits : (e : Evaluated) (r : Request) → AdmitsAlike r → AdmitsAlike (choose e.defined r Request.Lack)
   unfolding AdmitsAlike
@@ -148,7 +149,7 @@ module _ (s t : Net) (alike : NetButRows s t) (a : Locality) (k : ℕ) (p : Proc
 
   asked_admits :
       (e : Evaluated) (x : Action)
-      → ((target : Target) (sent q : Place) (l : Locality) → x ≡ Action.Eval target sent q → target_of a p target ≡ Aim.At l
+      → ((target : Target) (sent q : Place) (l : Locality) → x ≡ Action.Eval target sent q → target_of a p target ≡ Some l
       → row_at (node_at s l) a ≡ row_at (node_at t l) a)
       → AdmitsAlike (asked a p e x)
   unfolding asked spoken AdmitsAlike

@@ -5,6 +5,7 @@ use Prim.Native.Nat.{ℕ, ◌<◌}
 use mathlib.Core.Path.{◌≡◌, refl, ap, ◌∙◌}
 use mathlib.Core.Bool.{true}
 use native.Mathlib.Omega.{arith}
+use Rattle.std.specs.Prelude.{Option, Some, None}
 use Rattle.net.specs.Records.{node_at, process_at, tuple_at, instruction_at, free_process, moved_to, copied_to, sent_from, with_variable}
 use Rattle.net.specs.Records.{row_for, with_process, with_node, with_counts}
 use Rattle.net.proofs.Every.{chosen, chosen_lt}
@@ -25,8 +26,8 @@ use Rattle.step.specs.Pick.{started_in, eval, fork, opened, unused, created_at, 
 use Rattle.step.specs.SoundKept.{SoundKept}
 use Rattle.step.proofs.SoundKept.{sound_kept}
 use Rattle.step.proofs.SoundRequests.{RequestOk, request_ok}
-use Rattle.lean_step.specs.Types.{Locality, Place, Group, Value, Tuple, Process, Node, Slot, Action, Net, Evaluated, Found}
-use Rattle.lean_step.specs.Types.{Answer, Aim, Request, Picked}
+use Rattle.lean_step.specs.Types.{Locality, Place, Group, Value, Tuple, Process, Node, Action, Net, Evaluated}
+use Rattle.lean_step.specs.Types.{Answer, Request, Picked}
 use Rattle.lean_step.specs.Settled.{Settled, SettledStays}
 use Rattle.lean_step.proofs.Covering.{creator_covers}
 use Rattle.lean_step.proofs.Within.{Keeps, Within, free_keeps, keeps_on, process_within, rows_within, new_within}
@@ -45,13 +46,13 @@ Onward x (Request.New v q) = Follows q x
 Onward x (Request.Fork q r) = Follows q x × Follows r x
 Onward x (Request.OutAll g q) = Follows q x
 
-at_onward : (x : Action) (f : Locality → Request) → ((l : Locality) → Onward x (f l)) → (aim : Aim) → Onward x (at aim f)
+at_onward : (x : Action) (f : Locality → Request) → ((l : Locality) → Onward x (f l)) → (aim : Option Locality) → Onward x (at aim f)
 unfolding Onward at
-at_onward x f h (Aim.At l) = h l
-at_onward x f h Aim.Nowhere = tt
+at_onward x f h (Some l) = h l
+at_onward x f h None = tt
 
 spoken_onward :
-    (x : Action) (f : Locality → Request) → ((l : Locality) → Onward x (f l)) → (e : Evaluated) (aim : Aim)
+    (x : Action) (f : Locality → Request) → ((l : Locality) → Onward x (f l)) → (e : Evaluated) (aim : Option Locality)
     → Onward x (spoken e aim f)
 unfolding Onward spoken
 spoken_onward x f h e aim = chosen (Onward x) e.defined _ _ (λ _. at_onward x f h aim) (λ _. tt)
@@ -111,7 +112,7 @@ module _
 
     -- a process whose formals are bound has the origin that it had
     module _ (l : Locality) (q : Place) (e : Evaluated) (reached : l.0 < s.addresses) (next : Follows q here) where
-      bound_origin : (j : ℕ) → (matched_of p (node_at s l) e).found ≡ Found.At j → (matched_of p (node_at s l) e).process.origin ≡ p.origin
+      bound_origin : (j : ℕ) → (matched_of p (node_at s l) e).found ≡ Some j → (matched_of p (node_at s l) e).process.origin ≡ p.origin
       unfolding tuple_at
       bound_origin j h =
           let x = node_at_law s ok l reached in
@@ -121,24 +122,24 @@ module _
           ∙ (promise.sets p (tuple_at (node_at s l) j) e few oldest.fits).same_origin
 
       in_kept :
-          (f : Found) → (matched_of p (node_at s l) e).found ≡ f → Kept (in_found s a k l q f (matched_of p (node_at s l) e).process)
+          (f : Option ℕ) → (matched_of p (node_at s l) e).found ≡ f → Kept (in_found s a k l q f (matched_of p (node_at s l) e).process)
       unfolding in_found
-      in_kept (Found.At j) h = performed_kept _ (taken_within _ (move_within _ q (bound_origin j h) next) l j)
-      in_kept Found.Nothing h = same_kept s _ w
+      in_kept (Some j) h = performed_kept _ (taken_within _ (move_within _ q (bound_origin j h) next) l j)
+      in_kept None h = same_kept s _ w
 
       read_kept :
-          (f : Found) → (matched_of p (node_at s l) e).found ≡ f → Kept (read_found s a k q f (matched_of p (node_at s l) e).process)
+          (f : Option ℕ) → (matched_of p (node_at s l) e).found ≡ f → Kept (read_found s a k q f (matched_of p (node_at s l) e).process)
       unfolding read_found
-      read_kept (Found.At j) h = performed_kept _ (move_within _ q (bound_origin j h) next)
-      read_kept Found.Nothing h = same_kept s _ w
+      read_kept (Some j) h = performed_kept _ (move_within _ q (bound_origin j h) next)
+      read_kept None h = same_kept s _ w
 
     started_kept :
-        (l : Locality) (q : Place) (copy : Process) → Follows q here → Keeps s.code l (node_at s l) copy → (j : Slot)
+        (l : Locality) (q : Place) (copy : Process) → Follows q here → Keeps s.code l (node_at s l) copy → (j : Option ℕ)
         → Kept (started_in s a k l p copy q j)
     unfolding started_in
-    started_kept l q copy next h (Slot.Number j) =
+    started_kept l q copy next h (Some j) =
         performed_kept _ (hosts_within s w a k _ (moved_keeps p q refl next) l j copy h)
-    started_kept l q copy next h Slot.Full = same_kept s _ w
+    started_kept l q copy next h None = same_kept s _ w
 
     -- the test on arrival says just that the sent code keeps within its row
     sent_keeps :

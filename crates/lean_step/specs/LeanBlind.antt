@@ -1,9 +1,9 @@
 -- What is claimed of the lean step by itself (document 02, slip 12).
-use Rattle.std.specs.Prelude.{ℕ, ◌<◌, ◌≡◌, true}
+use Rattle.std.specs.Prelude.{ℕ, ◌<◌, ◌≡◌, true, Some}
 use Rattle.net.specs.Records.{process_at, node_at, row_at, instruction_at}
 use Rattle.plans.specs.Request.{target_of}
 use Rattle.step.specs.Pick.{host_of, slot_of, spare_of}
-use Rattle.lean_step.specs.Types.{Locality, Place, Process, Node, Target, Action, Net, Aim}
+use Rattle.lean_step.specs.Types.{Locality, Place, Process, Node, Target, Action, Net}
 use Rattle.lean_step.specs.LeanStep.{lean_step_of}
 
 -- ---- "Prove too that where no target is in a variable, its step's answer is the same whatever rows the net holds, save the target's
@@ -47,7 +47,7 @@ pub record NoneHeld (s t : Net) (b : ℕ) : Type 0 where
   pub admitting :
       (target : Target) (sent q : Place) (l : Locality)
       → Meets s b (Action.Eval target sent q)
-      → target_of (host_of b) (named s b) target ≡ Aim.At l
+      → target_of (host_of b) (named s b) target ≡ Some l
       → row_at (node_at s l) (host_of b) ≡ row_at (node_at t l) (host_of b)
 
 -- the claim: of any two such nets, sound or not, whatever their rows, and any pick, a byte or not

@@ -8,14 +8,11 @@ pub use Rattle.net.specs.declared.policy.Rights.{Rights}
 pub use Rattle.net.specs.declared.policy.Row.{Row}
 pub use Rattle.net.specs.declared.process.Process.{Process}
 pub use Rattle.net.specs.declared.node.Node.{Node}
-pub use Rattle.net.specs.declared.node.Slot.{Slot}
 pub use Rattle.net.specs.declared.instruction.Target.{Target}
 pub use Rattle.net.specs.declared.instruction.Action.{Action}
 pub use Rattle.net.specs.declared.instruction.Instruction.{Instruction}
 pub use Rattle.net.specs.declared.network.Net.{Net}
 pub use Rattle.matching.specs.declared.template.Evaluated.{Evaluated}
-pub use Rattle.matching.specs.declared.template.Found.{Found}
 pub use Rattle.plans.specs.declared.answer.Answer.{Answer}
-pub use Rattle.plans.specs.declared.request.Aim.{Aim}
 pub use Rattle.plans.specs.declared.request.Request.{Request}
 pub use Rattle.step.specs.declared.machine.Picked.{Picked}

@@ -9,6 +9,7 @@ use lib.ListN.{length}
 use lib.Dec.{eqb}
 use lib.IntN.{ℤ}
 use borrow.Author.Tests.{eq-eqb, ne_eqb, not-true}
+use Rattle.std.specs.Prelude.{Ok, Err}
 use Rattle.net.specs.declared.locality.Locality.{Locality}
 use Rattle.net.specs.Choice.{choose, both}
 use Rattle.net.proofs.Laws.{both_i, both_l, both_r, choose_true, choose_false}
@@ -17,9 +18,9 @@ use Rattle.text.specs.Decimal.{decimal, signed_decimal}
 use Rattle.text.specs.Joined.{joined}
 use Rattle.lexemes.specs.Lexemes.{is_digit}
 use Rattle.lines.specs.Words.{Word, name, number, reading, address, word_text, spaced, line_text, printed}
-use Rattle.listing.specs.Listing.{Checked, at_front, listed, carries, checked_from}
+use Rattle.listing.specs.Listing.{Mismatch, at_front, listed, carries, checked_from}
 use Rattle.listing.specs.ListingClaims.{PaddedNumber, padded, PaddedWord, as_it_is, a_number, above, below, an_address}
-use Rattle.listing.specs.ListingClaims.{PaddedWords, no_words, word_then_law, PaddedLine, empty_line, line_of}
+use Rattle.listing.specs.ListingClaims.{PaddedWords, no_words, word_first, PaddedLine, empty_line, line_of}
 use Rattle.listing.specs.ListingClaims.{Padded, no_lines, line_then}
 use Rattle.listing.proofs.Digits.{AllDigits, none, one, digit_low, padded_digits}
 use Rattle.listing.proofs.Carrying.{line_carried, carried_line}
@@ -101,7 +102,7 @@ module _ {Q : ℕ → Type 0} where
   words_clean : {ws : List Word} {t : List ℕ} → Each (Fine Q) ws → PaddedWords ws t → clean t ≡ true
   unfolding clean
   words_clean nil no_words = refl
-  words_clean (cons f fs) (word_then_law {u = u} {t = t} p r) =
+  words_clean (cons f fs) (word_first {u = u} {t = t} p r) =
       clean_byte 32 (u ++ t) (λ e. omega arith) (clean_both u t (word_clean f p) (words_clean fs r))
 
   one_line : {line : List Word} {u : List ℕ} → Each (Fine Q) line → PaddedLine line u → OneLine u
@@ -131,12 +132,12 @@ module _ {Q : ℕ → Type 0} where
   -- ---- what is padded agrees
   pub padded_agrees_law :
       {lines : List (List Word)} {bs : List ℕ} (i : ℕ) → FineLines Q lines → Padded lines bs
-      → checked_from i lines (listed bs) ≡ Checked.Agrees
+      → checked_from i lines (listed bs) ≡ Ok tt
   unfolding checked_from listed
   padded_agrees_law i nil no_lines = refl
   padded_agrees_law i (cons f fs) (line_then {line} {lines} {u} {t} p r) =
       ap (checked_from i (line ∷ lines)) (listed_line t f p)
-      ∙ choose_true (carries line u) (checked_from (i + 1) lines (listed t)) (Checked.Differs i) (line_carried p)
+      ∙ choose_true (carries line u) (checked_from (i + 1) lines (listed t)) (Err (Mismatch.Differs i)) (line_carried p)
       ∙ padded_agrees_law (i + 1) fs r
 
 -- ---- what agrees is padded
@@ -157,19 +158,19 @@ together_listed (b ∷ bs) =
     chosen (λ (ls : List (List ℕ)). together ls ≡ b ∷ bs) (eqb b 10) _ _ (λ _. rest)
     (λ _. together_front b (listed bs) ∙ rest)
 
-agrees_only_law : (i : ℕ) (lines : List (List Word)) (xs : List (List ℕ)) → checked_from i lines xs ≡ Checked.Agrees → Padded lines (together xs)
+agrees_only_law : (i : ℕ) (lines : List (List Word)) (xs : List (List ℕ)) → checked_from i lines xs ≡ Ok tt → Padded lines (together xs)
 unfolding checked_from choose together
 agrees_only_law i [] [] h = no_lines
 agrees_only_law i [] (x ∷ xs) h = let z : ◌≡◌ {A = ℕ} 0 1 = cc in absurd (omega arith)
 agrees_only_law i (line ∷ lines) [] h = let z : ◌≡◌ {A = ℕ} 0 1 = cc in absurd (omega arith)
 agrees_only_law i (line ∷ lines) (x ∷ xs) h = go (carries line x) refl h (λ g. agrees_only_law (i + 1) lines xs g)
   where
-    go : (b : Bool) → carries line x ≡ b → choose b (checked_from (i + 1) lines xs) (Checked.Differs i) ≡ Checked.Agrees
-        → (checked_from (i + 1) lines xs ≡ Checked.Agrees → Padded lines (together xs)) → Padded (line ∷ lines) (x ++ together xs)
+    go : (b : Bool) → carries line x ≡ b → choose b (checked_from (i + 1) lines xs) (Err (Mismatch.Differs i)) ≡ Ok tt
+        → (checked_from (i + 1) lines xs ≡ Ok tt → Padded lines (together xs)) → Padded (line ∷ lines) (x ++ together xs)
     go true e g r = line_then (carried_line line x e) (r g)
     go false e g r = let z : ◌≡◌ {A = ℕ} 0 1 = cc in absurd (omega arith)
 
-pub listing_only : (i : ℕ) (lines : List (List Word)) (bs : List ℕ) → checked_from i lines (listed bs) ≡ Checked.Agrees → Padded lines bs
+pub listing_only : (i : ℕ) (lines : List (List Word)) (bs : List ℕ) → checked_from i lines (listed bs) ≡ Ok tt → Padded lines bs
 listing_only i lines bs h = subst (Padded lines) (together_listed bs) (agrees_only_law i lines (listed bs) h)
 
 -- ---- the plain text is a padding, where no number has more than ten digits
@@ -190,7 +191,7 @@ plain_word (located h) = an_address (plain_number h)
 plain_words : {ws : List Word} → Each (Fine Short) ws → PaddedWords ws (spaced ws)
 unfolding spaced
 plain_words nil = no_words
-plain_words (cons f fs) = word_then_law (plain_word f) (plain_words fs)
+plain_words (cons f fs) = word_first (plain_word f) (plain_words fs)
 
 plain_line : {line : List Word} → Each (Fine Short) line → PaddedLine line (line_text line)
 unfolding line_text

@@ -16,7 +16,7 @@ use Rattle.lines.specs.Words.{Word, name, number, reading, address}
 use Rattle.listing.specs.Listing.{byte_then, text_then, digits_of, after_digits, writes, number_then, word_then, words_then}
 use Rattle.listing.specs.Listing.{nothing_left, line_ends, carries}
 use Rattle.listing.specs.ListingClaims.{PaddedNumber, PaddedWord, as_it_is, a_number, above, below, an_address}
-use Rattle.listing.specs.ListingClaims.{PaddedWords, no_words, word_then_law, PaddedLine, empty_line, line_of}
+use Rattle.listing.specs.ListingClaims.{PaddedWords, no_words, word_first, PaddedLine, empty_line, line_of}
 use Rattle.listing.proofs.Digits.{Quiet, quiet_byte, front_digits, front_after, digits_front, digits_after}
 use Rattle.listing.proofs.Digits.{padded_digits, padded_writes, writes_padded}
 
@@ -53,14 +53,14 @@ quiet_low b rest h = quiet_byte b rest (ap (λ (t : Bool). both t (leb b 57)) (l
 
 quiet_words : {ws : List Word} {t : List ℕ} (rest : List ℕ) → PaddedWords ws t → Quiet rest → Quiet (t ++ rest)
 quiet_words rest no_words q = q
-quiet_words rest (word_then_law {u = u} {t = t} p r) q = quiet_low 32 ((u ++ t) ++ rest) (omega arith)
+quiet_words rest (word_first {u = u} {t = t} p r) q = quiet_low 32 ((u ++ t) ++ rest) (omega arith)
 
 words_there :
     (next : List ℕ → Bool) (rest : List ℕ) {ws : List Word} {t : List ℕ} → PaddedWords ws t → Quiet rest
     → words_then ws next (t ++ rest) ≡ next rest
 unfolding words_then
 words_there next rest no_words q = refl
-words_there next rest (word_then_law {w} {ws} {u} {t} p r) q =
+words_there next rest (word_first {w} {ws} {u} {t} p r) q =
     byte_there 32 (word_then w (words_then ws next)) ((u ++ t) ++ rest)
     ∙ ap (word_then w (words_then ws next)) (append_assoc u t rest)
     ∙ word_there (words_then ws next) (t ++ rest) (quiet_words rest r q) p
@@ -157,7 +157,7 @@ data Spaced (w : Word) : List ℕ → Type 0 where
   after_space : {u : List ℕ} → PaddedWord w u → Spaced w (32 ∷ u)
 
 more_words : {w : Word} {ws : List Word} {u v : List ℕ} → Spaced w u → PaddedWords ws v → PaddedWords (w ∷ ws) (u ++ v)
-more_words (after_space p) r = word_then_law p r
+more_words (after_space p) r = word_first p r
 
 words_split : (ws : List Word) (next : List ℕ → Bool) (bs : List ℕ) → words_then ws next bs ≡ true → Split (PaddedWords ws) next bs
 unfolding words_then

@@ -8,13 +8,14 @@ use native.Mathlib.Omega.{arith}
 use lib.ListN.{length, drop, length-append}
 use lib.Dec.{eqb}
 use borrow.Author.Tests.{ne_eqb, eqb-true, eqb-false, not-true}
+use Rattle.std.specs.Prelude.{Err}
 use Rattle.net.specs.Choice.{choose, both, in_range}
 use Rattle.net.proofs.Laws.{both_l, both_r, choose_true, choose_false}
 use Rattle.net.proofs.Every.{chosen}
 use Rattle.text.specs.Decimal.{decimal, signed_decimal}
 use Rattle.lexemes.specs.Lexemes.{is_digit}
-use Rattle.lines.specs.Words.{Word, number, word_text, spaced, line_text, printed}
-use Rattle.listing.specs.Listing.{Checked, at_front, listed, byte_then, text_then, digits_of, after_digits, value_from, writes, number_then}
+use Rattle.lines.specs.Words.{Word, word_text, spaced, line_text, printed}
+use Rattle.listing.specs.Listing.{Checked, Mismatch, at_front, listed, byte_then, text_then, digits_of, after_digits, value_from, writes, number_then}
 use Rattle.listing.specs.Listing.{word_then, words_then, nothing_left, line_ends, carries, checked_from}
 use Rattle.listing.specs.Comparing.{stands_first, parted_at, comparing}
 use Rattle.listing.proofs.Digits.{AllDigits, none, one, digit_low, Quiet, quiet_byte, digits_front, digits_after, plain_digits, plain_some, plain_value}
@@ -190,7 +191,7 @@ quiet_opens b bs q =
     (λ e. e)
 
 module _ (i : ℕ) where
-  parts : (theirs : List ℕ) → parted_at false i theirs ≡ Checked.Differs i
+  parts : (theirs : List ℕ) → parted_at false i theirs ≡ Err (Mismatch.Differs i)
   unfolding parted_at choose
   parts [] = refl
   parts (c ∷ theirs) = refl
@@ -199,7 +200,7 @@ module _ (i : ℕ) where
   number_turned :
       {ds : List ℕ} (ours theirs : List ℕ) → AllDigits ds → 1 ≤ length ds → Quiet ours
       → comparing false false i (ds ++ ours) theirs
-      ≡ choose (writes (value_from 0 ds) (digits_of theirs)) (comparing false false i ours (after_digits theirs)) (Checked.Differs i)
+      ≡ choose (writes (value_from 0 ds) (digits_of theirs)) (comparing false false i ours (after_digits theirs)) (Err (Mismatch.Differs i))
   number_turned ours theirs none l q = absurd (omega arith)
   number_turned ours theirs (one {b = b} {ds = ds} h r) l q =
       number_turn i false b (ds ++ ours) theirs h
@@ -232,24 +233,24 @@ quiet_spaced (w ∷ ws) ours q = quiet_low 32 ((word_text w ++ spaced ws) ++ our
 module _ (i : ℕ) (on : List ℕ → Checked) where
   record Follows (next : List ℕ → Bool) (ours : List ℕ) : Type 0 where
     is : (theirs : List ℕ)
-        → comparing false false i ours theirs ≡ choose (next theirs) (on (after_line theirs)) (Checked.Differs i)
+        → comparing false false i ours theirs ≡ choose (next theirs) (on (after_line theirs)) (Err (Mismatch.Differs i))
 
   -- part of a test passed
   both_follow : (t : Bool) (next : List ℕ → Bool) (ours rest bs : List ℕ) → Follows next ours → (t ≡ true → after_line rest ≡ after_line bs)
-      → choose t (comparing false false i ours rest) (Checked.Differs i) ≡ choose (both t (next rest)) (on (after_line bs)) (Checked.Differs i)
+      → choose t (comparing false false i ours rest) (Err (Mismatch.Differs i)) ≡ choose (both t (next rest)) (on (after_line bs)) (Err (Mismatch.Differs i))
   unfolding choose both
   both_follow true next ours rest bs h e =
-      h.is rest ∙ ap (λ (xs : List ℕ). choose (next rest) (on xs) (Checked.Differs i)) (e refl)
+      h.is rest ∙ ap (λ (xs : List ℕ). choose (next rest) (on xs) (Err (Mismatch.Differs i))) (e refl)
   both_follow false next ours rest bs h e = refl
 
   module _ (next : List ℕ → Bool) (ours : List ℕ) (h : Follows next ours) (b : ℕ) (d : is_digit b ≡ false) (n : eqb b 10 ≡ false) where
     byte_is : (theirs : List ℕ)
         → choose (stands_first b theirs) (comparing false (eqb b 10) (choose (eqb b 10) (i + 1) i) ours (drop 1 theirs)) (parted_at false i theirs)
-        ≡ choose (byte_then b next theirs) (on (after_line theirs)) (Checked.Differs i)
+        ≡ choose (byte_then b next theirs) (on (after_line theirs)) (Err (Mismatch.Differs i))
     unfolding stands_first parted_at byte_then choose
     byte_is [] = refl
     byte_is (c ∷ theirs) =
-        ap (λ (t : Bool). choose (eqb c b) (comparing false t (choose t (i + 1) i) ours theirs) (Checked.Differs i)) n
+        ap (λ (t : Bool). choose (eqb c b) (comparing false t (choose t (i + 1) i) ours theirs) (Err (Mismatch.Differs i))) n
         ∙ both_follow (eqb c b) next ours theirs (c ∷ theirs) h
         (λ e. sym (after_goes c theirs (ap (λ (x : ℕ). eqb x 10) (eqb-true c b e) ∙ n)))
 
@@ -268,7 +269,7 @@ module _ (i : ℕ) (on : List ℕ → Checked) where
   number_follows {next} {ours} n s q h = record {
     is = λ theirs.
         number_turned i ours theirs (plain_digits 20 n) (plain_some 19 n) q
-        ∙ ap (λ (v : ℕ). choose (writes v (digits_of theirs)) (comparing false false i ours (after_digits theirs)) (Checked.Differs i))
+        ∙ ap (λ (v : ℕ). choose (writes v (digits_of theirs)) (comparing false false i ours (after_digits theirs)) (Err (Mismatch.Differs i)))
         (plain_value 20 n (omega (arith, s.few)))
         ∙ both_follow (writes n (digits_of theirs)) next ours (after_digits theirs) theirs h (λ _. after_digits_line theirs);
   }
@@ -297,14 +298,14 @@ module _ (i : ℕ) (ours : List ℕ) where
   on theirs = comparing false true (i + 1) ours theirs
 
   ended : (c : ℕ) (theirs : List ℕ) (t : Bool) → eqb c 10 ≡ t
-      → choose t (comparing false true (i + 1) ours theirs) (Checked.Differs i) ≡ choose (both t true) (on (after_line (c ∷ theirs))) (Checked.Differs i)
+      → choose t (comparing false true (i + 1) ours theirs) (Err (Mismatch.Differs i)) ≡ choose (both t true) (on (after_line (c ∷ theirs))) (Err (Mismatch.Differs i))
   unfolding choose both on
   ended c theirs true e = ap (comparing false true (i + 1) ours) (sym (after_ends c theirs e))
   ended c theirs false e = refl
 
   newline_is : (theirs : List ℕ)
       → choose (stands_first 10 theirs) (comparing false (eqb 10 10) (choose (eqb 10 10) (i + 1) i) ours (drop 1 theirs)) (parted_at false i theirs)
-      ≡ choose (byte_then 10 anything theirs) (on (after_line theirs)) (Checked.Differs i)
+      ≡ choose (byte_then 10 anything theirs) (on (after_line theirs)) (Err (Mismatch.Differs i))
   unfolding stands_first parted_at byte_then choose anything
   newline_is [] = refl
   newline_is (c ∷ theirs) = ended c theirs (eqb c 10) refl
@@ -329,10 +330,10 @@ unfolding comparing parted_at choose
 fresh_or_not i [] c theirs = refl
 fresh_or_not i (b ∷ ours) c theirs = refl
 
-wanting : (i : ℕ) (ours : List ℕ) → 1 ≤ length ours → comparing false true i ours [] ≡ Checked.Wanting i
+wanting : (i : ℕ) (ours : List ℕ) → 1 ≤ length ours → comparing false true i ours [] ≡ Err (Mismatch.Wanting i)
 unfolding comparing parted_at stands_first choose writes in_range both digits_of
 wanting i [] h = absurd (omega arith)
-wanting i (b ∷ ours) h = chosen (λ (x : Checked). x ≡ Checked.Wanting i) (is_digit b) _ _ (λ _. refl) (λ _. refl)
+wanting i (b ∷ ours) h = chosen (λ (x : Checked). x ≡ Err (Mismatch.Wanting i)) (is_digit b) _ _ (λ _. refl) (λ _. refl)
 
 line_some : (line : List Word) (ours : List ℕ) → 1 ≤ length (line_text line ++ ours)
 unfolding line_text
@@ -351,6 +352,6 @@ lines_compared (cons {x = line} {xs = lines} f fs) i (c ∷ theirs) =
     let all : List ℕ = c ∷ theirs in
     fresh_or_not i (line_text line ++ printed lines) c theirs
     ∙ (line_follows i (printed lines) f).is all
-    ∙ ap (λ (x : Checked). choose (line_there line all) x (Checked.Differs i)) (lines_compared fs (i + 1) (after_line all))
-    ∙ ap (λ (t : Bool). choose t (checked_from (i + 1) lines (listed (after_line all))) (Checked.Differs i)) (sym ((line_same f).at all))
+    ∙ ap (λ (x : Checked). choose (line_there line all) x (Err (Mismatch.Differs i))) (lines_compared fs (i + 1) (after_line all))
+    ∙ ap (λ (t : Bool). choose t (checked_from (i + 1) lines (listed (after_line all))) (Err (Mismatch.Differs i))) (sym ((line_same f).at all))
     ∙ ap (checked_from i (line ∷ lines)) (sym (listed_first c theirs))

@@ -11,13 +11,14 @@ use lib.ListN.{length, drop, get_or, drop_of_length-le}
 use lib.Seq.{drop-cons, drop-drop}
 use lib.Dec.{eqb}
 use borrow.Author.Tests.{le-leb, lt-leb, lt-ltb, le-ltb}
+use Rattle.std.specs.Prelude.{Err, Some, None, Option}
 use Rattle.net.specs.Choice.{choose, both}
 use Rattle.net.proofs.Laws.{choose_true, choose_false}
 use Rattle.net.proofs.Every.{chosen}
 use Rattle.net.proofs.ReadingLaws.{never}
 use Rattle.lexemes.specs.Lexemes.{is_digit}
-use Rattle.listing.specs.Listing.{Checked, digits_of, after_digits, value_from, writes}
-use Rattle.listing.specs.Comparing.{Number, Cursor, Turn, stands_first, parted_at, comparing, compared_of, number_at, alike, compared_from, parted_from, after_number, after_byte, ended_from, Open, Advances, Turned, goes_on, parts, Compared}
+use Rattle.listing.specs.Listing.{Checked, Mismatch, digits_of, after_digits, value_from, writes}
+use Rattle.listing.specs.Comparing.{Number, Cursor, stands_first, parted_at, comparing, compared_of, number_at, alike, compared_from, parted_from, after_number, after_byte, ended_from, Open, Advances, Turned, goes_on, parts, Compared}
 use Rattle.listing.proofs.TurnLaws.{byte_turn, number_turn, digits_one}
 use Rattle.listing.proofs.NumberLaws.{alike_writes, after_number_law}
 
@@ -54,12 +55,12 @@ module _ (theirs : List ℕ) (at : Cursor) where
   parted_by : Dec (length theirs ≤ at.theirs) → parted_from theirs at ≡ parted_at at.fresh at.line (drop at.theirs theirs)
   unfolding parted_from parted_at
   parted_by (yes h) =
-      ap (λ (t : Bool). choose (both at.fresh t) (Checked.Wanting at.line) (Checked.Differs at.line)) (le-leb (length theirs) at.theirs h)
-      ∙ over at.fresh (Checked.Wanting at.line) (Checked.Differs at.line)
+      ap (λ (t : Bool). choose (both at.fresh t) (Err (Mismatch.Wanting at.line)) (Err (Mismatch.Differs at.line))) (le-leb (length theirs) at.theirs h)
+      ∙ over at.fresh (Err (Mismatch.Wanting at.line)) (Err (Mismatch.Differs at.line))
       ∙ ap (parted_at at.fresh at.line) (sym (drop_of_length-le theirs h))
   parted_by (no h) =
-      ap (λ (t : Bool). choose (both at.fresh t) (Checked.Wanting at.line) (Checked.Differs at.line)) (lt-leb (length theirs) at.theirs (omega arith))
-      ∙ not_over at.fresh (Checked.Wanting at.line) (Checked.Differs at.line)
+      ap (λ (t : Bool). choose (both at.fresh t) (Err (Mismatch.Wanting at.line)) (Err (Mismatch.Differs at.line))) (lt-leb (length theirs) at.theirs (omega arith))
+      ∙ not_over at.fresh (Err (Mismatch.Wanting at.line)) (Err (Mismatch.Differs at.line))
       ∙ ap (parted_at at.fresh at.line) (sym (drop-cons theirs at.theirs 0 (omega arith)))
 
   parted_is : parted_from theirs at ≡ parted_at at.fresh at.line (drop at.theirs theirs)
@@ -120,14 +121,14 @@ module _ (ours theirs : List ℕ) (at : Cursor) (l : Open ours at) where
 
       pub number_on :
           (next : Cursor) (same : Bool) → next ≡ after_number at mine other → same ≡ alike mine other at.theirs → same ≡ true
-          → Turned ours theirs at (Turn.On next)
+          → Turned ours theirs at (Some next)
       unfolding after_number
       number_on next same n e t =
           let on = ap (λ (x : Number). x.next) m in
-          subst (λ (x : Cursor). Turned ours theirs at (Turn.On x)) (sym n)
+          subst (λ (x : Cursor). Turned ours theirs at (Some x)) (sym n)
           (goes_on (sym (number_comes ∙ choose_true _ _ _ (sym e ∙ t))) (omega (arith, on, further)) (omega (arith, on, further, l.lines)))
 
-      pub number_parts : (same : Bool) → same ≡ alike mine other at.theirs → same ≡ false → Turned ours theirs at Turn.Parted
+      pub number_parts : (same : Bool) → same ≡ alike mine other at.theirs → same ≡ false → Turned ours theirs at None
       number_parts same e f = parts (sym (number_comes ∙ choose_false _ _ _ (sym e ∙ f)))
 
   -- ---- any other byte
@@ -159,13 +160,13 @@ module _ (ours theirs : List ℕ) (at : Cursor) (l : Open ours at) where
 
     pub byte_on :
         (next : Cursor) (same : Bool) → next ≡ after_byte at b → same ≡ stands_first b (drop at.theirs theirs) → same ≡ true
-        → Turned ours theirs at (Turn.On next)
+        → Turned ours theirs at (Some next)
     unfolding after_byte
     byte_on next same n s t =
-        subst (λ (x : Cursor). Turned ours theirs at (Turn.On x)) (sym n)
+        subst (λ (x : Cursor). Turned ours theirs at (Some x)) (sym n)
         (goes_on (sym (byte_comes ∙ choose_true _ _ _ (sym s ∙ t))) (omega arith) lines_after_law)
 
-    pub byte_parts : (same : Bool) → same ≡ stands_first b (drop at.theirs theirs) → same ≡ false → Turned ours theirs at Turn.Parted
+    pub byte_parts : (same : Bool) → same ≡ stands_first b (drop at.theirs theirs) → same ≡ false → Turned ours theirs at None
     byte_parts same s f = parts (sym (byte_comes ∙ choose_false _ _ _ (sym s ∙ f)))
 
 -- ---- from cursor to cursor
@@ -177,22 +178,22 @@ module _ (ours theirs : List ℕ) (at : Cursor) where
   pub compared_open : Compared ours theirs at → at.ours < length ours → Open ours at
   compared_open k h = record { left = h; lines = k.lines }
 
-  on : (next : Cursor) → Compared ours theirs at → Turned ours theirs at (Turn.On next) → Compared ours theirs next
+  on : (next : Cursor) → Compared ours theirs at → Turned ours theirs at (Some next) → Compared ours theirs next
   on next k (goes_on e h l) = record { rest = e ∙ k.rest; lines = l }
 
-  pub compared_more : (next : Cursor) (t : Turn) → Compared ours theirs at → Turned ours theirs at t → t ≡ Turn.On next → Compared ours theirs next
+  pub compared_more : (next : Cursor) (t : Option Cursor) → Compared ours theirs at → Turned ours theirs at t → t ≡ Some next → Compared ours theirs next
   compared_more next t k turned e = on next k (subst (Turned ours theirs at) e turned)
 
-  less : (next : Cursor) → Turned ours theirs at (Turn.On next) → at.ours < next.ours
+  less : (next : Cursor) → Turned ours theirs at (Some next) → at.ours < next.ours
   less next (goes_on e h l) = h
 
-  pub compared_less : (next : Cursor) (t : Turn) → Turned ours theirs at t → t ≡ Turn.On next → at.ours < length ours → length ours - next.ours < length ours - at.ours
+  pub compared_less : (next : Cursor) (t : Option Cursor) → Turned ours theirs at t → t ≡ Some next → at.ours < length ours → length ours - next.ours < length ours - at.ours
   compared_less next t turned e h = omega (arith, less next (subst (Turned ours theirs at) e turned))
 
-  apart : Turned ours theirs at Turn.Parted → parted_from theirs at ≡ compared_from ours theirs at
+  apart : Turned ours theirs at None → parted_from theirs at ≡ compared_from ours theirs at
   apart (parts e) = e
 
-  pub compared_parts : (t : Turn) (r : Checked) → Compared ours theirs at → Turned ours theirs at t → t ≡ Turn.Parted → r ≡ parted_from theirs at → r ≡ compared_of ours theirs
+  pub compared_parts : (t : Option Cursor) (r : Checked) → Compared ours theirs at → Turned ours theirs at t → t ≡ None → r ≡ parted_from theirs at → r ≡ compared_of ours theirs
   compared_parts t r k turned e p = p ∙ apart (subst (Turned ours theirs at) e turned) ∙ k.rest
 
   pub compared_end : (r : Checked) → Compared ours theirs at → length ours ≤ at.ours → r ≡ ended_from theirs at → r ≡ compared_of ours theirs

@@ -10,13 +10,14 @@ use lib.ListN.{length, take, length-append}
 use lib.Seq.{take_all, take-append-le, take-append-add, length-take-le}
 use lib.Dec.{eqb}
 use borrow.Author.Tests.{eqb-true, not-true}
+use Rattle.std.specs.Prelude.{Err}
 use Rattle.net.specs.Choice.{choose}
 use Rattle.net.proofs.Laws.{both_i, both_l, both_r, choose_false}
 use Rattle.net.proofs.Every.{chosen}
 use Rattle.lines.specs.Words.{Word, name, number, reading, address}
-use Rattle.listing.specs.Listing.{Checked, at_front, listed, carries, checked_from}
+use Rattle.listing.specs.Listing.{Mismatch, at_front, listed, carries, checked_from}
 use Rattle.listing.specs.ListingClaims.{PaddedWord, as_it_is, a_number, above, below, an_address}
-use Rattle.listing.specs.ListingClaims.{PaddedWords, no_words, word_then_law, PaddedLine, empty_line, line_of}
+use Rattle.listing.specs.ListingClaims.{PaddedWords, no_words, word_first, PaddedLine, empty_line, line_of}
 use Rattle.listing.specs.ListingClaims.{Padded, no_lines, line_then}
 use Rattle.listing.proofs.Digits.{padded_length}
 use Rattle.listing.proofs.Carrying.{carried_line}
@@ -54,7 +55,7 @@ word_room_law (an_address p) = omega (arith, padded_length p)
 words_room_law : {ws : List Word} {t : List ℕ} → PaddedWords ws t → length t ≤ words_room ws
 unfolding words_room
 words_room_law no_words = omega arith
-words_room_law (word_then_law {u = u} {t = t} p r) = omega (arith, word_room_law p, words_room_law r, length-append u t)
+words_room_law (word_first {u = u} {t = t} p r) = omega (arith, word_room_law p, words_room_law r, length-append u t)
 
 line_room_law : {line : List Word} {u : List ℕ} → PaddedLine line u → length u ≤ line_room line
 unfolding line_room words_room
@@ -77,11 +78,11 @@ too_long line xs h = go (carries line xs) refl
 
 differs :
     (i : ℕ) (line : List Word) (lines : List (List Word)) (bs xs : List ℕ) (more : List (List ℕ)) → listed bs ≡ xs ∷ more
-    → line_room line < length xs → checked_from i (line ∷ lines) (listed bs) ≡ Checked.Differs i
+    → line_room line < length xs → checked_from i (line ∷ lines) (listed bs) ≡ Err (Mismatch.Differs i)
 unfolding checked_from
 differs i line lines bs xs more e h =
     ap (checked_from i (line ∷ lines)) e
-    ∙ choose_false (carries line xs) (checked_from (i + 1) lines more) (Checked.Differs i) (too_long line xs h)
+    ∙ choose_false (carries line xs) (checked_from (i + 1) lines more) (Err (Mismatch.Differs i)) (too_long line xs h)
 
 -- ---- the first line of some bytes
 data Opens (bs : List ℕ) : Type 0 where
@@ -128,14 +129,14 @@ listed_unended [] h l = absurd (omega arith)
 listed_unended (b ∷ bs) h l = listed_open b bs h
 
 -- ---- what the first bytes decide: no line is wanted
-over_front : (i b : ℕ) (lines : List (List ℕ)) → checked_from i [] (at_front b lines) ≡ Checked.LeftOver i
+over_front : (i b : ℕ) (lines : List (List ℕ)) → checked_from i [] (at_front b lines) ≡ Err (Mismatch.LeftOver i)
 unfolding at_front checked_from
 over_front i b [] = refl
 over_front i b (line ∷ lines) = refl
 
-pub left_over : (i b : ℕ) (bs : List ℕ) → checked_from i [] (listed (b ∷ bs)) ≡ Checked.LeftOver i
+pub left_over : (i b : ℕ) (bs : List ℕ) → checked_from i [] (listed (b ∷ bs)) ≡ Err (Mismatch.LeftOver i)
 unfolding listed checked_from
-left_over i b bs = chosen (λ (ls : List (List ℕ)). checked_from i [] ls ≡ Checked.LeftOver i) (eqb b 10) _ _ (λ _. refl)
+left_over i b bs = chosen (λ (ls : List (List ℕ)). checked_from i [] ls ≡ Err (Mismatch.LeftOver i)) (eqb b 10) _ _ (λ _. refl)
     (λ _. over_front i b (listed bs))
 
 none_wanted : (i m : ℕ) (bs : List ℕ) → checked_from i [] (listed (take (suc m) bs)) ≡ checked_from i [] (listed bs)
@@ -166,12 +167,12 @@ module _
         ap (λ (k : ℕ). take k (u ++ rest)) split ∙ take-append-add u rest n in
         ap (λ (bs : List ℕ). checked_from i (line ∷ lines) (listed bs)) first
         ∙ ap (checked_from i (line ∷ lines)) (listed_body body (take n rest) c)
-        ∙ alike (carries line u) (checked_from (i + 1) lines (listed (take n rest))) (checked_from (i + 1) lines (listed rest)) (Checked.Differs i)
+        ∙ alike (carries line u) (checked_from (i + 1) lines (listed (take n rest))) (checked_from (i + 1) lines (listed rest)) (Err (Mismatch.Differs i))
         (λ e. let most = line_room_law (carried_line line u e) in after (i + 1) n rest (omega (arith, most)))
         ∙ sym (ap (checked_from i (line ∷ lines)) (listed_body body rest c))
 
     -- the first m bytes have no newline
-    cut : (bs : List ℕ) → clean bs ≡ true → m ≤ length bs → checked_from i (line ∷ lines) (listed (take m bs)) ≡ Checked.Differs i
+    cut : (bs : List ℕ) → clean bs ≡ true → m ≤ length bs → checked_from i (line ∷ lines) (listed (take m bs)) ≡ Err (Mismatch.Differs i)
     cut bs c l =
         let long = length-take-le m bs l in
         differs i line lines (take m bs) (take m bs) []

@@ -11,6 +11,7 @@ use native.Mathlib.Decide.{dec_le}
 use lib.ListN.{length, get_or, set, replicate, get_or-eq_default}
 use lib.Dec.{ltb}
 use lib.IntN.{ℤ}
+use Rattle.std.specs.Prelude.{Option, Some, None}
 use Rattle.net.specs.Choice.{choose, all}
 use Rattle.net.specs.Records.{field_at, variable_at, process_at, tuple_at, pattern_at, node_at, instruction_at, address_of}
 use Rattle.net.specs.Records.{zero_field, zero_tuple, unset_variable, free_process, zero_node, with_field, marked, with_variable, with_rows, with_process}
@@ -32,8 +33,8 @@ use Rattle.matching.specs.declared.template.Want.{Want}
 use Rattle.matching.specs.declared.template.Wanted.{Wanted}
 use Rattle.matching.specs.Matching.{held_item, want_of, zero_wanted, wants_of, evaluated_of, want_at, value_of, bound_field, bound_of, bound_at, matched_of, oldest_of}
 use Rattle.plans.specs.Additions.{item_of, tuple_of}
-use Rattle.step.specs.Types.{Locality, Place, Value, Variable, Item, Field, Tuple, Row, Process, Slot, Node, Pattern, Instruction, Net}
-use Rattle.step.specs.Types.{Evaluated, Found, Answer, Request}
+use Rattle.step.specs.Types.{Locality, Place, Value, Variable, Item, Field, Tuple, Row, Process, Node, Pattern, Instruction, Net}
+use Rattle.step.specs.Types.{Evaluated, Answer, Request}
 use Rattle.step.specs.declared.machine.Picked.{Picked}
 use Rattle.step.specs.Pick.{unchanged, performed, with_host, stopped, added, out, out_all, taken, in_found, input, read_found, read, started_in, eval}
 use Rattle.step.specs.Pick.{fork, opened, unused, created_at, created, create, carried_out, acting, process_step, slot_step, step_of, pick_of}
@@ -138,10 +139,10 @@ bound p t e ok h =
     fold_keeps (λ _. ProcessOk) _ p 4 ok
     (λ i q _ g. chosen ProcessOk _ _ _ (λ _. bound_field_law q (field_at t i) _ g (h.each i)) (λ _. g))
 
-bound_at_law : (f : Found) (p : Process) (x : Node) (e : Evaluated) → ProcessOk p → NodeOk x → ProcessOk (bound_at f p x e)
+bound_at_law : (f : Option ℕ) (p : Process) (x : Node) (e : Evaluated) → ProcessOk p → NodeOk x → ProcessOk (bound_at f p x e)
 unfolding bound_at
-bound_at_law (Found.At i) p x e ok h = bound p (tuple_at x i) e ok (h.tuples i)
-bound_at_law Found.Nothing p x e ok h = ok
+bound_at_law (Some i) p x e ok h = bound p (tuple_at x i) e ok (h.tuples i)
+bound_at_law None p x e ok h = ok
 
 matched : (p : Process) (x : Node) (e : Evaluated) → ProcessOk p → NodeOk x → ProcessOk (matched_of p x e).process
 unfolding matched_of
@@ -266,22 +267,22 @@ module _ (s : Net) (ok : NetOk s) where
   does t h = record { net_ok = h }
 
   module _ (a : Locality) (k : ℕ) (p : Process) (h : ProcessOk p) where
-    in_after : (l : Locality) (q : Place) (f : Found) (r : Process) → ProcessOk r → After (in_found s a k l q f r)
+    in_after : (l : Locality) (q : Place) (f : Option ℕ) (r : Process) → ProcessOk r → After (in_found s a k l q f r)
     unfolding in_found taken
-    in_after l q (Found.At i) r g =
+    in_after l q (Some i) r g =
         let t = with_host_law s ok a k _ (moved r g q) in
         does _ (with_node_law _ t l _ (without_tuple_law _ (t.nodes l) i))
-    in_after l q Found.Nothing r g = stays _
+    in_after l q None r g = stays _
 
-    read_after : (q : Place) (f : Found) (r : Process) → ProcessOk r → After (read_found s a k q f r)
+    read_after : (q : Place) (f : Option ℕ) (r : Process) → ProcessOk r → After (read_found s a k q f r)
     unfolding read_found
-    read_after q (Found.At i) r g = does _ (with_host_law s ok a k _ (moved r g q))
-    read_after q Found.Nothing r g = stays _
+    read_after q (Some i) r g = does _ (with_host_law s ok a k _ (moved r g q))
+    read_after q None r g = stays _
 
-    start_after : (l : Locality) (copy : Process) (q : Place) → ProcessOk copy → (j : Slot) → After (started_in s a k l p copy q j)
+    start_after : (l : Locality) (copy : Process) (q : Place) → ProcessOk copy → (j : Option ℕ) → After (started_in s a k l p copy q j)
     unfolding started_in
-    start_after l copy q g (Slot.Number j) = does _ (with_host_law _ (with_host_law s ok a k _ (moved p h q)) l j _ g)
-    start_after l copy q g Slot.Full = stays _
+    start_after l copy q g (Some j) = does _ (with_host_law _ (with_host_law s ok a k _ (moved p h q)) l j _ g)
+    start_after l copy q g None = stays _
 
     done : (e : Evaluated) → WantsOk e.wants → (r : Request) → After (carried_out s a k p e r)
     unfolding carried_out stopped out out_all input read eval fork create

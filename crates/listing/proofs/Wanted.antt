@@ -14,7 +14,6 @@ use Rattle.lexemes.specs.Lexemes.{is_digit}
 use Rattle.step.specs.Pick.{host_of, slot_of}
 use Rattle.run.specs.Run.{Ran, Outcome, refused, refused_text, ran, numbers}
 use Rattle.registers.specs.Types.{Locality, Item, Tuple, Node, Net, Fault}
-use Rattle.lines.specs.Words.{number}
 use Rattle.lines.specs.declared.shown.Parts.{Parts}
 use Rattle.lines.specs.Shown.{unnamed}
 use Rattle.lines.specs.Lines.{fewer, refusal_line, place_words, refused_line, net_line, pick_line, made_line, name_words, node_line, item_word, field_words, mark_words}

@@ -2,11 +2,10 @@
 -- a listing from the front of both, a number as a whole, and what comes out is `listing_of` (`proofs/ComparedLines.antt`).
 pub use Rattle.listing.specs.declared.comparing.Number.{Number}
 pub use Rattle.listing.specs.declared.comparing.Cursor.{Cursor}
-pub use Rattle.listing.specs.declared.comparing.Turn.{Turn}
-use Rattle.std.specs.Prelude.{ℕ, ◌+◌, ◌-◌, ◌*◌, ◌<◌, ◌≤◌, ◌≡◌, Bool, true, false, List, [], ◌∷◌, length, drop, eqb, leb, ltb}
+use Rattle.std.specs.Prelude.{ℕ, ◌+◌, ◌-◌, ◌*◌, ◌<◌, ◌≤◌, ◌≡◌, Bool, true, false, List, [], ◌∷◌, length, drop, eqb, leb, ltb, Option, Some, None, Ok, Err}
 use Rattle.net.specs.Choice.{choose, both, in_range}
 use Rattle.lexemes.specs.Lexemes.{is_digit}
-use Rattle.listing.specs.Listing.{Checked, digits_of, after_digits, value_from, writes}
+use Rattle.listing.specs.Listing.{Checked, Mismatch, digits_of, after_digits, value_from, writes}
 
 -- the byte b stands first
 unfoldable pub stands_first : ℕ → List ℕ → Bool
@@ -15,14 +14,14 @@ stands_first b (c ∷ theirs) = eqb c b
 
 -- what is answered in line i where the bytes part; `fresh` says that the line begins here
 unfoldable pub parted_at : Bool → ℕ → List ℕ → Checked
-parted_at fresh i [] = choose fresh (Checked.Wanting i) (Checked.Differs i)
-parted_at fresh i (c ∷ theirs) = Checked.Differs i
+parted_at fresh i [] = choose fresh (Err (Mismatch.Wanting i)) (Err (Mismatch.Differs i))
+parted_at fresh i (c ∷ theirs) = Err (Mismatch.Differs i)
 
 -- ours are left of the register and theirs of the listing, from line i on; `passing` says that ours may open with digits
 -- of a number that was compared
 unfoldable pub comparing : Bool → Bool → ℕ → List ℕ → List ℕ → Checked
-comparing passing fresh i [] [] = Checked.Agrees
-comparing passing fresh i [] (c ∷ theirs) = Checked.LeftOver i
+comparing passing fresh i [] [] = Ok tt
+comparing passing fresh i [] (c ∷ theirs) = Err (Mismatch.LeftOver i)
 comparing passing fresh i (b ∷ ours) theirs =
     choose (is_digit b)
     (choose passing (comparing true fresh i ours theirs)
@@ -72,10 +71,10 @@ compared_from ours theirs at = comparing false at.fresh at.line (drop at.ours ou
 
 unfoldable pub parted_from : List ℕ → Cursor → Checked
 parted_from theirs at =
-    choose (both at.fresh (leb (length theirs) at.theirs)) (Checked.Wanting at.line) (Checked.Differs at.line)
+    choose (both at.fresh (leb (length theirs) at.theirs)) (Err (Mismatch.Wanting at.line)) (Err (Mismatch.Differs at.line))
 
 unfoldable pub ended_from : List ℕ → Cursor → Checked
-ended_from theirs at = choose (ltb at.theirs (length theirs)) (Checked.LeftOver at.line) Checked.Agrees
+ended_from theirs at = choose (ltb at.theirs (length theirs)) (Err (Mismatch.LeftOver at.line)) (Ok tt)
 
 -- the cursor after a number and after a byte
 unfoldable pub after_number : Cursor → Number → Number → Cursor
@@ -101,14 +100,14 @@ pub record Advances (at : Cursor) : Type 0 where
   pub line : at.line < 18446744073709551615
 
 -- what a turn from a cursor gives
-pub data Turned (ours theirs : List ℕ) (at : Cursor) : Turn → Type 0 where
+pub data Turned (ours theirs : List ℕ) (at : Cursor) : Option Cursor → Type 0 where
   goes_on :
       {next : Cursor}
       → compared_from ours theirs next ≡ compared_from ours theirs at
       → at.ours < next.ours
       → next.line ≤ next.ours + 1
-      → Turned ours theirs at (Turn.On next)
-  parts : parted_from theirs at ≡ compared_from ours theirs at → Turned ours theirs at Turn.Parted
+      → Turned ours theirs at (Some next)
+  parts : parted_from theirs at ≡ compared_from ours theirs at → Turned ours theirs at None
 
 -- the comparison has come to a cursor
 pub record Compared (ours theirs : List ℕ) (at : Cursor) : Type 0 where

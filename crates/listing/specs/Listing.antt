@@ -1,8 +1,8 @@
 -- Checking a listing of the old host (document 02, slip 5: "accept it exactly when its lines carry our register's words and
 -- values in order").
 pub use Rattle.listing.specs.declared.checking.Age.{Age}
-pub use Rattle.listing.specs.declared.checking.Checked.{Checked}
-use Rattle.std.specs.Prelude.{ℕ, ◌+◌, ◌-◌, ◌*◌, Bool, true, false, List, [], ◌∷◌, length, take, eqb, ℤ}
+pub use Rattle.listing.specs.declared.checking.Mismatch.{Mismatch}
+use Rattle.std.specs.Prelude.{ℕ, ◌+◌, ◌-◌, ◌*◌, Bool, true, false, List, [], ◌∷◌, length, take, eqb, ℤ, Result, Ok, Err}
 use Rattle.net.specs.Choice.{choose, both, in_range}
 use Rattle.image.specs.Image.{opened_of}
 use Rattle.lexemes.specs.Lexemes.{is_digit}
@@ -11,6 +11,10 @@ use Rattle.lines.specs.Words.{Word, name, number, reading, address}
 use Rattle.lines.specs.declared.shown.Parts.{Parts}
 use Rattle.lines.specs.Shown.{unnamed, no_parts, all_parts}
 use Rattle.registers.specs.Register.{register_lines}
+
+-- a listing agrees, or it does not from a line on
+abbrev pub Checked : Type 0
+Checked = Result (Unit {0}) Mismatch
 
 -- ---- what is wanted
 
@@ -101,11 +105,11 @@ carries (w ∷ ws) line = word_then w (words_then ws line_ends) line
 
 -- line i is wanted next, and listed next
 unfoldable pub checked_from : ℕ → List (List Word) → List (List ℕ) → Checked
-checked_from i [] [] = Checked.Agrees
-checked_from i [] (line ∷ lines) = Checked.LeftOver i
-checked_from i (wanted ∷ more) [] = Checked.Wanting i
+checked_from i [] [] = Ok tt
+checked_from i [] (line ∷ lines) = Err (Mismatch.LeftOver i)
+checked_from i (wanted ∷ more) [] = Err (Mismatch.Wanting i)
 checked_from i (wanted ∷ more) (line ∷ lines) =
-    choose (carries wanted line) (checked_from (i + 1) more lines) (Checked.Differs i)
+    choose (carries wanted line) (checked_from (i + 1) more lines) (Err (Mismatch.Differs i))
 
 unfoldable pub checked_of : List (List Word) → List (List ℕ) → Checked
 checked_of wanted lines = checked_from 1 wanted lines
@@ -116,14 +120,14 @@ listing_of image picks listing age = checked_of (wanted_lines image picks age) (
 
 -- "41 a line differs, 42 lines are wanting, 43 lines are left over"
 unfoldable pub checked_number : Checked → ℕ
-checked_number Checked.Agrees = 0
-checked_number (Checked.Differs i) = 41
-checked_number (Checked.Wanting i) = 42
-checked_number (Checked.LeftOver i) = 43
+checked_number (Ok tt) = 0
+checked_number (Err (Mismatch.Differs i)) = 41
+checked_number (Err (Mismatch.Wanting i)) = 42
+checked_number (Err (Mismatch.LeftOver i)) = 43
 
 -- the first line at fault, 0 where there is none
 unfoldable pub fault_line : Checked → ℕ
-fault_line Checked.Agrees = 0
-fault_line (Checked.Differs i) = i
-fault_line (Checked.Wanting i) = i
-fault_line (Checked.LeftOver i) = i
+fault_line (Ok tt) = 0
+fault_line (Err (Mismatch.Differs i)) = i
+fault_line (Err (Mismatch.Wanting i)) = i
+fault_line (Err (Mismatch.LeftOver i)) = i

@@ -1,11 +1,11 @@
 -- What is claimed of the check of a listing (document 02, slip 5): it accepts our own register, every listing made from it
 -- by padding its numbers, and no other; it names the first line at fault; and the first bytes of a listing decide.
-use Rattle.std.specs.Prelude.{ℕ, ◌+◌, ◌<◌, ◌≤◌, ◌≡◌, List, [], ◌∷◌, ◌++◌, length, get_or, take, replicate, ℤ}
+use Rattle.std.specs.Prelude.{ℕ, ◌+◌, ◌<◌, ◌≤◌, ◌≡◌, List, [], ◌∷◌, ◌++◌, length, get_or, take, replicate, ℤ, Ok, Err}
 use Rattle.net.specs.declared.locality.Locality.{Locality}
 use Rattle.text.specs.Decimal.{decimal}
 use Rattle.lines.specs.Words.{Word, name, number, reading, address, printed}
 use Rattle.registers.specs.Register.{register_of}
-use Rattle.listing.specs.Listing.{Age, Checked, wanted_lines, listed, listing_of}
+use Rattle.listing.specs.Listing.{Age, Checked, Mismatch, wanted_lines, listed, listing_of}
 
 -- ---- "The old program pads numbers: up to ten digits, leading zeros among them; all else is byte for byte"
 
@@ -24,7 +24,7 @@ pub data PaddedWord : Word → List ℕ → Type 0 where
 -- words with a space (32) before each
 pub data PaddedWords : List Word → List ℕ → Type 0 where
   no_words : PaddedWords [] []
-  word_then_law :
+  word_first :
       {w : Word} {ws : List Word} {u t : List ℕ}
       → PaddedWord w u
       → PaddedWords ws t
@@ -55,24 +55,24 @@ pub record PlainAgrees : Type 0 where
   pub today :
       (image picks : List ℕ)
       → ((i : ℕ) → get_or picks i 0 < 256)
-      → listing_of image picks (register_of image picks) Age.New ≡ Checked.Agrees
+      → listing_of image picks (register_of image picks) Age.New ≡ Ok tt
   pub either :
       (image picks : List ℕ) (age : Age)
       → ((i : ℕ) → get_or picks i 0 < 256)
-      → listing_of image picks (printed (wanted_lines image picks age)) age ≡ Checked.Agrees
+      → listing_of image picks (printed (wanted_lines image picks age)) age ≡ Ok tt
 
 -- so does every listing made from it by padding numbers
 unfoldable pub PaddedAgrees : Type 0
 PaddedAgrees =
     (image picks listing : List ℕ) (age : Age)
     → Padded (wanted_lines image picks age) listing
-    → listing_of image picks listing age ≡ Checked.Agrees
+    → listing_of image picks listing age ≡ Ok tt
 
 -- and no other does
 unfoldable pub AgreesOnly : Type 0
 AgreesOnly =
     (image picks listing : List ℕ) (age : Age)
-    → listing_of image picks listing age ≡ Checked.Agrees
+    → listing_of image picks listing age ≡ Ok tt
     → Padded (wanted_lines image picks age) listing
 
 -- ---- the first line at fault, by what stands in the lines
@@ -83,22 +83,22 @@ PaddedBelow n wanted lines = (j : ℕ) → j < n → PaddedLine (get_or wanted j
 
 -- what is answered where the lines are numbered from i on
 pub data FirstFault (i : ℕ) (wanted : List (List Word)) (lines : List (List ℕ)) : Checked → Type 0 where
-  no_fault : length lines ≡ length wanted → PaddedBelow (length wanted) wanted lines → FirstFault i wanted lines Checked.Agrees
+  no_fault : length lines ≡ length wanted → PaddedBelow (length wanted) wanted lines → FirstFault i wanted lines (Ok tt)
   line_differs :
       (n : ℕ)
       → n < length wanted
       → n < length lines
       → PaddedBelow n wanted lines
       → (PaddedLine (get_or wanted n []) (get_or lines n []) → ⊥)
-      → FirstFault i wanted lines (Checked.Differs (i + n))
+      → FirstFault i wanted lines (Err (Mismatch.Differs (i + n)))
   lines_wanting :
       length lines < length wanted
       → PaddedBelow (length lines) wanted lines
-      → FirstFault i wanted lines (Checked.Wanting (i + length lines))
+      → FirstFault i wanted lines (Err (Mismatch.Wanting (i + length lines)))
   lines_left :
       length wanted < length lines
       → PaddedBelow (length wanted) wanted lines
-      → FirstFault i wanted lines (Checked.LeftOver (i + length wanted))
+      → FirstFault i wanted lines (Err (Mismatch.LeftOver (i + length wanted)))
 
 unfoldable pub FaultIsFirst : Type 0
 FaultIsFirst =
@@ -116,7 +116,7 @@ longest_listing = 3232651
 unfoldable pub LongestListing : Type 0
 LongestListing =
     (image picks listing : List ℕ) (age : Age)
-    → listing_of image picks listing age ≡ Checked.Agrees
+    → listing_of image picks listing age ≡ Ok tt
     → length listing ≤ longest_listing
 
 -- the first bytes, one more than that, decide what is answered

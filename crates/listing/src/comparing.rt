@@ -4,7 +4,7 @@ ghost use Rattle.net.specs.Choice.{choose};
 ghost use Rattle.lexemes.specs.Lexemes.{is_digit};
 ghost use Rattle.listing.specs.Comparing.{stands_first, compared_of, longer, number_at, alike, parted_from, ended_from, after_number, after_byte, Open, Advances, Turned};
 
-use crate::checking::Checked;
+use crate::checking::Mismatch;
 use lexemes::numbers::is_digit;
 
 // ---- numbers
@@ -21,9 +21,8 @@ fn longer_by(v: usize, b: u8) -> usize
     requires { is_digit b ≡ true }
     ensures { result ≡ longer v b }
 {
-    if v < 10000000000 {
-        let digit = (b - 48) as usize;
-        v * 10 + digit
+    if v < 10_000_000_000 {
+        v * 10 + usize::from(b - b'0')
     } else {
         v
     }
@@ -33,18 +32,17 @@ fn longer_by(v: usize, b: u8) -> usize
 fn number_at(s: &[u8], from: usize) -> Number
     ensures { result ≡ number_at s.now from }
 {
-    let mut value: usize = 0;
-    let mut next = from;
-    while next < s.len() {
-        let b = s[next];
-        if is_digit(b) {
-            value = longer_by(value, b);
-            next += 1;
-        } else {
-            return Number { value, next };
+    let mut value = 0;
+    for i in from..s.len() {
+        if !is_digit(s[i]) {
+            return Number { value, next: i };
         }
+        value = longer_by(value, s[i]);
     }
-    Number { value, next }
+    Number {
+        value,
+        next: from.max(s.len()),
+    }
 }
 
 // Whether another number, read from a place on, has one to ten digits and the value of mine.
@@ -53,10 +51,7 @@ fn is_alike(mine: Number, other: Number, from: usize) -> bool
     ensures { result ≡ alike mine other from }
 {
     let digits = other.next - from;
-    let some = 1 <= digits;
-    let few = digits <= 10;
-    let same = other.value == mine.value;
-    some & few & same
+    (1 <= digits) & (digits <= 10) & (other.value == mine.value)
 }
 
 // ---- turns
@@ -70,13 +65,6 @@ pub struct Cursor {
     pub fresh: bool,
 }
 
-// What a turn comes to: the next cursor, or that the two part.
-#[derive(Clone, Copy)]
-pub enum Turn {
-    On(Cursor),
-    Parted,
-}
-
 // The cursor after a number.
 fn after_number(at: Cursor, mine: Number, other: Number) -> Cursor
     ensures { result ≡ after_number at mine other }
@@ -84,24 +72,22 @@ fn after_number(at: Cursor, mine: Number, other: Number) -> Cursor
     Cursor {
         ours: mine.next,
         theirs: other.next,
-        line: at.line,
         fresh: false,
+        ..at
     }
 }
 
-// A number of ours.
-fn number_turn(ours: &[u8], theirs: &[u8], at: Cursor) -> Turn
+// A number of ours: the cursor after it, or none where the two part.
+fn number_turn(ours: &[u8], theirs: &[u8], at: Cursor) -> Option<Cursor>
     requires { Open ours.now at × (is_digit (get_or ours.now at.ours 0) ≡ true) }
     ensures { Turned ours.now theirs.now at result }
 {
-    let from = at.theirs;
     let mine = number_at(ours, at.ours);
-    let other = number_at(theirs, from);
-    let next = after_number(at, mine, other);
-    if is_alike(mine, other, from) {
-        Turn::On(next)
+    let other = number_at(theirs, at.theirs);
+    if is_alike(mine, other, at.theirs) {
+        Some(after_number(at, mine, other))
     } else {
-        Turn::Parted
+        None
     }
 }
 
@@ -109,7 +95,7 @@ fn number_turn(ours: &[u8], theirs: &[u8], at: Cursor) -> Turn
 fn stands(s: &[u8], p: usize, b: u8) -> bool
     ensures { result ≡ stands_first b (drop p s.now) }
 {
-    if p < s.len() { s[p] == b } else { false }
+    p < s.len() && s[p] == b
 }
 
 // The line after a byte of line i.
@@ -117,7 +103,7 @@ fn line_after(i: usize, b: u8) -> usize
     requires { i < 18446744073709551615 }
     ensures { result ≡ choose (eqb b 10) (i + 1) i }
 {
-    if b == 10 { i + 1 } else { i }
+    if b == b'\n' { i + 1 } else { i }
 }
 
 // The cursor after a byte.
@@ -125,38 +111,33 @@ fn after_byte(at: Cursor, b: u8) -> Cursor
     requires { Advances at }
     ensures { result ≡ after_byte at b }
 {
-    let line = line_after(at.line, b);
     Cursor {
         ours: at.ours + 1,
         theirs: at.theirs + 1,
-        line,
-        fresh: b == 10,
+        line: line_after(at.line, b),
+        fresh: b == b'\n',
     }
 }
 
-// Another byte of ours.
-fn byte_turn(ours: &[u8], theirs: &[u8], at: Cursor) -> Turn
+// Another byte of ours: the same.
+fn byte_turn(ours: &[u8], theirs: &[u8], at: Cursor) -> Option<Cursor>
     requires { Open ours.now at × (is_digit (get_or ours.now at.ours 0) ≡ false) }
     ensures { Turned ours.now theirs.now at result }
 {
-    let i = at.ours;
-    let b = ours[i];
+    let b = ours[at.ours];
     if stands(theirs, at.theirs, b) {
-        let next = after_byte(at, b);
-        Turn::On(next)
+        Some(after_byte(at, b))
     } else {
-        Turn::Parted
+        None
     }
 }
 
-// What stands at a cursor.
-fn turn_at(ours: &[u8], theirs: &[u8], at: Cursor) -> Turn
+// What stands at a cursor: the same.
+fn turn_at(ours: &[u8], theirs: &[u8], at: Cursor) -> Option<Cursor>
     requires { Open ours.now at }
     ensures { Turned ours.now theirs.now at result }
 {
-    let i = at.ours;
-    let b = ours[i];
-    if is_digit(b) {
+    if is_digit(ours[at.ours]) {
         number_turn(ours, theirs, at)
     } else {
         byte_turn(ours, theirs, at)
@@ -166,30 +147,29 @@ fn turn_at(ours: &[u8], theirs: &[u8], at: Cursor) -> Turn
 // ---- the whole
 
 // What is answered where the two part: a line that begins where the listing ends is wanting, any other differs.
-fn parted(theirs: &[u8], at: Cursor) -> Checked
-    ensures { result ≡ parted_from theirs.now at }
+fn parted(theirs: &[u8], at: Cursor) -> Mismatch
+    ensures { Err result ≡ parted_from theirs.now at }
 {
-    let over = theirs.len() <= at.theirs;
-    if at.fresh & over {
-        Checked::Wanting(at.line)
+    if at.fresh && theirs.len() <= at.theirs {
+        Mismatch::Wanting(at.line)
     } else {
-        Checked::Differs(at.line)
+        Mismatch::Differs(at.line)
     }
 }
 
 // What is answered where our register ends.
-fn ended(theirs: &[u8], at: Cursor) -> Checked
+fn ended(theirs: &[u8], at: Cursor) -> Result<(), Mismatch>
     ensures { result ≡ ended_from theirs.now at }
 {
     if at.theirs < theirs.len() {
-        Checked::LeftOver(at.line)
+        Err(Mismatch::LeftOver(at.line))
     } else {
-        Checked::Agrees
+        Ok(())
     }
 }
 
 // Our register with a listing.
-pub(crate) fn compare(ours: &[u8], theirs: &[u8]) -> Checked
+pub(crate) fn compare(ours: &[u8], theirs: &[u8]) -> Result<(), Mismatch>
     ensures { result ≡ compared_of ours.now theirs.now }
 {
     let mut at = Cursor {
@@ -199,9 +179,8 @@ pub(crate) fn compare(ours: &[u8], theirs: &[u8]) -> Checked
         fresh: true,
     };
     while at.ours < ours.len() {
-        let turn = turn_at(ours, theirs, at);
-        let Turn::On(next) = turn else {
-            return parted(theirs, at);
+        let Some(next) = turn_at(ours, theirs, at) else {
+            return Err(parted(theirs, at));
         };
         at = next;
     }

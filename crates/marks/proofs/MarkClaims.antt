@@ -7,6 +7,7 @@ use mathlib.Core.Logic.{◌⊎◌, inl, inr}
 use mathlib.Core.Bool.{Bool, true, false}
 use native.Mathlib.Omega.{arith}
 use lib.ListN.{length}
+use Rattle.std.specs.Prelude.{Some}
 use Rattle.net.specs.Records.{node_at, tuple_at}
 use Rattle.net.specs.declared.locality.Group.{Group}
 use Rattle.net.specs.Groups.{member}
@@ -22,7 +23,7 @@ use Rattle.rules.specs.Rules.{Reduces, OUT, IN, READ, EVAL, NEW, FORK, OUT_ALL, 
 use Rattle.rules.specs.DemandOne.{Held, out_held, picked_process, picked_action, OnlyWithRight}
 use Rattle.rules.proofs.DemandOne.{Left, was_performed, was_ended, as_it_was, is_performed, picked_left, only_with_right}
 use Rattle.rules.proofs.Rules.{step_is_pick, stop_is_pick}
-use Rattle.marks.specs.Types.{Locality, Place, Process, Node, Target, Action, Net, Aim}
+use Rattle.marks.specs.Types.{Locality, Place, Process, Node, Target, Action, Net}
 use Rattle.marks.specs.MarkClaims.{values_of, PutsAt, by_out, by_out_all, Added, StandsAt, MarkIsTrue}
 use Rattle.marks.proofs.Nodes.{Stood, PutOr, stays, host_stood, hosts_stood, in_stood, created_stood}
 use Rattle.marks.proofs.Nodes.{out_added, out_or, all_added, all_or, passed_stood}
@@ -39,13 +40,13 @@ module _ (s : Net) (ok : NetOk s) (l : Locality) (h : l.0 < s.addresses) where
 -- ---- the step of an out, to its target
 record OutStep (s : Net) (a : Locality) (k : ℕ) (t : Target) (after : Net) : Type 0 where
   l : Locality
-  points : target_of a (process_in s a k) t ≡ Aim.At l
+  points : target_of a (process_in s a k) t ≡ Some l
   adds : Added (tuple_of (template_in s a k)) a (node_at s l) (node_at after l)
 
 same_target : (t u : Target) (q r : Place) → Action.Out u r ≡ Action.Out t q → u ≡ t
 same_target t u q r e = cc
 
-same_address : (l m : Locality) → Aim.At m ≡ Aim.At l → m ≡ l
+same_address : (l m : Locality) → Some m ≡ Some l → m ≡ l
 same_address l m e = cc
 
 same_group : (g h : Group) (q r : Place) → Action.OutAll h r ≡ Action.OutAll g q → h ≡ g
@@ -64,7 +65,7 @@ module _ (s : Net) (a : Locality) (k : ℕ) where
         let same = same_target t u q r (sym h.acts ∙ e) in
         record {
           l = l;
-          points = subst (λ (x : Target). target_of a (process_in s a k) x ≡ Aim.At l) same p.points;
+          points = subst (λ (x : Target). target_of a (process_in s a k) x ≡ Some l) same p.points;
           adds = out_added s a k _ l _ (size s ok l p.exists) room (node_in_law s ok l p.exists);
         }
     out_step ok _ (IN h p d g o) = no_other _ e _ h (λ w. cc w)
@@ -92,12 +93,12 @@ module _ (s : Net) (a : Locality) (k : ℕ) where
 -- the right that it has is one at its target
 held_points :
     (row : Row) (a : Locality) (p : Process) (t : Target) (q : Place) → Held row a p (Action.Out t q)
-    → (l : Locality) × (target_of a p t ≡ Aim.At l)
+    → (l : Locality) × (target_of a p t ≡ Some l)
 held_points row a p t q (out_held {l = l} points g) = (l, points)
 
 out_points :
     (s : Net) (b : ℕ) (t : Target) (q : Place) → number_of (pick_of s b).answer ≡ 0 → picked_action s b ≡ Action.Out t q
-    → (l : Locality) × (target_of (host_of b) (picked_process s b) t ≡ Aim.At l)
+    → (l : Locality) × (target_of (host_of b) (picked_process s b) t ≡ Some l)
 unfolding OnlyWithRight
 out_points s b t q h e = held_points _ _ _ t q (subst (Held _ _ _) e (only_with_right s b h))
 

@@ -1,7 +1,7 @@
 -- Who put it there (document 02, slip 8): "Each tuple record carries the address of the node where its out was performed;
 -- tuples of an image carry their own node's address." Said of every net that an accepted source comes to by picks, so that
 -- a keeper may rely on the mark of a tuple that stands there.
-use Rattle.std.specs.Prelude.{ℕ, ◌+◌, ◌<◌, ◌≡◌, ◌⊎◌, true, List}
+use Rattle.std.specs.Prelude.{ℕ, ◌+◌, ◌<◌, ◌≡◌, ◌⊎◌, true, List, Some}
 use Rattle.net.specs.declared.locality.Group.{Group}
 use Rattle.net.specs.Groups.{member}
 use Rattle.net.specs.Records.{node_at, tuple_at, instruction_at}
@@ -14,7 +14,7 @@ use Rattle.plans.specs.Additions.{tuple_of}
 use Rattle.step.specs.Pick.{host_of, pick_of}
 use Rattle.rules.specs.DemandOne.{picked_process, picked_action}
 use Rattle.runs.specs.Run.{ran_from}
-use Rattle.marks.specs.Types.{Locality, Place, Tuple, Node, Target, Action, Net, Verdict, TextVerdict, Aim}
+use Rattle.marks.specs.Types.{Locality, Place, Tuple, Node, Target, Action, Net, Verdict, TextVerdict}
 
 -- ---- the nets that are spoken of
 
@@ -40,7 +40,7 @@ pub data PutsAt (s : Net) (b : ℕ) (l : Locality) : Type 0 where
       {t : Target} {q : Place}
       → number_of (pick_of s b).answer ≡ 0
       → picked_action s b ≡ Action.Out t q
-      → target_of (host_of b) (picked_process s b) t ≡ Aim.At l
+      → target_of (host_of b) (picked_process s b) t ≡ Some l
       → PutsAt s b l
   by_out_all :
       {g : Group} {q : Place}
@@ -78,7 +78,7 @@ pub record MarkIsTrue : Type 0 where
       (s : Net) (b : ℕ) (t : Target) (q : Place)
       → number_of (pick_of s b).answer ≡ 0
       → picked_action s b ≡ Action.Out t q
-      → (l : Locality) × (target_of (host_of b) (picked_process s b) t ≡ Aim.At l)
+      → (l : Locality) × (target_of (host_of b) (picked_process s b) t ≡ Some l)
   -- at its target, or at each member of its set, one tuple is added, as the newest, and bears the address where the out was
   -- performed: the pick's
   pub added :

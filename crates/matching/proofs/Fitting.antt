@@ -9,6 +9,9 @@ use native.Mathlib.Omega.{arith}
 use lib.Dec.{eqb}
 use lib.IntN.{ℤ}
 use borrow.Author.Tests.{ltb-true, lt-ltb, eq-eqb, eqb-true}
+use Rattle.std.proofs.lemmas.Bool.Decides.{same_from_decides, Decides-int_eq}
+use Rattle.net.specs.contracts.tuple.ItemPartialEq.TheImpl as item
+use Rattle.net.specs.Readings.{same_reading}
 use Rattle.matching.specs.Types.{Locality, Value, Item, Tuple, Process, Pattern, Instruction}
 use Rattle.net.specs.Records.{variable_at, pattern_at}
 use Rattle.matching.specs.Matching.{Want, Wanted, Evaluated, is_set, held_item, defined_field, want_of, zero_wanted}
@@ -34,6 +37,16 @@ item_equal (Item.Reading x) (Item.Address m) h = never h
 item_equal (Item.Address l) (Item.Reading y) h = never h
 item_equal (Item.Address l) (Item.Address m) h =
     ap (λ (n : ℕ). Item.Address (record { 0 = n })) (eqb-true l.0 m.0 h)
+
+-- the derived test is this one
+pub same_item_is : (x y : Item) → (item.eq-value).it x y ≡ same_item x y
+unfolding same_item
+same_item_is (Item.Reading x) (Item.Reading y) =
+    same_from_decides _ _ (Decides-int_eq x y)
+    (reading_equal x y, λ e. subst (λ (z : ℤ). same_reading x z ≡ true) e (same_reading_law x))
+same_item_is (Item.Reading x) (Item.Address m) = refl
+same_item_is (Item.Address l) (Item.Reading y) = refl
+same_item_is (Item.Address l) (Item.Address m) = refl
 
 -- ---- fitting
 field_fits : (x : Item) (w : Want) → fits_field x w ≡ true → FieldFits x w

@@ -1,3 +1,2 @@
 pub mod Fitting
-pub mod MatchingLaws
 pub mod MatchingPromise

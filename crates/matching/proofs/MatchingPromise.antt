@@ -11,10 +11,11 @@ use lib.IntN.{ℤ}
 use lib.ListN.{length, length-set}
 use lib.Seq.{get_or-set_same, get_or-set_other}
 use borrow.Author.Tests.{ltb-true, lt-ltb, eqb-true}
+use Rattle.std.specs.Prelude.{Option, Some, None}
 use Rattle.net.specs.Choice.{both}
 use Rattle.matching.specs.Types.{Locality, Value, Variable, Item, Tuple, Process, Node, Pattern, Instruction}
 use Rattle.net.specs.Records.{marked, field_at, variable_at, tuple_at, pattern_at, with_variable}
-use Rattle.matching.specs.Matching.{Want, Wanted, Evaluated, Found, held_item, want_of, zero_wanted, wants_of, evaluated_of}
+use Rattle.matching.specs.Matching.{Want, Wanted, Evaluated, held_item, want_of, zero_wanted, wants_of, evaluated_of}
 use Rattle.matching.specs.Matching.{want_at, fits_field, fits_of}
 use Rattle.matching.specs.Matching.{is_reading, is_address, oldest_of, value_of, bound_field, bound_of, bound_at, matched_of}
 use Rattle.matching.specs.MatchingPromise.{OldestThatFits, Holds, reading_met, address_met, as_before}
@@ -55,18 +56,18 @@ oldest_lowest x e i few = (
       },
 )
 
-found_at : (x : Node) (e : Evaluated) (i j : ℕ) → OldestThatFits x e j → Found.At j ≡ Found.At i → OldestThatFits x e i
+found_at : (x : Node) (e : Evaluated) (i j : ℕ) → OldestThatFits x e j → Some j ≡ Some i → OldestThatFits x e i
 found_at x e i j h q = let same : j ≡ i = cc in rw (← same) h
 
-nothing_at : (x : Node) (e : Evaluated) (i : ℕ) → Found.Nothing ≡ Found.At i → OldestThatFits x e i
+nothing_at : (x : Node) (e : Evaluated) (i : ℕ) → None ≡ Some i → OldestThatFits x e i
 nothing_at x e i q = let z : ◌≡◌ {A = ℕ} 0 1 = cc in absurd (omega arith)
 
-found_is_oldest : (x : Node) (e : Evaluated) (i : ℕ) → x.stored ≤ 16 → (oldest_of x e ≡ Found.At i) ↔ OldestThatFits x e i
+found_is_oldest : (x : Node) (e : Evaluated) (i : ℕ) → x.stored ≤ 16 → (oldest_of x e ≡ Some i) ↔ OldestThatFits x e i
 unfolding oldest_of fit_test
 found_is_oldest x e i few = (
-  first_cases (λ f. f ≡ Found.At i → OldestThatFits x e i) 16 (fit_test x e) Found.At Found.Nothing
+  first_cases (λ f. f ≡ Some i → OldestThatFits x e i) 16 (fit_test x e) Some None
       (λ j h. found_at x e i j ((oldest_lowest x e j few).0 h)) (nothing_at x e i),
-  λ h. first_is 16 (fit_test x e) Found.At Found.Nothing i ((oldest_lowest x e i few).1 h),
+  λ h. first_is 16 (fit_test x e) Some None i ((oldest_lowest x e i few).1 h),
 )
 
 -- ---- a variable set
@@ -240,10 +241,10 @@ module _
     wants_in_range c h i x l = (wants_sound c h).holds i l x
 
 -- ---- what is found is stored
-found_is_stored : (x : Node) (e : Evaluated) (i : ℕ) → oldest_of x e ≡ Found.At i → i < x.stored
+found_is_stored : (x : Node) (e : Evaluated) (i : ℕ) → oldest_of x e ≡ Some i → i < x.stored
 unfolding oldest_of
 found_is_stored x e i =
-    first_cases (λ f. f ≡ Found.At i → i < x.stored) 16 _ Found.At Found.Nothing
+    first_cases (λ f. f ≡ Some i → i < x.stored) 16 _ Some None
     (λ j h d. let same : j ≡ i = cc in rw (← same) (ltb-true _ _ (both_l _ _ h.holds)))
     (λ d. let z : ◌≡◌ {A = ℕ} 0 1 = cc in absurd (omega arith))
 
@@ -261,8 +262,8 @@ matching_promise = record {
   fits = fits_is;
   finds = λ p x e i. found_is_oldest x e i;
   stored = λ p x e i. found_is_stored x e i;
-  binds = λ p x e i d. ap (λ (f : Found). bound_at f p x e) d;
-  leaves = λ p x e d. ap (λ (f : Found). bound_at f p x e) d;
+  binds = λ p x e i d. ap (λ (f : Option ℕ). bound_at f p x e) d;
+  leaves = λ p x e d. ap (λ (f : Option ℕ). bound_at f p x e) d;
   sets = bound_sets;
   marks = mark_aside;
   counts = λ a p c. refl;

@@ -3,9 +3,8 @@
 pub use Rattle.matching.specs.declared.template.Want.{Want}
 pub use Rattle.matching.specs.declared.template.Wanted.{Wanted}
 pub use Rattle.matching.specs.declared.template.Evaluated.{Evaluated}
-pub use Rattle.matching.specs.declared.template.Found.{Found}
 pub use Rattle.matching.specs.declared.template.Matched.{Matched}
-use Rattle.std.specs.Prelude.{ℕ, Bool, true, false, List, get_or, set, replicate, eqb, ltb, ℤ}
+use Rattle.std.specs.Prelude.{ℕ, Bool, true, false, List, get_or, set, replicate, eqb, ltb, ℤ, Option, Some, None}
 use Rattle.net.specs.Choice.{choose, both, implies, all, first_below, fold}
 use Rattle.net.specs.Readings.{same_reading}
 use Rattle.matching.specs.Types.{Locality, Value, Item, Tuple, Process, Node, Pattern, Instruction}
@@ -87,8 +86,8 @@ fits_of t e =
     both (eqb t.count e.count) (all 4 (λ i. implies (ltb i e.count) (fits_field (field_at t i) (want_at e i))))
 
 -- the oldest tuple of the node that fits: tuples stand oldest first
-unfoldable pub oldest_of : Node → Evaluated → Found
-oldest_of n e = first_below 16 (λ i. both (ltb i n.stored) (fits_of (tuple_at n i) e)) Found.At Found.Nothing
+unfoldable pub oldest_of : Node → Evaluated → Option ℕ
+oldest_of n e = first_below 16 (λ i. both (ltb i n.stored) (fits_of (tuple_at n i) e)) Some None
 
 -- ---- binding: each formal's variable is set to the field that it met
 
@@ -106,9 +105,9 @@ bound_of p t e = fold 4 (λ i q. choose (ltb i e.count) (bound_field q (field_at
 
 -- ---- what the crate above calls: which tuple an evaluated template meets at a node, and the process afterwards, which
 -- is unchanged where none fits. What it may rest on is in `MatchingPromise.antt`
-unfoldable pub bound_at : Found → Process → Node → Evaluated → Process
-bound_at (Found.At i) p n e = bound_of p (tuple_at n i) e
-bound_at Found.Nothing p n e = p
+unfoldable pub bound_at : Option ℕ → Process → Node → Evaluated → Process
+bound_at (Some i) p n e = bound_of p (tuple_at n i) e
+bound_at None p n e = p
 
 unfoldable pub matched_of : Process → Node → Evaluated → Matched
 matched_of p n e = record { found = oldest_of n e; process = bound_at (oldest_of n e) p n e }

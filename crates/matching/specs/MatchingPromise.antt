@@ -1,10 +1,10 @@
 -- What matching promises to the crates above it (document 01, "One pick": "the stepping part rests on the written
 -- promise of the fitting part and on none of its inner text"). The proofs of `step`, and those of `run` and `tenant` over
 -- it, cite these clauses and open no definition of `Matching.antt`; `edges` opens all, to compute the starred edges.
-use Rattle.std.specs.Prelude.{ℕ, ◌<◌, ◌≤◌, ◌≡◌, ◌↔◌, ◌⊎◌, true, false, length, get_or, ℤ}
+use Rattle.std.specs.Prelude.{ℕ, ◌<◌, ◌≤◌, ◌≡◌, ◌↔◌, ◌⊎◌, true, false, length, get_or, ℤ, Some, None}
 use Rattle.matching.specs.Types.{Locality, Value, Item, Tuple, Process, Node, Instruction}
 use Rattle.net.specs.Records.{field_at, variable_at, tuple_at, pattern_at, marked}
-use Rattle.matching.specs.Matching.{Want, Evaluated, Found}
+use Rattle.matching.specs.Matching.{Want, Evaluated}
 use Rattle.matching.specs.Matching.{evaluated_of, want_at, fits_of, bound_of, matched_of}
 use Rattle.net.specs.Readings.{same_reading}
 use Rattle.matching.specs.Fitting.{Wants, AllSet, Fits}
@@ -63,19 +63,19 @@ pub record MatchingPromise : Type 0 where
   pub finds :
       (p : Process) (x : Node) (e : Evaluated) (i : ℕ)
       → x.stored ≤ 16
-      → ((matched_of p x e).found ≡ Found.At i) ↔ OldestThatFits x e i
+      → ((matched_of p x e).found ≡ Some i) ↔ OldestThatFits x e i
   -- what is found is a stored tuple, whatever the node
   pub stored :
-      (p : Process) (x : Node) (e : Evaluated) (i : ℕ) → (matched_of p x e).found ≡ Found.At i → i < x.stored
+      (p : Process) (x : Node) (e : Evaluated) (i : ℕ) → (matched_of p x e).found ≡ Some i → i < x.stored
   -- the process is then the one bound to that tuple
   pub binds :
       (p : Process) (x : Node) (e : Evaluated) (i : ℕ)
-      → (matched_of p x e).found ≡ Found.At i
+      → (matched_of p x e).found ≡ Some i
       → (matched_of p x e).process ≡ bound_of p (tuple_at x i) e
   -- and where no tuple fits it is unchanged: no formal is bound before the whole template fits
   pub leaves :
       (p : Process) (x : Node) (e : Evaluated)
-      → (matched_of p x e).found ≡ Found.Nothing
+      → (matched_of p x e).found ≡ None
       → (matched_of p x e).process ≡ p
   -- "Formals are then set"
   pub sets :

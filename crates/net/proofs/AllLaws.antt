@@ -1,7 +1,7 @@
 -- Laws of tests, and of the loops that run one test at each number below a bound (`all` of `specs/Choice.antt`), stated
 -- over the test. The code joins truth values by `&`. Assumes nothing.
 use Prim.Native.Nat.{ℕ, zero, suc, ◌+◌, ◌<◌, ◌≤◌}
-use mathlib.Core.Path.{◌≡◌, refl, ap, ◌∙◌}
+use mathlib.Core.Path.{◌≡◌, refl, sym, ap, ◌∙◌}
 use mathlib.Core.Bool.{Bool, true, false, ◌&&◌}
 use native.Mathlib.Omega.{arith}
 use native.Mathlib.Numerals.{add-one}
@@ -56,6 +56,27 @@ all_more i test ok good p q = rw add-one (more i test ok good p q)
 
 pub all_end : (i n : ℕ) (test : ℕ → Bool) (ok : Bool) → ok ≡ all i test → i ≤ n → n ≤ i → ok ≡ all n test
 all_end i n test ok p l g = let e : i ≡ n = omega arith in rw e at p
+
+-- the test holds at one number more, in a loop that stops where it fails
+pub all_still : (i : ℕ) (test : ℕ → Bool) → true ≡ all i test → true ≡ test i → true ≡ all (i + 1) test
+all_still i test p q = all_more i test true true p q
+
+-- what a callee answered decides a test under a condition that holds
+pub unmet : (a b : ℕ) (y r : Bool) → a < b → r ≡ y → r ≡ false → implies (ltb a b) y ≡ false
+unmet a b y r h p q = sym (when_lt y a b r h p) ∙ q
+
+pub met : (a b : ℕ) (y r : Bool) → a < b → r ≡ y → r ≡ true → true ≡ implies (ltb a b) y
+met a b y r h p q = sym q ∙ when_lt y a b r h p
+
+-- the same where the condition is what a callee answered
+pub kept : (a y s r : Bool) → s ≡ a → s ≡ true → r ≡ y → r ≡ true → true ≡ implies a y
+kept a y s r p q e f = sym f ∙ when_true r y a (sym p ∙ q) e
+
+pub broken : (a y s r : Bool) → s ≡ a → s ≡ true → r ≡ y → r ≡ false → implies a y ≡ false
+broken a y s r p q e f = sym (when_true r y a (sym p ∙ q) e) ∙ f
+
+pub idle : (a y s : Bool) → s ≡ a → s ≡ false → true ≡ implies a y
+idle a y s p q = when_false y a (sym p ∙ q)
 
 -- two tests that agree at each number below n
 pub all_same : (n : ℕ) (f g : ℕ → Bool) → ((i : ℕ) → i < n → f i ≡ g i) → all n f ≡ all n g

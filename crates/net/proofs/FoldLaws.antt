@@ -1,10 +1,14 @@
 -- Laws of the loops that change one value at each number below a bound (`fold` of `specs/Choice.antt`), stated over what
 -- a turn does. Assumes nothing.
 use Prim.Native.Nat.{ℕ, zero, suc, ◌+◌, ◌<◌, ◌≤◌}
-use mathlib.Core.Path.{◌≡◌, ap, ◌∙◌}
+use mathlib.Core.Path.{◌≡◌, refl, ap, ◌∙◌}
+use mathlib.Core.Bool.{Bool, true, false, cond}
+use mathlib.Core.List.{List, [], ◌∷◌}
+use lib.ListN.{length, get_or}
 use native.Mathlib.Omega.{arith}
 use native.Mathlib.Numerals.{add-one}
-use Rattle.net.specs.Choice.{fold}
+use Rattle.std.specs.List.{count_by}
+use Rattle.net.specs.Choice.{choose, fold}
 
 module _ {A : Type 0} (f : ℕ → A → A) (a : A) where
   -- no turn is made
@@ -32,3 +36,24 @@ module _ {A : Type 0} (P : ℕ → A → Type 0) (f : ℕ → A → A) (a : A) w
   fold_keeps zero p turn = p
   fold_keeps (suc size) p turn =
       turn size _ (omega arith) (fold_keeps size p (λ i x h q. turn i x (omega arith) q))
+
+-- how many of four elements pass a test, as a list counts them
+module _ {A : Type 0} (p : A → Bool) (d : A) where
+  one_more : (b : Bool) (m : ℕ) → choose b (m + 1) m ≡ m + cond b 1 0
+  unfolding choose
+  one_more true m = refl
+  one_more false m = omega arith
+
+  at_most : (b : Bool) → cond b 1 0 ≤ 1
+  at_most true = omega arith
+  at_most false = omega arith
+
+  pub counted_four : (xs : List A) → length xs ≡ 4
+      → (count_by p xs ≡ fold 4 (λ i m. choose (p (get_or xs i d)) (m + 1) m) 0) × (count_by p xs ≤ 4)
+  unfolding fold
+  counted_four (a ∷ b ∷ c ∷ e ∷ []) l = (simp one_more (omega arith), omega (arith, at_most (p a), at_most (p b), at_most (p c), at_most (p e)))
+  counted_four [] l = absurd (omega arith)
+  counted_four (a ∷ []) l = absurd (omega arith)
+  counted_four (a ∷ b ∷ []) l = absurd (omega arith)
+  counted_four (a ∷ b ∷ c ∷ []) l = absurd (omega arith)
+  counted_four (a ∷ b ∷ c ∷ e ∷ f ∷ xs) l = absurd (omega arith)

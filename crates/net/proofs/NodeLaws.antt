@@ -7,10 +7,12 @@ use lib.Dec.{ltb}
 use lib.ListN.{length, set}
 use lib.Seq.{set_out}
 use borrow.Author.Tests.{lt-ltb, le-ltb, ltb-true}
+use Rattle.std.specs.Prelude.{Option, Some, None}
+use Rattle.std.specs.Prelude.{Some, None, unwrap_or}
 use Rattle.net.specs.Choice.{choose, fold}
 use Rattle.net.specs.Records.{Locality, Value, Tuple, Rights, Row, Process, Node, row_at, row_for, tuple_at, zero_row, zero_tuple, with_rights}
 use Rattle.net.specs.Records.{with_variable, with_row, with_rows, with_process}
-use Rattle.net.specs.Records.{after_taking, without_tuple, Slot, Changed, with_tuple, free_slot, put_in, taken_from, started_at_slot, started_on}
+use Rattle.net.specs.Records.{after_taking, without_tuple, put_in, with_tuple}
 use Rattle.net.proofs.Laws.{choose_true, choose_false}
 use Rattle.net.proofs.FoldLaws.{fold_none, fold_more, fold_end}
 
@@ -83,33 +85,11 @@ module _ (x : Node) (i : ℕ) where
     tuples = fold_end _ x.tuples j 16 node.tuples h.tuples h.low l d;
   }
 
--- ---- what a node answers to a put, a take and a start
-module _ (x : Node) where
-  pub put_done : (t : Tuple) → x.stored < 16
-      → ◌≡◌ {A = Changed} (record { done = true; node = record { rows = x.rows; processes = x.processes; stored = x.stored + 1; tuples = set x.tuples x.stored t } }) (put_in x t)
-  unfolding put_in with_tuple choose
-  put_done t h = rw (lt-ltb x.stored 16 h)
-
-  pub put_full : (t : Tuple) → 16 ≤ x.stored → ◌≡◌ {A = Changed} (record { done = false; node = x }) (put_in x t)
-  unfolding put_in with_tuple choose
-  put_full t h = rw (le-ltb x.stored 16 h)
-
-  pub take_done : (i : ℕ) (y : Node) → ltb i x.stored ≡ true → y ≡ without_tuple x i
-      → ◌≡◌ {A = Changed} (record { done = ltb i x.stored; node = y }) (taken_from x i)
-  unfolding taken_from choose
-  take_done i y h q = rw (h, q)
-
-  pub take_none : (i : ℕ) → ltb i x.stored ≡ false
-      → ◌≡◌ {A = Changed} (record { done = ltb i x.stored; node = x }) (taken_from x i)
-  unfolding taken_from choose
-  take_none i h = rw h
-
-  pub start_done : (p : Process) (slot : Slot) (j : ℕ) (y : Node) → slot ≡ free_slot x → slot ≡ Slot.Number j → y ≡ with_process x j p
-      → ◌≡◌ {A = Changed} (record { done = true; node = y }) (started_on x p)
-  unfolding started_on started_at_slot
-  start_done p slot j y e h q = rw (← e, h, q)
-
-  pub start_full : (p : Process) (slot : Slot) → slot ≡ free_slot x → slot ≡ Slot.Full
-      → ◌≡◌ {A = Changed} (record { done = false; node = x }) (started_on x p)
-  unfolding started_on started_at_slot
-  start_full p slot e h = rw (← e, h)
+-- a node with a tuple put, or as it was
+pub put_or : (x : Node) (t : Tuple) → unwrap_or (put_in x t) x ≡ with_tuple x t
+unfolding put_in with_tuple choose
+put_or x t = go (ltb x.stored 16) _
+  where
+    go : (b : Bool) (y : Node) → unwrap_or (choose b (Some (choose b y x)) None) x ≡ choose b y x
+    go true y = refl
+    go false y = refl

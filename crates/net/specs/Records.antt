@@ -10,15 +10,13 @@ pub use Rattle.net.specs.declared.policy.Rights.{Rights}
 pub use Rattle.net.specs.declared.policy.Row.{Row}
 pub use Rattle.net.specs.declared.process.Process.{Process}
 pub use Rattle.net.specs.declared.node.Node.{Node}
-pub use Rattle.net.specs.declared.node.Slot.{Slot}
-pub use Rattle.net.specs.declared.node.Changed.{Changed}
 pub use Rattle.net.specs.declared.instruction.Target.{Target}
 pub use Rattle.net.specs.declared.instruction.Pattern.{Pattern}
 pub use Rattle.net.specs.declared.instruction.TemplateField.{TemplateField}
 pub use Rattle.net.specs.declared.instruction.Action.{Action}
 pub use Rattle.net.specs.declared.instruction.Instruction.{Instruction}
 pub use Rattle.net.specs.declared.network.Net.{Net}
-use Rattle.std.specs.Prelude.{ℕ, ◌+◌, ◌-◌, ltb, true, false, not, List, [], get_or, set, replicate, ℤ}
+use Rattle.std.specs.Prelude.{ℕ, ◌+◌, ◌-◌, ltb, true, false, not, List, [], get_or, set, replicate, ℤ, Option, Some, None}
 use Rattle.net.specs.Choice.{choose, fold, first_below}
 
 -- ---- zero records: what an unused record, a free slot and the empty net hold
@@ -203,27 +201,27 @@ without_tuple x i = record {
 }
 
 -- the lowest free slot of a node
-unfoldable pub free_slot : Node → Slot
-free_slot x = first_below 4 (λ j. not (process_at x j).busy) Slot.Number Slot.Full
+unfoldable pub free_slot : Node → Option ℕ
+free_slot x = first_below 4 (λ j. not (process_at x j).busy) Some None
 
 -- how many processes a node has: its busy slots
 unfoldable pub process_count : Node → ℕ
 process_count x = fold 4 (λ i count. choose (process_at x i).busy (count + 1) count) 0
 
--- ---- what a node answers: whether the change was made, and the node after it
+-- ---- a node after a change, where the change can be made
 
 -- a tuple put as the newest, where there is room for it
-unfoldable pub put_in : Node → Tuple → Changed
-put_in x t = record { done = ltb x.stored 16; node = with_tuple x t }
+unfoldable pub put_in : Node → Tuple → Option Node
+put_in x t = choose (ltb x.stored 16) (Some (with_tuple x t)) None
 
 -- the tuple at place i taken, where there is one
-unfoldable pub taken_from : Node → ℕ → Changed
-taken_from x i = record { done = ltb i x.stored; node = choose (ltb i x.stored) (without_tuple x i) x }
+unfoldable pub taken_from : Node → ℕ → Option Node
+taken_from x i = choose (ltb i x.stored) (Some (without_tuple x i)) None
 
 -- a process started in the lowest free slot, where there is one
-unfoldable pub started_at_slot : Node → Process → Slot → Changed
-started_at_slot x p (Slot.Number j) = record { done = true; node = with_process x j p }
-started_at_slot x p Slot.Full = record { done = false; node = x }
+unfoldable pub started_at_slot : Node → Process → Option ℕ → Option Node
+started_at_slot x p (Some j) = Some (with_process x j p)
+started_at_slot x p None = None
 
-unfoldable pub started_on : Node → Process → Changed
+unfoldable pub started_on : Node → Process → Option Node
 started_on x p = started_at_slot x p (free_slot x)

@@ -43,7 +43,9 @@ pub enum Action {
     OutAll(Group, Place),
 }
 
-// An action with the `count` template fields of an out, to one or to all of a set, an in or a read; the fields past them are zero.
+// An action with the `count` template fields of an out, to one or to all of a set, an in or a read; the fields past them
+// are zero.
+// Kept: `count` beside the template: no heap, and `pick` answers for nets whose fields past it are not zero.
 #[derive(Clone, Copy, PartialEq, Eq, Debug)]
 pub struct Instruction {
     pub action: Action,
@@ -52,29 +54,31 @@ pub struct Instruction {
 }
 
 impl TemplateField {
+    #[tactic(auto, unfolding(crate::specs::Records::zero_template_field))]
     pub fn zero() -> TemplateField
         ensures { result ≡ zero_template_field }
     {
-        let pattern = Pattern::Reading(0);
-        TemplateField { pattern }
+        TemplateField {
+            pattern: Pattern::Reading(0),
+        }
     }
 }
 
 impl Instruction {
     // A stop, which has no template.
+    #[tactic(auto, unfolding(crate::specs::Records::zero_instruction))]
     pub fn zero() -> Instruction
         ensures { result ≡ zero_instruction }
     {
-        let action = Action::Stop;
-        let field = TemplateField::zero();
         Instruction {
-            action,
+            action: Action::Stop,
             count: 0,
-            template: [field; 4],
+            template: [TemplateField::zero(); 4],
         }
     }
 
     // The instruction with one template field more, or as it was where it has four.
+    #[tactic(auto, unfolding(crate::specs::Records::with_pattern, crate::specs::Choice::choose))]
     pub fn with_pattern(mut self, f: TemplateField) -> Instruction
         ensures { result ≡ with_pattern self f }
     {
@@ -82,21 +86,15 @@ impl Instruction {
         if at < 4 {
             self.template[at] = f;
             self.count = at + 1;
-            self
-        } else {
-            self
         }
+        self
     }
 
     // The instruction with another action.
+    #[tactic(auto, unfolding(crate::specs::Records::with_action))]
     pub fn with_action(self, action: Action) -> Instruction
         ensures { result ≡ with_action self action }
     {
-        let template = self.template;
-        Instruction {
-            action,
-            count: self.count,
-            template,
-        }
+        Instruction { action, ..self }
     }
 }

@@ -21,9 +21,7 @@ impl Group {
     {
         let at = l.0 as usize;
         if at < 16 {
-            let bits = self.0 as usize;
-            let high = bits >> (15 - at);
-            high % 2 == 1
+            (self.0 as usize >> (15 - at)) % 2 == 1
         } else {
             false
         }

@@ -21,6 +21,7 @@ pub struct Row {
 }
 
 impl Rights {
+    #[tactic(auto, unfolding(crate::specs::Records::no_rights))]
     pub fn none() -> Rights
         ensures { result ≡ no_rights }
     {
@@ -33,6 +34,7 @@ impl Rights {
     }
 
     // Every right.
+    #[tactic(auto, unfolding(crate::specs::Records::all_rights))]
     pub fn full() -> Rights
         ensures { result ≡ all_rights }
     {
@@ -47,17 +49,18 @@ impl Rights {
 
 impl Row {
     // A row that grants nothing.
+    #[tactic(auto, unfolding(crate::specs::Records::zero_row))]
     pub fn zero() -> Row
         ensures { result ≡ zero_row }
     {
-        let none = Rights::none();
         Row {
             create: false,
-            rights: [none; 16],
+            rights: [Rights::none(); 16],
         }
     }
 
     // The row for every origin.
+    #[tactic(auto, unfolding(crate::specs::Records::alike))]
     pub fn alike(self) -> [Row; 16]
         ensures { result ≡ alike self }
     {
@@ -65,15 +68,14 @@ impl Row {
     }
 
     // The row with other rights over an address, or as it was past the last one.
+    #[tactic(auto, unfolding(crate::specs::Records::with_rights))]
     pub fn with_rights(mut self, l: Locality, r: Rights) -> Row
         ensures { result ≡ with_rights self l r }
     {
         let at = l.0 as usize;
         if at < 16 {
             self.rights[at] = r;
-            self
-        } else {
-            self
         }
+        self
     }
 }

@@ -17,70 +17,72 @@ pub struct Process {
 
 impl Process {
     // A free slot.
+    #[tactic(auto, unfolding(crate::specs::Records::free_process))]
     pub fn free() -> Process
         ensures { result ≡ free_process }
     {
-        let unset = Variable::unset();
-        let at = Place(0);
-        let origin = Locality(0);
         Process {
             busy: false,
-            at,
-            origin,
-            variables: [unset; 8],
+            at: Place(0),
+            origin: Locality(0),
+            variables: [Variable::unset(); 8],
         }
     }
 
     // The process at another place.
-    pub fn moved_to(mut self, at: Place) -> Process
+    #[tactic(auto, unfolding(crate::specs::Records::moved_to))]
+    pub fn moved_to(self, at: Place) -> Process
         ensures { result ≡ moved_to self at }
     {
-        self.at = at;
-        self
+        Process { at, ..self }
     }
 
     // A new process at a place, of the same origin and with a copy of the variables.
-    pub fn copied_to(mut self, at: Place) -> Process
+    #[tactic(auto, unfolding(crate::specs::Records::copied_to))]
+    pub fn copied_to(self, at: Place) -> Process
         ensures { result ≡ copied_to self at }
     {
-        self.busy = true;
-        self.at = at;
-        self
+        Process {
+            busy: true,
+            at,
+            ..self
+        }
     }
 
     // Code that address a sends: a new process at a place, of origin a and with a copy of the variables.
-    pub fn sent_from(mut self, a: Locality, at: Place) -> Process
+    #[tactic(auto, unfolding(crate::specs::Records::sent_from))]
+    pub fn sent_from(self, a: Locality, at: Place) -> Process
         ensures { result ≡ sent_from a self at }
     {
-        self.busy = true;
-        self.at = at;
-        self.origin = a;
-        self
+        Process {
+            busy: true,
+            at,
+            origin: a,
+            ..self
+        }
     }
 
     // A process of an origin that starts at a place, with every variable unset.
+    #[tactic(auto, unfolding(crate::specs::Records::starting_at))]
     pub fn starting(origin: Locality, at: Place) -> Process
         ensures { result ≡ starting_at origin at }
     {
-        let unset = Variable::unset();
         Process {
             busy: true,
             at,
             origin,
-            variables: [unset; 8],
+            variables: [Variable::unset(); 8],
         }
     }
 
     // The process with a value in a variable, or as it was past the last variable.
+    #[tactic(auto, unfolding(crate::specs::Records::with_variable))]
     pub fn with_variable(mut self, v: usize, x: Value) -> Process
         ensures { result ≡ with_variable self v x }
     {
         if v < 8 {
-            let variable = Variable { value: x };
-            self.variables[v] = variable;
-            self
-        } else {
-            self
+            self.variables[v] = Variable { value: x };
         }
+        self
     }
 }

@@ -31,6 +31,7 @@ pub struct Field {
 
 // A tuple of `count` fields; the fields past them are zero. `mark` is the address of the node where its out was performed; an
 // image's tuples have that of their own node (document 02, slip 8).
+// Kept: `count` beside the fields: no heap, and `pick` answers for nets whose fields past it are not zero.
 #[derive(Clone, Copy, PartialEq, Eq, Debug)]
 pub struct Tuple {
     pub count: usize,
@@ -40,46 +41,51 @@ pub struct Tuple {
 
 impl Variable {
     // A variable that is not set.
+    #[tactic(auto, unfolding(crate::specs::Records::unset_variable))]
     pub fn unset() -> Variable
         ensures { result ≡ unset_variable }
     {
-        let value = Value::Unset;
-        Variable { value }
+        Variable {
+            value: Value::Unset,
+        }
     }
 }
 
 impl Field {
+    #[tactic(auto, unfolding(crate::specs::Records::zero_field))]
     pub fn zero() -> Field
         ensures { result ≡ zero_field }
     {
-        let item = Item::Reading(0);
-        Field { item }
+        Field {
+            item: Item::Reading(0),
+        }
     }
 }
 
 impl Tuple {
     // A record that holds no tuple.
+    #[tactic(auto, unfolding(crate::specs::Records::zero_tuple))]
     pub fn zero() -> Tuple
         ensures { result ≡ zero_tuple }
     {
-        let field = Field::zero();
-        let mark = Locality(0);
         Tuple {
             count: 0,
-            fields: [field; 4],
-            mark,
+            fields: [Field::zero(); 4],
+            mark: Locality(0),
         }
     }
 
     // The tuple with the mark of address a.
-    pub fn marked(mut self, a: Locality) -> Tuple
+    #[tactic(auto, unfolding(crate::specs::Records::marked))]
+    pub fn marked(self, a: Locality) -> Tuple
         ensures { result ≡ marked a self }
     {
-        self.mark = a;
-        self
+        Tuple { mark: a, ..self }
     }
 
+    // Kept: a twin of `with_pattern`: one function over both records would take the array and the count apart.
     // The tuple with one field more, or as it was where it has four.
+    #[tactic(auto, unfolding(crate::specs::Records::with_field, crate::specs::Choice::choose))]
     pub fn with_field(mut self, f: Field) -> Tuple
         ensures { result ≡ with_field self f }
     {
@@ -87,9 +93,7 @@ impl Tuple {
         if at < 4 {
             self.fields[at] = f;
             self.count = at + 1;
-            self
-        } else {
-            self
         }
+        self
     }
 }

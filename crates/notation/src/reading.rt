@@ -44,7 +44,7 @@ fn refuse(n: u8) -> Opened
 fn judge_net(net: Net) -> Opened
     ensures { result ≡ judged_net net }
 {
-    if admitted(net) {
+    if admitted(&net) {
         Opened {
             answer: Verdict::Accepted,
             net,

@@ -6,6 +6,7 @@ use mathlib.Core.Bool.{Bool, true, false}
 use native.Mathlib.Omega.{arith}
 use lib.Dec.{eqb}
 use borrow.Author.Tests.{lt-ltb}
+use Rattle.std.specs.Prelude.{Option, Some, None}
 use Rattle.net.specs.Choice.{choose}
 use Rattle.net.specs.Records.{node_at, with_node}
 use Rattle.net.specs.Groups.{member}
@@ -16,7 +17,7 @@ use Rattle.step.specs.Pick.{taken, in_found, input}
 use Rattle.step.specs.Pick.{read_found, read, started_in, eval, fork, unused, created_at, created, create, carried_out, acting}
 use Rattle.step.specs.Pick.{process_step, slot_step, step_of}
 use Rattle.step.proofs.EachMember.{room_same, all_through}
-use Rattle.step.specs.Types.{Place, Group, Tuple, Process, Node, Slot, Evaluated, Found, Answer}
+use Rattle.step.specs.Types.{Place, Group, Tuple, Process, Node, Evaluated, Answer}
 use Rattle.step.specs.declared.machine.Picked.{Picked}
 use Rattle.tenant.proofs.Fence.{choose_both}
 use Rattle.order.specs.Types.{Locality, Net, Request}
@@ -102,23 +103,23 @@ module _ {A B : Locality → Type 0} (away : (l : Locality) → A l → B l → 
   -- ---- each request of the process p at a in slot k
   module _ (s : Net) (a : Locality) (k : ℕ) (hosted : B a) where
     in_through :
-        (l : Locality) (q : Place) (i : Found) (p : Process) → B l
+        (l : Locality) (q : Place) (i : Option ℕ) (p : Process) → B l
         → through e (in_found s a k l q i p) ≡ in_found (done e s) a k l q i p
     unfolding in_found
-    in_through l q (Found.At i) p h = simp passing
-    in_through l q Found.Nothing p h = simp passing
+    in_through l q (Some i) p h = simp passing
+    in_through l q None p h = simp passing
 
-    read_through : (q : Place) (i : Found) (p : Process) → through e (read_found s a k q i p) ≡ read_found (done e s) a k q i p
+    read_through : (q : Place) (i : Option ℕ) (p : Process) → through e (read_found s a k q i p) ≡ read_found (done e s) a k q i p
     unfolding read_found
-    read_through q (Found.At i) p = simp passing
-    read_through q Found.Nothing p = simp passing
+    read_through q (Some i) p = simp passing
+    read_through q None p = simp passing
 
     started_through :
-        (l : Locality) (p copy : Process) (q : Place) (j : Slot) → B l
+        (l : Locality) (p copy : Process) (q : Place) (j : Option ℕ) → B l
         → through e (started_in s a k l p copy q j) ≡ started_in (done e s) a k l p copy q j
     unfolding started_in
-    started_through l p copy q (Slot.Number j) h = simp passing
-    started_through l p copy q Slot.Full h = simp passing
+    started_through l p copy q (Some j) h = simp passing
+    started_through l p copy q None h = simp passing
 
     stopped_through : through e (stopped s a k) ≡ stopped (done e s) a k
     unfolding stopped through

@@ -2,6 +2,7 @@
 use Prim.Native.Nat.{ℕ}
 use mathlib.Core.Path.{◌≡◌, refl, ap}
 use mathlib.Core.Bool.{Bool, true, false}
+use Rattle.std.specs.Prelude.{Option, Some, None}
 use Rattle.net.specs.Choice.{both}
 use Rattle.net.specs.Records.{node_at, with_node, with_tuple}
 use Rattle.net.proofs.Laws.{both_i}
@@ -11,7 +12,7 @@ use Rattle.step.specs.Pick.{host_of, slot_of, unchanged, performed, with_host, s
 use Rattle.step.specs.Pick.{read_found, read, started_in, eval, fork, unused, created_at, created, create, carried_out, acting}
 use Rattle.step.specs.Pick.{process_step, slot_step, step_of}
 use Rattle.step.proofs.EachMember.{all_kept}
-use Rattle.step.specs.Types.{Place, Tuple, Process, Node, Slot, Evaluated, Found, Answer}
+use Rattle.step.specs.Types.{Place, Tuple, Process, Node, Evaluated, Answer}
 use Rattle.step.specs.declared.machine.Picked.{Picked}
 use Rattle.tenant.proofs.Fence.{never}
 use Rattle.order.specs.Types.{Locality, Net, Request}
@@ -47,21 +48,21 @@ module _ {A : Locality → Type 0} (s : Net) where
     unfolding performed with_host done openings
     puts_two new p l x h = record { edit = put l h x (put a hosted _ none); is = refl; still = λ _. refl }
 
-    in_edits : (new : Bool) (l : Locality) (q : Place) (i : Found) (p : Process) → A l → Edited A s new (in_found s a k l q i p)
+    in_edits : (new : Bool) (l : Locality) (q : Place) (i : Option ℕ) (p : Process) → A l → Edited A s new (in_found s a k l q i p)
     unfolding in_found taken
-    in_edits new l q (Found.At i) p h = puts_two new _ l _ h
-    in_edits new l q Found.Nothing p h = refuses new _
+    in_edits new l q (Some i) p h = puts_two new _ l _ h
+    in_edits new l q None p h = refuses new _
 
-    read_edits : (new : Bool) (q : Place) (i : Found) (p : Process) → Edited A s new (read_found s a k q i p)
+    read_edits : (new : Bool) (q : Place) (i : Option ℕ) (p : Process) → Edited A s new (read_found s a k q i p)
     unfolding read_found
-    read_edits new q (Found.At i) p = puts new _
-    read_edits new q Found.Nothing p = refuses new _
+    read_edits new q (Some i) p = puts new _
+    read_edits new q None p = refuses new _
 
     started_edits :
-        (new : Bool) (l : Locality) (p copy : Process) (q : Place) (j : Slot) → A l → Edited A s new (started_in s a k l p copy q j)
+        (new : Bool) (l : Locality) (p copy : Process) (q : Place) (j : Option ℕ) → A l → Edited A s new (started_in s a k l p copy q j)
     unfolding started_in with_host
-    started_edits new l p copy q (Slot.Number j) h = puts_two new _ l _ h
-    started_edits new l p copy q Slot.Full h = refuses new _
+    started_edits new l p copy q (Some j) h = puts_two new _ l _ h
+    started_edits new l p copy q None h = refuses new _
 
     stopped_edits : (new : Bool) → Edited A s new (stopped s a k)
     unfolding stopped with_host done openings

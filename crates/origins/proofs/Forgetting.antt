@@ -6,13 +6,14 @@ use mathlib.Core.Bool.{Bool, true, false, not}
 use mathlib.Core.List.{List, [], ◌∷◌, map}
 use lib.Dec.{ltb}
 use lib.ListN.{set, get_or-map}
+use Rattle.std.specs.Prelude.{Some, None}
 use Rattle.net.specs.Choice.{choose, first_below}
 use Rattle.net.specs.Records.{free_process, zero_node, node_at, process_at, row_at, row_for, with_variable, with_rows, with_process}
 use Rattle.net.specs.Records.{with_tuple, with_node, with_counts, moved_to, copied_to, sent_from, after_taking, tuple_at}
 use Rattle.net.specs.Records.{without_tuple, free_slot}
 use Rattle.net.proofs.Past.{past_process, past_node}
 use Rattle.step.specs.Pick.{unchanged, performed, opened}
-use Rattle.step.specs.Types.{Place, Value, Tuple, Row, Slot, Answer}
+use Rattle.step.specs.Types.{Place, Value, Tuple, Row, Answer}
 use Rattle.step.specs.declared.machine.Picked.{Picked}
 use Rattle.origins.specs.Types.{Locality, Process, Node, Net}
 
@@ -101,7 +102,7 @@ process_at_law x k = get_or-map forget_process x.processes k past_process
 
 pub forget_slot : (x : Node) → free_slot (forget_node x) ≡ free_slot x
 unfolding free_slot forget_process
-forget_slot x i = first_below 4 (λ j. not (process_at_law x j i).busy) Slot.Number Slot.Full
+forget_slot x i = first_below 4 (λ j. not (process_at_law x j i).busy) Some None
 
 -- ---- changes of a node
 pub forget_with_rows : (x : Node) (rs : List Row) → forget_node (with_rows x rs) ≡ with_rows (forget_node x) rs

@@ -2,13 +2,14 @@
 use Prim.Native.Nat.{ℕ}
 use mathlib.Core.Path.{◌≡◌, refl, ◌∙◌}
 use mathlib.Core.List.{List, [], ◌∷◌}
+use Rattle.std.specs.Prelude.{Option, Some, None}
 use Rattle.net.specs.Records.{with_node, with_counts}
 use Rattle.net.proofs.Every.{chosen}
 use Rattle.step.specs.Pick.{unchanged, performed, with_host, stopped, added, out, out_all, taken, in_found, input, read_found, read}
 use Rattle.step.specs.Pick.{started_in, eval, fork, opened, created_at, created, create, carried_out, acting, process_step}
 use Rattle.step.specs.Pick.{slot_step, step_of, pick_of}
 use Rattle.step.proofs.EachMember.{all_kept}
-use Rattle.step.specs.Types.{Place, Slot, Evaluated, Found, Request, Answer}
+use Rattle.step.specs.Types.{Place, Evaluated, Request, Answer}
 use Rattle.step.specs.declared.machine.Picked.{Picked}
 use Rattle.runs.specs.Run.{answered, ran_from}
 use Rattle.origins.specs.Types.{Locality, Process, Net}
@@ -27,20 +28,20 @@ module _ (s : Net) where
   performed_stays t e = record { same = e }
 
   module _ (a : Locality) (k : ℕ) where
-    in_stays : (l : Locality) (q : Place) (i : Found) (p : Process) → Stays s (in_found s a k l q i p)
+    in_stays : (l : Locality) (q : Place) (i : Option ℕ) (p : Process) → Stays s (in_found s a k l q i p)
     unfolding in_found taken with_host with_node
-    in_stays l q (Found.At i) p = performed_stays _ refl
-    in_stays l q Found.Nothing p = refused_stays _
+    in_stays l q (Some i) p = performed_stays _ refl
+    in_stays l q None p = refused_stays _
 
-    read_stays : (q : Place) (i : Found) (p : Process) → Stays s (read_found s a k q i p)
+    read_stays : (q : Place) (i : Option ℕ) (p : Process) → Stays s (read_found s a k q i p)
     unfolding read_found with_host with_node
-    read_stays q (Found.At i) p = performed_stays _ refl
-    read_stays q Found.Nothing p = refused_stays _
+    read_stays q (Some i) p = performed_stays _ refl
+    read_stays q None p = refused_stays _
 
-    started_stays : (l : Locality) (p copy : Process) (q : Place) (j : Slot) → Stays s (started_in s a k l p copy q j)
+    started_stays : (l : Locality) (p copy : Process) (q : Place) (j : Option ℕ) → Stays s (started_in s a k l p copy q j)
     unfolding started_in with_host with_node
-    started_stays l p copy q (Slot.Number j) = performed_stays _ refl
-    started_stays l p copy q Slot.Full = refused_stays _
+    started_stays l p copy q (Some j) = performed_stays _ refl
+    started_stays l p copy q None = refused_stays _
 
     done_stays : (p : Process) (e : Evaluated) (r : Request) → Stays s (carried_out s a k p e r)
     unfolding carried_out stopped out out_all added input read eval create created created_at opened fork with_host with_node with_counts

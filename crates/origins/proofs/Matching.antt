@@ -5,13 +5,14 @@ use mathlib.Core.Path.{◌≡◌, refl, sym, ap, ◌∙◌}
 use mathlib.Core.Bool.{Bool, true, false}
 use lib.Dec.{ltb}
 use lib.ListN.{set, replicate}
+use Rattle.std.specs.Prelude.{Option, Some, None}
 use Rattle.net.specs.Choice.{choose, implies, all, fold}
 use Rattle.net.specs.Records.{variable_at, pattern_at, tuple_at, field_at}
 use Rattle.matching.specs.Matching.{want_at, defined_field, want_of, zero_wanted, wants_of, evaluated_of}
 use Rattle.matching.specs.Matching.{oldest_of, bound_field, bound_of, bound_at, matched_of}
 use Rattle.plans.specs.Request.{target_of, at, spoken, asked, request_of}
 use Rattle.step.specs.Types.{Locality, Item, Tuple, Process, Node, Target, Pattern, Action, Instruction}
-use Rattle.step.specs.Types.{Want, Evaluated, Found, Aim, Request}
+use Rattle.step.specs.Types.{Want, Evaluated, Request}
 use Rattle.origins.proofs.Forgetting.{forget_process, forget_node, forget_variable}
 
 -- ---- asking
@@ -54,10 +55,10 @@ module _ (a : Locality) (p : Process) where
   asked_same : (e : Evaluated) (x : Action) → asked a (forget_process p) e x ≡ asked a p e x
   unfolding asked
   asked_same e Action.Stop = refl
-  asked_same e (Action.Out t q) = ap (λ (m : Aim). spoken e m (λ l. Request.Out l q)) (target_same t)
-  asked_same e (Action.In t q) = ap (λ (m : Aim). spoken e m (λ l. Request.In l q)) (target_same t)
-  asked_same e (Action.Read t q) = ap (λ (m : Aim). spoken e m (λ l. Request.Read l q)) (target_same t)
-  asked_same e (Action.Eval t sent q) = ap (λ (m : Aim). at m (λ l. Request.Eval l sent q)) (target_same t)
+  asked_same e (Action.Out t q) = ap (λ (m : Option Locality). spoken e m (λ l. Request.Out l q)) (target_same t)
+  asked_same e (Action.In t q) = ap (λ (m : Option Locality). spoken e m (λ l. Request.In l q)) (target_same t)
+  asked_same e (Action.Read t q) = ap (λ (m : Option Locality). spoken e m (λ l. Request.Read l q)) (target_same t)
+  asked_same e (Action.Eval t sent q) = ap (λ (m : Option Locality). at m (λ l. Request.Eval l sent q)) (target_same t)
   asked_same e (Action.New v q) = refl
   asked_same e (Action.Fork q r) = refl
   asked_same e (Action.OutAll g q) = refl
@@ -93,11 +94,11 @@ unfolding bound_of
 bound_forget p t e = fold_through forget_process _ (λ i q. bound_turn (ltb i e.count) q (field_at t i) (want_at e i)) 4 p
 
 bound_at_law :
-    (f : Found) (p : Process) (x : Node) (e : Evaluated)
+    (f : Option ℕ) (p : Process) (x : Node) (e : Evaluated)
     → bound_at f (forget_process p) (forget_node x) e ≡ forget_process (bound_at f p x e)
 unfolding bound_at tuple_at forget_node
-bound_at_law (Found.At i) p x e = sym (bound_forget p (tuple_at x i) e)
-bound_at_law Found.Nothing p x e = refl
+bound_at_law (Some i) p x e = sym (bound_forget p (tuple_at x i) e)
+bound_at_law None p x e = refl
 
 oldest_same : (x : Node) (e : Evaluated) → oldest_of (forget_node x) e ≡ oldest_of x e
 unfolding oldest_of tuple_at forget_node
@@ -111,4 +112,4 @@ module _ (p : Process) (x : Node) (e : Evaluated) where
   pub matched_forget : (matched_of (forget_process p) (forget_node x) e).process ≡ forget_process (matched_of p x e).process
   unfolding matched_of
   matched_forget =
-      ap (λ (f : Found). bound_at f (forget_process p) (forget_node x) e) (oldest_same x e) ∙ bound_at_law (oldest_of x e) p x e
+      ap (λ (f : Option ℕ). bound_at f (forget_process p) (forget_node x) e) (oldest_same x e) ∙ bound_at_law (oldest_of x e) p x e

@@ -6,6 +6,7 @@ use mathlib.Core.Bool.{Bool, true, false}
 use native.Mathlib.Omega.{arith}
 use lib.Dec.{eqb}
 use borrow.Author.Tests.{ltb-true}
+use Rattle.std.specs.Prelude.{Option, Some, None}
 use Rattle.net.specs.Choice.{choose}
 use Rattle.net.specs.Records.{node_at, process_at}
 use Rattle.step.specs.Pick.{host_of, slot_of, spare_of, unchanged, with_host, stopped, added, out, room_at_all, added_all, out_all, taken}
@@ -13,7 +14,7 @@ use Rattle.step.specs.Pick.{in_found, input}
 use Rattle.step.specs.Pick.{read_found, read, started_in, eval, fork, unused, created_at, created, create, carried_out, acting}
 use Rattle.step.specs.Pick.{process_step, slot_step, step_of}
 use Rattle.step.proofs.EachMember.{room_same, all_through}
-use Rattle.step.specs.Types.{Place, Group, Tuple, Slot, Evaluated, Found, Request, Answer}
+use Rattle.step.specs.Types.{Place, Group, Tuple, Evaluated, Request, Answer}
 use Rattle.step.specs.declared.machine.Picked.{Picked}
 use Rattle.origins.specs.Types.{Locality, Process, Node, Net}
 use Rattle.origins.proofs.Forgetting.{forget_process, forget, process_twice, forget_twice, forget_busy}
@@ -115,26 +116,26 @@ ruleset inward = (
 -- ---- each request of the process p at a in slot k
 module _ (s : Net) (a : Locality) (k : ℕ) where
   in_forget :
-      (l : Locality) (q : Place) (i : Found) (p : Process)
+      (l : Locality) (q : Place) (i : Option ℕ) (p : Process)
       → seen (in_found (forget s) a k l q i (forget_process p)) ≡ seen (in_found s a k l q i p)
   unfolding in_found
-  in_forget l q (Found.At i) p = simp inward
-  in_forget l q Found.Nothing p = simp inward
+  in_forget l q (Some i) p = simp inward
+  in_forget l q None p = simp inward
 
   read_forget :
-      (q : Place) (i : Found) (p : Process)
+      (q : Place) (i : Option ℕ) (p : Process)
       → seen (read_found (forget s) a k q i (forget_process p)) ≡ seen (read_found s a k q i p)
   unfolding read_found
-  read_forget q (Found.At i) p = simp inward
-  read_forget q Found.Nothing p = simp inward
+  read_forget q (Some i) p = simp inward
+  read_forget q None p = simp inward
 
   -- the copy's origin is forgotten too, whoever sent it
   started_forget :
-      (l : Locality) (p copy : Process) (q : Place) (j : Slot)
+      (l : Locality) (p copy : Process) (q : Place) (j : Option ℕ)
       → seen (started_in s a k l p copy q j) ≡ started_in (forget s) a k l (forget_process p) (forget_process copy) q j
   unfolding started_in
-  started_forget l p copy q (Slot.Number j) = simp inward
-  started_forget l p copy q Slot.Full = simp inward
+  started_forget l p copy q (Some j) = simp inward
+  started_forget l p copy q None = simp inward
 
   stopped_forget : seen (stopped (forget s) a k) ≡ seen (stopped s a k)
   unfolding stopped seen

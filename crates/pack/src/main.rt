@@ -3,39 +3,34 @@
 // written. A missing net.txt counts as empty; where it cannot be read or is too long, nothing is done but to say so.
 #![tactic(auto)]
 
-use files::{LONGEST_TEXT, print_first, read_text_file, replace_file, say};
+use files::{Failure, LONGEST_TEXT, print, read_text_file, replace_file, say};
 use image::reader::LONGEST_IMAGE;
 use net::network::Net;
 use notation::reading::{Opened, Verdict, read_text};
-use text::decimal::put_marked;
-use text::writing::{put, put_bytes};
-use writer::pack::{Packed, write_image};
+use std::fmt::InlineText;
+use writer::pack::{Unwritten, write_image};
 
 // Prints a line: a word and a number.
-fn print_line(rt: &HostRuntime, word: &[u8], n: usize) {
-    let mut line = [0u8; 32];
-    let first = put_bytes(&mut line, 0, word);
-    let second = put_marked(&mut line, first, 32, n);
-    let end = put(&mut line, second, 10);
-    print_first(rt, &line, end);
+fn print_line(rt: &HostRuntime, word: &str, n: usize) -> Result<(), Failure> {
+    let line = InlineText::<32>::of(format_args!("{word} {n}\n"));
+    print(rt, line.as_str().as_bytes())
 }
 
-// Writes the first bytes of a buffer to the image's file.
-fn store(rt: &HostRuntime, buffer: &[u8], n: usize) {
-    if n <= buffer.len() && replace_file(rt, b"net.bin", b"net.bin.new", &buffer[..n]) {
-        print_line(rt, b"packed", n);
-    }
+// Writes the image's file.
+fn store(rt: &HostRuntime, image: &[u8]) -> Result<(), Failure> {
+    replace_file(rt, b"net.bin", b"net.bin.new", image)?;
+    print_line(rt, "packed", image.len())
 }
 
 // Writes the image of a net. That of an accepted text has one, which is no longer than the buffer.
-fn pack_net(rt: &HostRuntime, net: Net) {
+fn pack_net(rt: &HostRuntime, net: Net) -> Result<(), Failure> {
     let mut out = [0u8; LONGEST_IMAGE];
-    let packed = write_image(net, &mut out);
-    match packed {
-        Packed::Written(n) => store(rt, &out, n),
-        Packed::NotFresh => say(rt, b"no image gives the net\n"),
-        Packed::NoRoom => say(rt, b"no room for the image\n"),
+    match write_image(net, &mut out) {
+        Ok(n) => return store(rt, out.get(..n).ok_or(Failure::Short)?),
+        Err(Unwritten::NotFresh) => say(rt, b"no image gives the net\n"),
+        Err(Unwritten::NoRoom) => say(rt, b"no room for the image\n"),
     }
+    Err(Failure::Short)
 }
 
 // Reads a text in a frame of its own, which is gone when an image is written.
@@ -45,22 +40,21 @@ fn open(text: &[u8]) -> Opened {
 }
 
 // Writes the image of the net that a text gives.
-fn pack(rt: &HostRuntime, text: &[u8]) {
+fn pack(rt: &HostRuntime, text: &[u8]) -> Result<(), Failure> {
     let opened = open(text);
-    let answer = opened.answer;
-    let net = opened.net;
-    match answer {
-        Verdict::Accepted => pack_net(rt, net),
-        Verdict::Refused(number) => print_line(rt, b"refused", number as usize),
+    match opened.answer {
+        Verdict::Accepted => pack_net(rt, opened.net),
+        Verdict::Refused(number) => print_line(rt, "refused", number as usize),
     }
 }
 
-fn main(rt: HostRuntime) {
+// Reads the file, which is named where it cannot be read, and writes the image.
+fn run(rt: &HostRuntime) -> Result<(), Failure> {
     let mut text = [0u8; LONGEST_TEXT + 1];
-    let loaded = read_text_file(&rt, b"net.txt", &mut text);
-    if loaded.failed {
-        return;
-    }
-    let n = loaded.count;
-    pack(&rt, &text[..n]);
+    pack(rt, read_text_file(rt, b"net.txt", &mut text)?)
+}
+
+// What fails is named where it does, and the status stays 0.
+fn main(rt: HostRuntime) {
+    let _ = run(&rt);
 }

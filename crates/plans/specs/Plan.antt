@@ -1,12 +1,12 @@
 -- Describes the code, and is no part of what a reader has to believe: a step as a plan that is drawn from the few records
 -- that it concerns. The crate `step` shows that a plan put back into the net is the step of its `Pick.antt`.
 pub use Rattle.plans.specs.declared.plan.Plan.{Plan}
-use Rattle.std.specs.Prelude.{ℕ, Bool, true, false, ltb}
+use Rattle.std.specs.Prelude.{ℕ, Bool, true, false, ltb, Option, Some, None}
 use Rattle.net.specs.Choice.{choose}
 use Rattle.net.specs.Records.{with_rows, with_variable, moved_to, copied_to, sent_from}
 use Rattle.net.specs.Records.{marked, put_in, taken_from, started_on, free_process, zero_node, address_of}
 use Rattle.matching.specs.Matching.{matched_of}
-use Rattle.plans.specs.Types.{Locality, Place, Value, Tuple, Row, Process, Node, Changed, Evaluated, Found}
+use Rattle.plans.specs.Types.{Locality, Place, Value, Tuple, Row, Process, Node, Evaluated}
 use Rattle.plans.specs.Answer.{Answer}
 use Rattle.plans.specs.Request.{Request, granted}
 use Rattle.plans.specs.Additions.{tuple_of, opened_rows}
@@ -21,27 +21,28 @@ going p y = record { answer = Answer.Performed; process = p; target = y; opens =
 unfoldable pub refusing : Answer → Node → Plan
 refusing answer y = record { answer = answer; process = free_process; target = y; opens = false }
 
--- what comes of a change at the target: the process goes on, or the change could not be made
-unfoldable pub changing : Process → Answer → Changed → Plan
-changing p refusal c = choose c.done (going p c.node) (refusing refusal c.node)
+-- what comes of a change at the target y: the process goes on, or the change could not be made
+unfoldable pub changing : Process → Answer → Node → Option Node → Plan
+changing p refusal y (Some x) = going p x
+changing p refusal y None = refusing refusal y
 
 unfoldable pub stop_plan : Node → Plan
 stop_plan y = record { answer = Answer.Ended; process = free_process; target = y; opens = false }
 
 unfoldable pub out_plan : Process → Node → Place → Tuple → Plan
-out_plan p y q t = changing (moved_to p q) Answer.NoRoom (put_in y t)
+out_plan p y q t = changing (moved_to p q) Answer.NoRoom y (put_in y t)
 
-unfoldable pub in_plan : Process → Node → Place → Found → Plan
-in_plan p y q (Found.At i) = changing (moved_to p q) Answer.NoTuple (taken_from y i)
-in_plan p y q Found.Nothing = refusing Answer.NoTuple y
+unfoldable pub in_plan : Process → Node → Place → Option ℕ → Plan
+in_plan p y q (Some i) = changing (moved_to p q) Answer.NoTuple y (taken_from y i)
+in_plan p y q None = refusing Answer.NoTuple y
 
-unfoldable pub read_plan : Process → Node → Place → Found → Plan
-read_plan p y q (Found.At i) = going (moved_to p q) y
-read_plan p y q Found.Nothing = refusing Answer.NoTuple y
+unfoldable pub read_plan : Process → Node → Place → Option ℕ → Plan
+read_plan p y q (Some i) = going (moved_to p q) y
+read_plan p y q None = refusing Answer.NoTuple y
 
 -- the process `copy` starts at the target
 unfoldable pub start_plan : Process → Node → Process → Place → Plan
-start_plan p y copy q = changing (moved_to p q) Answer.NoRoom (started_on y copy)
+start_plan p y copy q = changing (moved_to p q) Answer.NoRoom y (started_on y copy)
 
 -- a is the host's address, from which the code is sent
 unfoldable pub eval_plan : Locality → Process → Node → Place → Place → Bool → Plan

@@ -1,8 +1,7 @@
 -- What an instruction asks for, once its variables are read, and whether a row grants it (document 01, "One pick",
 -- "Reaching and rights").
-pub use Rattle.plans.specs.declared.request.Aim.{Aim}
 pub use Rattle.plans.specs.declared.request.Request.{Request}
-use Rattle.std.specs.Prelude.{Bool, true, false, List, [], ◌∷◌}
+use Rattle.std.specs.Prelude.{Bool, true, false, List, [], ◌∷◌, Option, Some, None}
 use Rattle.net.specs.Choice.{choose}
 use Rattle.net.specs.Records.{variable_at}
 use Rattle.matching.specs.Matching.{evaluated_of}
@@ -11,24 +10,24 @@ use Rattle.net.specs.Groups.{members_of}
 use Rattle.plans.specs.Types.{Locality, Value, Process, Row, Target, Action, Instruction, Evaluated}
 
 -- the address that a variable holds
-unfoldable pub aim_of : Value → Aim
-aim_of Value.Unset = Aim.Nowhere
-aim_of (Value.Reading x) = Aim.Nowhere
-aim_of (Value.Address l) = Aim.At l
+unfoldable pub aim_of : Value → Option Locality
+aim_of Value.Unset = None
+aim_of (Value.Reading x) = None
+aim_of (Value.Address l) = Some l
 
 -- where a target of a process hosted at a points
-unfoldable pub target_of : Locality → Process → Target → Aim
-target_of a p (Target.Written l) = Aim.At l
-target_of a p Target.Own = Aim.At a
+unfoldable pub target_of : Locality → Process → Target → Option Locality
+target_of a p (Target.Written l) = Some l
+target_of a p Target.Own = Some a
 target_of a p (Target.Held v) = aim_of (variable_at p v)
 
 -- the request at an address, where the target points to one
-unfoldable pub at : Aim → (Locality → Request) → Request
-at (Aim.At l) f = f l
-at Aim.Nowhere f = Request.Lack
+unfoldable pub at : Option Locality → (Locality → Request) → Request
+at (Some l) f = f l
+at None f = Request.Lack
 
 -- the request at the target of an out, an in or a read, whose template has to be defined
-unfoldable pub spoken : Evaluated → Aim → (Locality → Request) → Request
+unfoldable pub spoken : Evaluated → Option Locality → (Locality → Request) → Request
 spoken e aim f = choose e.defined (at aim f) Request.Lack
 
 unfoldable pub asked : Locality → Process → Evaluated → Action → Request

@@ -8,11 +8,9 @@ pub use Rattle.net.specs.declared.policy.Rights.{Rights}
 pub use Rattle.net.specs.declared.policy.Row.{Row}
 pub use Rattle.net.specs.declared.process.Process.{Process}
 pub use Rattle.net.specs.declared.node.Node.{Node}
-pub use Rattle.net.specs.declared.node.Changed.{Changed}
 pub use Rattle.net.specs.declared.instruction.Target.{Target}
 pub use Rattle.net.specs.declared.instruction.Action.{Action}
 pub use Rattle.net.specs.declared.instruction.Instruction.{Instruction}
 pub use Rattle.matching.specs.declared.template.Want.{Want}
 pub use Rattle.matching.specs.declared.template.Evaluated.{Evaluated}
-pub use Rattle.matching.specs.declared.template.Found.{Found}
 pub use Rattle.matching.specs.declared.template.Matched.{Matched}

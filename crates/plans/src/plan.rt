@@ -1,27 +1,24 @@
 // Plans: what a step does to the few records that it concerns. In what follows p is the host's process and y
 // the node at the target.
-ghost use Rattle.std.specs.Prelude.{◌<◌, ◌≡◌, ltb};
-ghost use Rattle.net.specs.Choice.{choose};
-ghost use Rattle.matching.specs.Matching.{want_at, matched_of};
-ghost use Rattle.net.specs.Records.{marked, with_field, with_variable, with_rows, moved_to, copied_to, sent_from, taken_from, zero_node};
-ghost use Rattle.plans.specs.Additions.{item_of, tuple_of, opened_rows};
-ghost use Rattle.plans.specs.Types.{Value};
+ghost use Rattle.std.specs.Prelude.{◌≡◌};
+ghost use Rattle.net.specs.Records.{marked};
+ghost use Rattle.plans.specs.Additions.{item_of, tuple_of};
 ghost use Rattle.plans.specs.Plan.{going, refusing, changing, stop_plan, out_plan, in_plan, read_plan, start_plan, eval_plan};
 ghost use Rattle.plans.specs.Plan.{opening, new_plan, all_plan, granted_plan, plan_of};
 
 use crate::answer::Answer;
 use crate::request::{Request, has_right};
 use crate::rows::opened_rows;
-use matching::template::{Evaluated, Found, Want, match_template};
+use matching::template::{Evaluated, Want, match_template};
 use net::locality::{Locality, Place};
-use net::node::{Changed, Node};
+use net::node::Node;
 use net::policy::Row;
 use net::process::Process;
 use net::tuple::{Field, Item, Tuple, Value};
 
 // The answer, the host's process and the target's node after the step, and whether the target is an address
 // that the step opens.
-#[derive(Clone, Copy)]
+#[derive(Clone, Copy, PartialEq, Eq, Debug)]
 pub struct Plan {
     pub answer: Answer,
     pub process: Process,
@@ -30,29 +27,13 @@ pub struct Plan {
 }
 
 // The value of an out's field.
+#[tactic(auto, unfolding(crate::specs::Additions::item_of))]
 fn item_of(w: Want) -> Item
     ensures { result ≡ item_of w }
 {
     match w {
         Want::Exactly(x) => x,
-        Want::AnyReading(_) => Item::Reading(0),
-        Want::AnyAddress(_) => Item::Reading(0),
-    }
-}
-
-// The tuple with field i of the template, where it has one.
-fn with_value(t: Tuple, e: Evaluated, i: usize) -> Tuple
-    requires { i < 4 }
-    ensures { result ≡ choose (ltb i e.count) (with_field t (record { item = item_of (want_at e i) })) t }
-{
-    if i < e.count {
-        let wanted = e.wants[i];
-        let want = wanted.want;
-        let item = item_of(want);
-        let field = Field { item };
-        t.with_field(field)
-    } else {
-        t
+        _ => Item::Reading(0),
     }
 }
 
@@ -61,10 +42,11 @@ fn tuple_of(e: Evaluated) -> Tuple
     ensures { result ≡ tuple_of e }
 {
     let mut t = Tuple::zero();
-    let mut i = 0;
-    while i < 4 {
-        t = with_value(t, e, i);
-        i += 1;
+    for i in 0..4 {
+        if i < e.count {
+            let item = item_of(e.wants[i].want);
+            t = t.with_field(Field { item });
+        }
     }
     t
 }
@@ -73,177 +55,123 @@ fn tuple_of(e: Evaluated) -> Tuple
 pub fn tuple_from(a: Locality, e: Evaluated) -> Tuple
     ensures { result ≡ marked a (tuple_of e) }
 {
-    let tuple = tuple_of(e);
-    tuple.marked(a)
+    tuple_of(e).marked(a)
 }
 
 // Nothing changes.
+#[tactic(auto, unfolding(crate::specs::Plan::refusing))]
 pub fn refused(answer: Answer, y: Node) -> Plan
     ensures { result ≡ refusing answer y }
 {
-    let process = Process::free();
     Plan {
         answer,
-        process,
+        process: Process::free(),
         target: y,
         opens: false,
     }
 }
 
 // The process goes on, and y is the target's node.
+#[tactic(auto, unfolding(crate::specs::Plan::going))]
 fn goes_on(process: Process, y: Node) -> Plan
     ensures { result ≡ going process y }
 {
-    let answer = Answer::Performed;
     Plan {
-        answer,
+        answer: Answer::Performed,
         process,
         target: y,
         opens: false,
     }
 }
 
-// What comes of a change at the target: the process goes on, or the change could not be made.
-fn changed(process: Process, refusal: Answer, c: Changed) -> Plan
-    ensures { result ≡ changing process refusal c }
+// What comes of a change at the target y: the process goes on, or the change could not be made.
+#[tactic(auto, unfolding(crate::specs::Plan::changing))]
+fn changed(process: Process, refusal: Answer, y: Node, c: Option<Node>) -> Plan
+    ensures { result ≡ changing process refusal y c }
 {
-    let node = c.node;
-    if c.done {
-        goes_on(process, node)
-    } else {
-        refused(refusal, node)
+    match c {
+        Some(node) => goes_on(process, node),
+        None => refused(refusal, y),
     }
 }
 
+#[tactic(auto, unfolding(crate::specs::Plan::stop_plan))]
 fn stop_plan(y: Node) -> Plan
     ensures { result ≡ stop_plan y }
 {
-    let answer = Answer::Ended;
-    let process = Process::free();
     Plan {
-        answer,
-        process,
+        answer: Answer::Ended,
+        process: Process::free(),
         target: y,
         opens: false,
     }
 }
 
+#[tactic(auto, unfolding(crate::specs::Plan::out_plan))]
 fn out_plan(a: Locality, p: Process, y: Node, q: Place, e: Evaluated) -> Plan
     ensures { result ≡ out_plan p y q (marked a (tuple_of e)) }
 {
     let tuple = tuple_from(a, e);
-    let put = y.put(tuple);
-    changed(p.moved_to(q), Answer::NoRoom, put)
+    changed(p.moved_to(q), Answer::NoRoom, y, y.put(tuple))
 }
 
-fn take_plan(p: Process, y: Node, q: Place, i: usize) -> Plan
-    ensures { result ≡ changing (moved_to p q) Answer.NoTuple (taken_from y i) }
-{
-    let taken = y.take(i);
-    changed(p.moved_to(q), Answer::NoTuple, taken)
-}
-
-fn in_plan(p: Process, y: Node, q: Place, found: Found) -> Plan
+#[tactic(auto, unfolding(crate::specs::Plan::in_plan))]
+fn in_plan(p: Process, y: Node, q: Place, found: Option<usize>) -> Plan
     ensures { result ≡ in_plan p y q found }
 {
     match found {
-        Found::At(i) => take_plan(p, y, q, i),
-        Found::Nothing => refused(Answer::NoTuple, y),
+        Some(i) => changed(p.moved_to(q), Answer::NoTuple, y, y.take(i)),
+        None => refused(Answer::NoTuple, y),
     }
 }
 
-fn read_plan(p: Process, y: Node, q: Place, found: Found) -> Plan
+// Kept: a twin of `in_plan`: only the arm of a tuple that is found differs, and it is one line.
+#[tactic(auto, unfolding(crate::specs::Plan::read_plan))]
+fn read_plan(p: Process, y: Node, q: Place, found: Option<usize>) -> Plan
     ensures { result ≡ read_plan p y q found }
 {
     match found {
-        Found::At(_) => goes_on(p.moved_to(q), y),
-        Found::Nothing => refused(Answer::NoTuple, y),
+        Some(_) => goes_on(p.moved_to(q), y),
+        None => refused(Answer::NoTuple, y),
     }
 }
 
-fn in_request(p: Process, y: Node, q: Place, e: Evaluated) -> Plan
-    ensures { result ≡ in_plan (matched_of p y e).process y q (matched_of p y e).found }
-{
-    let met = match_template(p, y, e);
-    let found = met.found;
-    let bound = met.process;
-    in_plan(bound, y, q, found)
-}
-
-fn read_request(p: Process, y: Node, q: Place, e: Evaluated) -> Plan
-    ensures { result ≡ read_plan (matched_of p y e).process y q (matched_of p y e).found }
-{
-    let met = match_template(p, y, e);
-    let found = met.found;
-    let bound = met.process;
-    read_plan(bound, y, q, found)
-}
-
 // The process `copy` starts at the target, and the process p goes on at q.
+#[tactic(auto, unfolding(crate::specs::Plan::start_plan))]
 fn start_plan(p: Process, y: Node, copy: Process, q: Place) -> Plan
     ensures { result ≡ start_plan p y copy q }
 {
-    let started = y.start(copy);
-    changed(p.moved_to(q), Answer::NoRoom, started)
+    changed(p.moved_to(q), Answer::NoRoom, y, y.start(copy))
 }
 
-// Code that the host sends starts at the target.
-fn send_plan(a: Locality, p: Process, y: Node, sent: Place, q: Place) -> Plan
-    ensures { result ≡ start_plan p y (sent_from a p sent) q }
-{
-    let copy = p.sent_from(a, sent);
-    start_plan(p, y, copy, q)
-}
-
-fn fork_plan(p: Process, y: Node, q: Place, other: Place) -> Plan
-    ensures { result ≡ start_plan p y (copied_to p other) q }
-{
-    let copy = p.copied_to(other);
-    start_plan(p, y, copy, q)
-}
-
+// Code that the host sends starts at the target, where it keeps within the target's row for it.
+#[tactic(auto, unfolding(crate::specs::Plan::eval_plan, net::specs::Choice::choose))]
 fn eval_plan(a: Locality, p: Process, y: Node, sent: Place, q: Place, within: bool) -> Plan
     ensures { result ≡ eval_plan a p y sent q within }
 {
     if within {
-        send_plan(a, p, y, sent, q)
+        start_plan(p, y, p.sent_from(a, sent), q)
     } else {
         refused(Answer::NotWithin, y)
     }
 }
 
-// The creator's process, with the new address in its variable, at its next place.
-fn creator(p: Process, v: u8, l: Locality, q: Place) -> Process
-    ensures { result ≡ moved_to (with_variable p v (Value.Address l)) q }
-{
-    let value = Value::Address(l);
-    let set = p.with_variable(v as usize, value);
-    set.moved_to(q)
-}
-
-// The node of a new address l, which a process p hosted at the node x of address a opens in a net of format f.
-fn opened_node(f: usize, x: Node, a: Locality, p: Process, l: Locality) -> Node
-    ensures { result ≡ with_rows zero_node (opened_rows f x a p l) }
-{
-    let zero = Node::zero();
-    let rows = opened_rows(f, x, a, p, l);
-    zero.with_rows(rows)
-}
-
+// A new address l, opened in a net of format f by a process p hosted at the node x of address a: p holds it in its
+// variable v.
+#[tactic(auto, unfolding(crate::specs::Plan::opening))]
 fn open_plan(f: usize, a: Locality, p: Process, x: Node, v: u8, q: Place, l: Locality) -> Plan
     ensures { result ≡ opening f a p x v q l }
 {
-    let answer = Answer::Performed;
-    let process = creator(p, v, l, q);
-    let target = opened_node(f, x, a, p, l);
+    let holder = p.with_variable(v as usize, Value::Address(l));
     Plan {
-        answer,
-        process,
-        target,
+        answer: Answer::Performed,
+        process: holder.moved_to(q),
+        target: Node::zero().with_rows(opened_rows(f, x, a, p, l)),
         opens: true,
     }
 }
 
+#[tactic(auto, unfolding(crate::specs::Plan::new_plan, net::specs::Choice::choose))]
 fn new_plan(f: usize, a: Locality, p: Process, x: Node, v: u8, q: Place, n: usize) -> Plan
     ensures { result ≡ new_plan f a p x v q n }
 {
@@ -256,6 +184,7 @@ fn new_plan(f: usize, a: Locality, p: Process, x: Node, v: u8, q: Place, n: usiz
 
 // An out to a set, where y is the host's node: the process goes on if each member has room. What the members receive is no
 // part of the plan.
+#[tactic(auto, unfolding(crate::specs::Plan::all_plan, net::specs::Choice::choose))]
 fn all_plan(p: Process, y: Node, q: Place, room: bool) -> Plan
     ensures { result ≡ all_plan p y q room }
 {
@@ -267,6 +196,7 @@ fn all_plan(p: Process, y: Node, q: Place, room: bool) -> Plan
 }
 
 // The plan of a request whose right is held.
+#[tactic(auto, unfolding(crate::specs::Plan::granted_plan))]
 fn granted_plan(
     f: usize,
     a: Locality,
@@ -283,11 +213,17 @@ fn granted_plan(
         Request::Lack => refused(Answer::NotSet, y),
         Request::Stop => stop_plan(y),
         Request::Out(_, q) => out_plan(a, p, y, q, e),
-        Request::In(_, q) => in_request(p, y, q, e),
-        Request::Read(_, q) => read_request(p, y, q, e),
+        Request::In(_, q) => {
+            let met = match_template(p, &y, e);
+            in_plan(met.process, y, q, met.found)
+        }
+        Request::Read(_, q) => {
+            let met = match_template(p, &y, e);
+            read_plan(met.process, y, q, met.found)
+        }
         Request::Eval(_, sent, q) => eval_plan(a, p, y, sent, q, within),
         Request::New(v, q) => new_plan(f, a, p, y, v, q, n),
-        Request::Fork(q, other) => fork_plan(p, y, q, other),
+        Request::Fork(q, other) => start_plan(p, y, p.copied_to(other), q),
         Request::OutAll(_, q) => all_plan(p, y, q, within),
     }
 }
@@ -295,6 +231,7 @@ fn granted_plan(
 // The plan of a request: f is the format, a the host's address, n the address count, `within` whether sent code keeps within
 // y's row for it, or whether each member of a set has room. For a new, whose target has no node yet, and for an out to a set,
 // which has many, y is the host's node.
+#[tactic(auto, unfolding(crate::specs::Plan::plan_of, net::specs::Choice::choose))]
 pub fn plan_for(
     f: usize,
     a: Locality,

@@ -10,14 +10,15 @@ use net::policy::{Rights, Row};
 use net::process::Process;
 
 // A row with every right on an address.
+#[tactic(auto, unfolding(crate::specs::Additions::gaining))]
 fn gained(row: Row, l: Locality) -> Row
     ensures { result ≡ gaining row l }
 {
-    let all = Rights::full();
-    row.with_rights(l, all)
+    row.with_rights(l, Rights::full())
 }
 
 // The node's row for itself.
+#[tactic(auto, unfolding(crate::specs::Additions::own_row, net::specs::Records::row_at, net::specs::Choice::choose))]
 fn own_row(x: Node, a: Locality) -> Row
     ensures { result ≡ own_row x a }
 {
@@ -29,32 +30,29 @@ fn own_row(x: Node, a: Locality) -> Row
 fn gained_alike(x: Node, p: Process, l: Locality) -> [Row; 16]
     ensures { result ≡ alike (gaining (row_for x p) l) }
 {
-    let row = gained(x.row_for(p), l);
-    row.alike()
+    gained(x.row_for(p), l).alike()
 }
 
 // In format 2, the new node's: it has every right on itself in its rows for itself and for the creator.
+#[tactic(auto, unfolding(net::specs::Records::with_row, net::specs::Records::with_rows))]
 fn opened_by_origin(x: Node, a: Locality, l: Locality) -> [Row; 16]
     ensures { result ≡ set (set x.rows a.0 (gaining (own_row x a) l)) l.0 (gaining (own_row x a) l) }
 {
-    let stood = own_row(x, a);
-    let own = gained(stood, l);
-    let copied = x.with_row(a, own);
-    let node = copied.with_row(l, own);
-    node.rows
+    let own = gained(own_row(x, a), l);
+    x.with_row(a, own).with_row(l, own).rows
 }
 
 // In format 2, the creator's: its row for the origin of p has every right on l.
+#[tactic(auto, unfolding(net::specs::Records::with_row, net::specs::Records::with_rows))]
 fn creator_by_origin(x: Node, p: Process, l: Locality) -> [Row; 16]
     ensures { result ≡ set x.rows p.origin.0 (gaining (row_for x p) l) }
 {
-    let origin = p.origin;
     let row = gained(x.row_for(p), l);
-    let node = x.with_row(origin, row);
-    node.rows
+    x.with_row(p.origin, row).rows
 }
 
 // The new node's rows.
+#[tactic(auto, unfolding(crate::specs::Additions::opened_rows, net::specs::Choice::choose))]
 pub(crate) fn opened_rows(f: usize, x: Node, a: Locality, p: Process, l: Locality) -> [Row; 16]
     ensures { result ≡ opened_rows f x a p l }
 {
@@ -66,6 +64,7 @@ pub(crate) fn opened_rows(f: usize, x: Node, a: Locality, p: Process, l: Localit
 }
 
 // The creator's rows.
+#[tactic(auto, unfolding(crate::specs::Additions::creator_rows, net::specs::Choice::choose))]
 pub fn creator_rows(f: usize, x: Node, p: Process, l: Locality) -> [Row; 16]
     ensures { result ≡ creator_rows f x p l }
 {

@@ -8,121 +8,86 @@
 // After the last call of a record it writes the whole net. It ends where the input does.
 #![tactic(auto)]
 
-use dump::bytes::{put_flag, put_four};
 use dump::digest::put_digest;
 use dump::put_net;
-use dump::taken::two_at;
-use files::{print, read_first, read_next};
+use files::{Failure, print, read_exact, read_next, take_turns};
 use image::reader::{number_of, place_of};
 use lean::engine::{Engine, StartedText};
 use net::network::Net;
 use notation::reading::Verdict as TextVerdict;
 
-// Writes the answer to a source and the net as opened; false where that fails.
-fn write_opened(rt: &HostRuntime, number: u8, place: usize, net: Net) -> bool {
+// Writes the answer to a source and the net as opened.
+fn write_opened(rt: &HostRuntime, number: u8, place: usize, net: &Net) -> Result<(), Failure> {
+    let bit = (place % 4294967296) as u32;
     let mut out = [0u8; 27673];
     out[0] = number;
-    let bit = place % 4294967296;
-    put_four(&mut out, 1, bit as u32);
-    put_net(&mut out, 5, net);
+    out[1..5].copy_from_slice(&bit.to_le_bytes());
+    put_net(&mut out[5..], net);
     print(rt, &out)
 }
 
-// Writes what a call left; false where that fails.
-fn write_call(rt: &HostRuntime, room: bool, answers: &[u8], net: Net) -> bool {
-    let mut head = [0u8; 1];
-    put_flag(&mut head, 0, room);
+// Writes what a call left.
+fn write_call(rt: &HostRuntime, room: bool, answers: &[u8], net: &Net) -> Result<(), Failure> {
     let mut digest = [0u8; 8];
-    put_digest(&mut digest, 0, net);
-    print(rt, &head) && print(rt, answers) && print(rt, &digest)
+    put_digest(&mut digest, net);
+    print(rt, &[u8::from(room)])?;
+    print(rt, answers)?;
+    print(rt, &digest)
 }
 
-fn write_net(rt: &HostRuntime, net: Net) -> bool {
+fn write_net(rt: &HostRuntime, net: &Net) -> Result<(), Failure> {
     let mut out = [0u8; 27668];
-    put_net(&mut out, 0, net);
+    put_net(&mut out, net);
     print(rt, &out)
 }
 
-// The engine after calls, and whether all that was to be written of them is.
-#[derive(Clone, Copy)]
-struct Called {
+// One call, written; gives the engine after it.
+fn call(
+    rt: &HostRuntime,
     engine: Engine,
-    written: bool,
-}
-
-// One call, written.
-fn call(rt: &HostRuntime, engine: Engine, picks: &[u8], answers: &mut [u8]) -> Called {
+    picks: &[u8],
+    answers: &mut [u8],
+) -> Result<Engine, Failure> {
     let made = engine.make(picks, answers);
-    let after = made.engine;
-    let written = write_call(rt, made.room, answers, after.net());
-    Called {
-        engine: after,
-        written,
-    }
+    write_call(rt, made.room, answers, &made.engine.net())?;
+    Ok(made.engine)
 }
 
-// Reads the picks of a call, whose buffer has so many bytes, and makes it; nothing is written where fewer come.
-fn call_next(rt: &HostRuntime, engine: Engine, length: u16) -> Called {
-    let mut picks = [0u8; 65535];
+// A number of two bytes from standard input.
+fn read_number(rt: &HostRuntime) -> Result<u16, Failure> {
+    let mut bytes = [0u8; 2];
+    read_exact(rt, &mut bytes)?;
+    Ok(u16::from_le_bytes(bytes))
+}
+
+// Reads a call, the length of its buffer and its picks, and makes it.
+fn take_call(rt: &HostRuntime, engine: Engine) -> Result<Engine, Failure> {
+    let length = read_number(rt)?;
+    let mut buffer = [0u8; 65535];
     let mut answers = [238u8; 65535];
-    let next = read_next(rt, &mut picks);
-    let n = next.count;
-    let m = length as usize;
-    if next.failed {
-        Called {
-            engine,
-            written: false,
-        }
-    } else {
-        call(rt, engine, &picks[..n], &mut answers[..m])
-    }
+    let picks = read_next(rt, &mut buffer)?;
+    call(rt, engine, picks, &mut answers[..length as usize])
 }
 
-// Reads a call and makes it.
-fn take_call(rt: &HostRuntime, engine: Engine) -> Called {
-    let mut head = [0u8; 2];
-    if read_first(rt, &mut head, 2) {
-        call_next(rt, engine, two_at(&head, 0))
-    } else {
-        Called {
-            engine,
-            written: false,
-        }
+// Reads the calls of an engine, makes them and writes the net after them.
+fn drive(rt: &HostRuntime, mut engine: Engine) -> Result<(), Failure> {
+    let count = read_number(rt)?;
+    for _ in 0..count {
+        engine = take_call(rt, engine)?;
     }
+    write_net(rt, &engine.net())
 }
 
-// So many calls one after another, until all are made or one cannot be written.
-fn take_calls(rt: &HostRuntime, engine: Engine, count: u16) -> Called {
-    let mut called = Called {
-        engine,
-        written: true,
-    };
-    let mut i = 0;
-    while i < count && called.written {
-        let after = called.engine;
-        called = take_call(rt, after);
-        i += 1;
-    }
-    called
-}
-
-// Reads the calls of an engine, makes them and writes the net after them; false where something fails.
-fn drive(rt: &HostRuntime, engine: Engine) -> bool {
-    let mut head = [0u8; 2];
-    if read_first(rt, &mut head, 2) {
-        let called = take_calls(rt, engine, two_at(&head, 0));
-        let after = called.engine;
-        called.written && write_net(rt, after.net())
-    } else {
-        false
-    }
-}
-
-fn drive_image(rt: &HostRuntime, image: &[u8]) -> bool {
+fn drive_image(rt: &HostRuntime, image: &[u8]) -> Result<(), Failure> {
     let started = Engine::open(image);
     let answer = started.answer;
-    let engine = started.engine;
-    write_opened(rt, number_of(answer), place_of(answer), engine.net()) && drive(rt, engine)
+    write_opened(
+        rt,
+        number_of(answer),
+        place_of(answer),
+        &started.engine.net(),
+    )?;
+    drive(rt, started.engine)
 }
 
 // The number of the answer to a text.
@@ -139,37 +104,26 @@ fn open_text(text: &[u8]) -> StartedText {
     Engine::open_text(text)
 }
 
-fn drive_text(rt: &HostRuntime, text: &[u8]) -> bool {
+fn drive_text(rt: &HostRuntime, text: &[u8]) -> Result<(), Failure> {
     let started = open_text(text);
-    let answer = started.answer;
-    let engine = started.engine;
-    write_opened(rt, text_number(answer), 0, engine.net()) && drive(rt, engine)
+    write_opened(rt, text_number(started.answer), 0, &started.engine.net())?;
+    drive(rt, started.engine)
 }
 
-// One record, of an image or of a text.
-fn drive_source(rt: &HostRuntime, source: &[u8], kind: u8) -> bool {
-    if kind == 0 {
-        drive_image(rt, source)
-    } else {
-        drive_text(rt, source)
-    }
-}
-
-// One record; false at the end of the input, or where something fails.
-fn take_turn(rt: &HostRuntime) -> bool {
+// One record, of an image or of a text; fails at the end of the input.
+fn take_turn(rt: &HostRuntime) -> Result<(), Failure> {
     let mut kind = [0u8; 1];
-    let mut source = [0u8; 65535];
-    let there = read_first(rt, &mut kind, 1);
-    let next = read_next(rt, &mut source);
-    let n = next.count;
-    there && !next.failed && drive_source(rt, &source[..n], kind[0])
+    let mut buffer = [0u8; 65535];
+    let there = read_exact(rt, &mut kind);
+    let next = read_next(rt, &mut buffer);
+    there?;
+    let source = next?;
+    match kind[0] {
+        0 => drive_image(rt, source),
+        _ => drive_text(rt, source),
+    }
 }
 
-// A proved loop has to end, and nothing says that the input does: no run uses up these turns.
 fn main(rt: HostRuntime) {
-    for _ in 0..u64::MAX {
-        if !take_turn(&rt) {
-            break;
-        }
-    }
+    take_turns(&rt, take_turn);
 }

@@ -2,38 +2,55 @@
 // are refused are named on standard error.
 #![tactic(auto)]
 
-use files::{print_first, say, say_first};
+use files::{Failure, print_first, read_file, say};
 use names::lookup::fault;
 use registers::register::Registered;
-use text::decimal::put_marked;
-use text::writing::{put, put_bytes};
+use registers::room::room;
+use std::fmt::InlineText;
 
 // How many bytes of each list of names are read.
-pub const LONGEST_LIST: usize = 65536;
+const LONGEST_LIST: usize = 65536;
 
 // Prints the register that the buffer holds.
-pub fn print_written(rt: &HostRuntime, written: Registered, out: &[u8]) {
+fn print_written(rt: &HostRuntime, written: Registered, out: &[u8]) -> Result<(), Failure> {
     match written {
-        Registered::Written(n) => {
-            print_first(rt, out, n);
+        Registered::Written(n) => print_first(rt, out, n),
+        Registered::NoRoom => {
+            say(rt, b"no room for the register\n");
+            Err(Failure::Short)
         }
-        Registered::NoRoom => say(rt, b"no room for the register\n"),
     }
 }
 
-// The line of a number that the test of the lists gave.
-fn say_number(rt: &HostRuntime, number: u8) {
-    let mut line = [0u8; 20];
-    let first = put_bytes(&mut line, 0, b"names refused");
-    let second = put_marked(&mut line, first, 32, number as usize);
-    let end = put(&mut line, second, 10);
-    say_first(rt, &line, end);
+// Reads the picks and the two lists of names, and prints the register that is written of a net and of them. A file that
+// cannot be read is named, and then nothing is printed.
+pub fn print_register<W>(
+    rt: &HostRuntime,
+    net: Result<&[u8], Failure>,
+    write: W,
+) -> Result<(), Failure>
+where
+    W: FnOnce(&[u8], &[u8], &[u8], &[u8], &mut [u8]) -> Registered,
+    requires { W.IsAlwaysCallable write }
+{
+    let mut picks = [0u8; 65536];
+    let mut site = [0u8; LONGEST_LIST];
+    let mut office = [0u8; LONGEST_LIST];
+    let list = read_file(rt, b"picks.bin", &mut picks);
+    let own = read_file(rt, b"site.bin", &mut site);
+    let common = read_file(rt, b"office.bin", &mut office);
+    let (net, picks, site, office) = (net?, list?, own?, common?);
+    say_names(rt, site, office);
+    let mut out = room();
+    let written = write(net, picks, site, office, &mut out);
+    print_written(rt, written, &out)
 }
 
 // Names the fault of two lists of names, where they have one.
-pub fn say_names(rt: &HostRuntime, site: &[u8], office: &[u8]) {
+fn say_names(rt: &HostRuntime, site: &[u8], office: &[u8]) {
     let number = fault(site, office);
     if number != 0 {
-        say_number(rt, number);
+        let line = InlineText::<20>::of(format_args!("names refused {number}\n"));
+        say(rt, line.as_str().as_bytes());
     }
 }

@@ -3,49 +3,22 @@
 // than the longest image has decides everything (proved: `FirstBytesDecide`), and of the others the first 65,536 bytes count.
 #![tactic(auto)]
 
-use files::read_file;
+use files::{Failure, read_file};
 use image::reader::LONGEST_IMAGE;
-use printing::{LONGEST_LIST, print_written, say_names};
+use printing::print_register;
 use registers::register::named_register;
-use registers::room::room;
 
-// Prints the register, made in the lent buffer.
-fn print_register<'a>(
-    rt: &HostRuntime,
-    image: &[u8],
-    picks: &[u8],
-    site: &'a [u8],
-    office: &'a [u8],
-    out: &mut [u8],
-) {
-    say_names(rt, site, office);
-    let written = named_register(image, picks, site, office, out);
-    print_written(rt, written, out);
+// Kept, here and in `register_text`: what they share is `print_register`; the file, its room and the call are left.
+// Reads the files, each of which is named where it cannot be read, and prints the register.
+fn run(rt: &HostRuntime) -> Result<(), Failure> {
+    let mut buffer = [0u8; LONGEST_IMAGE + 1];
+    let image = read_file(rt, b"net.bin", &mut buffer);
+    print_register(rt, image, |image, picks, site, office, out| {
+        named_register(image, picks, site, office, out)
+    })
 }
 
+// What fails is named where it does, and the status stays 0.
 fn main(rt: HostRuntime) {
-    let mut image = [0u8; LONGEST_IMAGE + 1];
-    let mut picks = [0u8; 65536];
-    let mut site = [0u8; LONGEST_LIST];
-    let mut office = [0u8; LONGEST_LIST];
-    let net = read_file(&rt, b"net.bin", &mut image);
-    let list = read_file(&rt, b"picks.bin", &mut picks);
-    let own = read_file(&rt, b"site.bin", &mut site);
-    let common = read_file(&rt, b"office.bin", &mut office);
-    if net.failed || list.failed || own.failed || common.failed {
-        return;
-    }
-    let n = net.count;
-    let k = list.count;
-    let i = own.count;
-    let j = common.count;
-    let mut out = room();
-    print_register(
-        &rt,
-        &image[..n],
-        &picks[..k],
-        &site[..i],
-        &office[..j],
-        &mut out,
-    );
+    let _ = run(&rt);
 }

@@ -2,31 +2,31 @@
 // nor does a file that cannot be read; a missing file counts as empty.
 #![tactic(auto)]
 
-use files::{print_first, read_file, say};
+use files::{Failure, print_first, read_file, say};
 use image::reader::{LONGEST_IMAGE, read_image};
-use writer::pack::{Packed, write_image};
+use writer::pack::{Unwritten, write_image};
 
 // Prints the image of the net that an image gives.
-fn repack(rt: &HostRuntime, image: &[u8]) {
+fn repack(rt: &HostRuntime, image: &[u8]) -> Result<(), Failure> {
     let opened = read_image(image);
-    let net = opened.net;
     let mut out = [0u8; LONGEST_IMAGE];
-    let packed = write_image(net, &mut out);
-    match packed {
-        Packed::Written(n) => {
-            print_first(rt, &out, n);
+    match write_image(opened.net, &mut out) {
+        Ok(n) => print_first(rt, &out, n),
+        Err(Unwritten::NotFresh) => Ok(()),
+        Err(Unwritten::NoRoom) => {
+            say(rt, b"no room for the image\n");
+            Err(Failure::Short)
         }
-        Packed::NotFresh => {}
-        Packed::NoRoom => say(rt, b"no room for the image\n"),
     }
 }
 
-fn main(rt: HostRuntime) {
+// Reads the file, which is named where it cannot be read, and prints the image.
+fn run(rt: &HostRuntime) -> Result<(), Failure> {
     let mut image = [0u8; LONGEST_IMAGE + 1];
-    let net = read_file(&rt, b"net.bin", &mut image);
-    if net.failed {
-        return;
-    }
-    let n = net.count;
-    repack(&rt, &image[..n]);
+    repack(rt, read_file(rt, b"net.bin", &mut image)?)
+}
+
+// What fails is named where it does, and the status stays 0.
+fn main(rt: HostRuntime) {
+    let _ = run(&rt);
 }

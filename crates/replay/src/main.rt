@@ -6,98 +6,72 @@
 
 use dump::digest::put_digest;
 use dump::put_net;
-use dump::taken::two_at;
-use files::{print, read_first};
+use files::{Failure, print, read_exact, take_turns};
 use net::network::Net;
 use plans::answer::{Answer, number_of};
-use restore::net_of;
 use step::machine::Machine;
+use taken::{Restore, Source};
 
 mod code;
 mod nodes;
-mod restore;
+mod taken;
 
-// Writes a pick's answer and the digest of the net after it; false where that fails.
-fn write_pick(rt: &HostRuntime, answer: Answer, net: Net) -> bool {
+// Writes a pick's answer and the digest of the net after it.
+fn write_pick(rt: &HostRuntime, answer: Answer, net: &Net) -> Result<(), Failure> {
     let mut out = [0u8; 9];
     out[0] = number_of(answer);
-    put_digest(&mut out, 1, net);
+    put_digest(&mut out[1..], net);
     print(rt, &out)
 }
 
-// The net after picks, and whether all that was to be written of them is.
-#[derive(Clone, Copy)]
-struct Made {
-    net: Net,
-    written: bool,
-}
-
-// One pick, written.
-fn make_pick(rt: &HostRuntime, net: Net, b: u8) -> Made {
-    let machine = Machine { net };
-    let picked = machine.pick(b);
-    let answer = picked.answer;
-    let after = picked.net;
-    let written = write_pick(rt, answer, after);
-    Made {
-        net: after,
-        written,
+// Makes picks one after another, and writes each; gives the net after them.
+fn make_picks(rt: &HostRuntime, mut net: Net, picks: &[u8]) -> Result<Net, Failure> {
+    for b in picks {
+        let picked = Machine { net }.pick(*b);
+        net = picked.net;
+        write_pick(rt, picked.answer, &net)?;
     }
+    Ok(net)
 }
 
-// Picks one after another, until all are made or one cannot be written.
-fn make_picks(rt: &HostRuntime, net: Net, picks: &[u8]) -> Made {
-    let mut made = Made { net, written: true };
-    let mut i = 0;
-    while i < picks.len() && made.written {
-        let after = made.net;
-        made = make_pick(rt, after, picks[i]);
-        i += 1;
-    }
-    made
-}
-
-// Its frame is no part of that of the picks before.
+// Kept, here and in `poll`: `dump` knows no streams. Its frame is no part of that of the picks before.
 #[inline(never)]
-fn write_net(rt: &HostRuntime, net: Net) -> bool {
+fn write_net(rt: &HostRuntime, net: &Net) -> Result<(), Failure> {
     let mut out = [0u8; 27668];
-    put_net(&mut out, 0, net);
+    put_net(&mut out, net);
     print(rt, &out)
 }
 
-// Makes the first of the picks on a net and writes the net after them; false where that fails.
-fn run_first(rt: &HostRuntime, net: Net, picks: &[u8], count: usize) -> bool {
-    if count <= picks.len() {
-        let made = make_picks(rt, net, &picks[..count]);
-        let after = made.net;
-        made.written && write_net(rt, after)
-    } else {
-        false
-    }
+// Reads so many picks, makes them and writes the net after them.
+fn run_next(rt: &HostRuntime, net: Net, count: u16) -> Result<(), Failure> {
+    let mut buffer = [0u8; 65535];
+    let picks = &mut buffer[..count as usize];
+    read_exact(rt, picks)?;
+    let after = make_picks(rt, net, picks)?;
+    write_net(rt, &after)
 }
 
-// Reads so many picks and makes them; false where fewer come.
-fn run_next(rt: &HostRuntime, net: Net, count: usize) -> bool {
-    let mut picks = [0u8; 65535];
-    read_first(rt, &mut picks, count) && run_first(rt, net, &picks, count)
+// The net of a dump.
+fn net_of(dumped: &[u8]) -> Net {
+    let mut source = Source { left: dumped };
+    let mut net = Net::empty();
+    net.format = source.count();
+    net.addresses = source.count();
+    net.length = usize::from(source.two());
+    net.nodes.restore(&mut source);
+    net.code.restore(&mut source);
+    net
 }
 
-// One record; false at the end of the input, or where something fails.
-fn take_turn(rt: &HostRuntime) -> bool {
-    let mut head = [0u8; 27670];
-    if read_first(rt, &mut head, 27670) {
-        let count = two_at(&head, 27668);
-        run_next(rt, net_of(&head), count as usize)
-    } else {
-        false
-    }
+// One record; fails at the end of the input.
+fn take_turn(rt: &HostRuntime) -> Result<(), Failure> {
+    let mut dumped = [0u8; 27668];
+    let mut count = [0u8; 2];
+    read_exact(rt, &mut dumped)?;
+    read_exact(rt, &mut count)?;
+    run_next(rt, net_of(&dumped), u16::from_le_bytes(count))
 }
 
-// A proved loop has to end, and nothing says that the input does: no run uses up these turns.
 fn main(rt: HostRuntime) {
-    for _ in 0..u64::MAX {
-        if !take_turn(&rt) {
-            break;
-        }
-    }
+    take_turns(&rt, take_turn);
 }

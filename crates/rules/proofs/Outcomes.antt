@@ -3,10 +3,11 @@
 use Prim.Native.Nat.{ℕ, ◌<◌}
 use mathlib.Core.Bool.{Bool}
 use native.Mathlib.Omega.{arith}
+use Rattle.std.specs.Prelude.{Option, Some, None}
 use Rattle.net.specs.Choice.{choose}
 use Rattle.net.proofs.Every.{chosen}
-use Rattle.rules.specs.Types.{Locality, Place, Process, Slot, Found, Action, Evaluated, Net}
-use Rattle.rules.specs.Types.{Answer, Picked, Aim, Request}
+use Rattle.rules.specs.Types.{Locality, Place, Process, Action, Evaluated, Net}
+use Rattle.rules.specs.Types.{Answer, Picked, Request}
 use Rattle.plans.specs.Answer.{number_of}
 use Rattle.plans.specs.Request.{at, spoken, asked}
 use Rattle.step.specs.Pick.{unchanged, performed, stopped, out, input, in_found, read, read_found, started_in, eval}
@@ -18,21 +19,21 @@ pub data ComesTo (s : Net) (a : Locality) (k : ℕ) : Action → Picked → Type
   ends : ComesTo s a k Action.Stop (stopped s a k)
 
 module _ (s : Net) (a : Locality) (k : ℕ) (x : Action) where
-  in_outcome : (l : Locality) (q : Place) (f : Found) (p : Process) → ComesTo s a k x (in_found s a k l q f p)
+  in_outcome : (l : Locality) (q : Place) (f : Option ℕ) (p : Process) → ComesTo s a k x (in_found s a k l q f p)
   unfolding in_found number_of
-  in_outcome l q (Found.At i) p = performs _
-  in_outcome l q Found.Nothing p = refuses Answer.NoTuple (omega arith)
+  in_outcome l q (Some i) p = performs _
+  in_outcome l q None p = refuses Answer.NoTuple (omega arith)
 
-  read_outcome : (q : Place) (f : Found) (p : Process) → ComesTo s a k x (read_found s a k q f p)
+  read_outcome : (q : Place) (f : Option ℕ) (p : Process) → ComesTo s a k x (read_found s a k q f p)
   unfolding read_found number_of
-  read_outcome q (Found.At i) p = performs _
-  read_outcome q Found.Nothing p = refuses Answer.NoTuple (omega arith)
+  read_outcome q (Some i) p = performs _
+  read_outcome q None p = refuses Answer.NoTuple (omega arith)
 
   started_outcome :
-      (l : Locality) (p copy : Process) (q : Place) (j : Slot) → ComesTo s a k x (started_in s a k l p copy q j)
+      (l : Locality) (p copy : Process) (q : Place) (j : Option ℕ) → ComesTo s a k x (started_in s a k l p copy q j)
   unfolding started_in number_of
-  started_outcome l p copy q (Slot.Number j) = performs _
-  started_outcome l p copy q Slot.Full = refuses Answer.NoRoom (omega arith)
+  started_outcome l p copy q (Some j) = performs _
+  started_outcome l p copy q None = refuses Answer.NoRoom (omega arith)
 
   -- what is carriedOut, unless a test refuses
   or_refused :
@@ -50,11 +51,11 @@ module _ (s : Net) (a : Locality) (k : ℕ) (x : Action) where
     lack_outcome = acting_outcome Request.Lack (refuses Answer.NotSet (omega arith))
 
     at_outcome :
-        (aim : Aim) (f : Locality → Request) → ((l : Locality) → ComesTo s a k x (carried_out s a k p e (f l)))
+        (aim : Option Locality) (f : Locality → Request) → ((l : Locality) → ComesTo s a k x (carried_out s a k p e (f l)))
         → ComesTo s a k x (acting s a k p e (at aim f))
     unfolding at
-    at_outcome (Aim.At l) f h = acting_outcome (f l) (h l)
-    at_outcome Aim.Nowhere f h = lack_outcome
+    at_outcome (Some l) f h = acting_outcome (f l) (h l)
+    at_outcome None f h = lack_outcome
 
     -- a request whose template has to be defined
     told_outcome :
@@ -64,7 +65,7 @@ module _ (s : Net) (a : Locality) (k : ℕ) (x : Action) where
         chosen (λ y. ComesTo s a k x (acting s a k p e y)) e.defined _ _ (λ _. h) (λ _. lack_outcome)
 
     spoken_outcome :
-        (aim : Aim) (f : Locality → Request) → ((l : Locality) → ComesTo s a k x (carried_out s a k p e (f l)))
+        (aim : Option Locality) (f : Locality → Request) → ((l : Locality) → ComesTo s a k x (carried_out s a k p e (f l)))
         → ComesTo s a k x (acting s a k p e (spoken e aim f))
     unfolding spoken
     spoken_outcome aim f h = told_outcome (at aim f) (at_outcome aim f h)

@@ -6,11 +6,12 @@ use mathlib.Core.Path.{◌≡◌, refl, ap}
 use mathlib.Core.Bool.{Bool, true, false}
 use native.Mathlib.Omega.{arith}
 use borrow.Author.Tests.{ltb-true, eqb-true}
+use Rattle.std.specs.Prelude.{Option, Some, None}
 use Rattle.net.specs.Choice.{choose}
 use Rattle.net.specs.Records.{node_at, process_at, instruction_at, row_for}
 use Rattle.sound.specs.Soundness.{sound_of}
 use Rattle.rules.specs.Types.{Locality, Process, Evaluated, Net}
-use Rattle.rules.specs.Types.{Answer, Picked, Aim, Request}
+use Rattle.rules.specs.Types.{Answer, Picked, Request}
 use Rattle.plans.specs.Answer.{number_of}
 use Rattle.plans.specs.Request.{at, spoken, granted}
 use Rattle.step.specs.Pick.{host_of, slot_of, spare_of, unchanged, carried_out, acting, process_step, slot_step}
@@ -46,13 +47,13 @@ module _ {w : Answer} {after : Net} where
 -- ---- what acted: not a lack, and with the right
 module _ (w : Answer) (after : Net) (s : Net) (a : Locality) (k : ℕ) (p : Process) (e : Evaluated) where
   -- the target pointed to an address
-  pub record Aimed (aim : Aim) (f : Locality → Request) : Type 0 where
+  pub record Aimed (aim : Option Locality) (f : Locality → Request) : Type 0 where
     pub l : Locality
-    pub points : aim ≡ Aim.At l
+    pub points : aim ≡ Some l
     pub acts : Gave w after (acting s a k p e (f l))
 
   -- and the template was defined
-  pub record Spoke (d : Bool) (aim : Aim) (f : Locality → Request) : Type 0 where
+  pub record Spoke (d : Bool) (aim : Option Locality) (f : Locality → Request) : Type 0 where
     pub defined : d ≡ true
     pub aims : Aimed aim f
 
@@ -69,11 +70,11 @@ module _ {w : Answer} {after : Net} (final : number_of w ≤ 1) (s : Net) (a : L
       through final Answer.NoRight s (granted (row_for (node_at s a) p) r) _ (omega arith) h
 
   pub aimed :
-      (aim : Aim) (f : Locality → Request) → Gave w after (acting s a k p e (at aim f))
+      (aim : Option Locality) (f : Locality → Request) → Gave w after (acting s a k p e (at aim f))
       → Aimed w after s a k p e aim f
   unfolding at
-  aimed (Aim.At l) f h = record { l = l; points = refl; acts = h }
-  aimed Aim.Nowhere f h = absurd (lack h)
+  aimed (Some l) f h = record { l = l; points = refl; acts = h }
+  aimed None f h = absurd (lack h)
 
   -- a request whose template has to be defined
   pub told :
@@ -85,7 +86,7 @@ module _ {w : Answer} {after : Net} (final : number_of w ≤ 1) (s : Net) (a : L
   told false r h = absurd (lack h)
 
   pub spoke :
-      (aim : Aim) (f : Locality → Request)
+      (aim : Option Locality) (f : Locality → Request)
       → Gave w after (acting s a k p e (spoken e aim f))
       → Spoke w after s a k p e e.defined aim f
   unfolding spoken

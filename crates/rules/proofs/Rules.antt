@@ -7,6 +7,7 @@ use mathlib.Core.Logic.{◌↔◌}
 use mathlib.Core.Bool.{Bool, true, not}
 use native.Mathlib.Omega.{arith}
 use borrow.Author.Tests.{ltb-true, lt-ltb, eq-eqb, not-true, not-false}
+use Rattle.std.specs.Prelude.{Option, Some, None}
 use Rattle.net.specs.Records.{process_at, tuple_at, node_at, moved_to, free_slot}
 use Rattle.matching.specs.Matching.{bound_of, matched_of}
 use Rattle.sound.specs.Soundness.{sound_of, target_sound, group_sound, action_sound}
@@ -16,8 +17,8 @@ use Rattle.matching.specs.MatchingPromise.{OldestThatFits}
 use Rattle.net.proofs.Laws.{both_l, both_r, choose_true}
 use Rattle.matching.proofs.MatchingPromise.{matching_promise as promise}
 use Rattle.net.proofs.Lowest.{Lowest, first_is, first_cases}
-use Rattle.rules.specs.Types.{Locality, Place, Process, Node, Slot, Target, Action, Evaluated, Net, Found, Matched}
-use Rattle.rules.specs.Types.{Answer, Picked, Aim, Request}
+use Rattle.rules.specs.Types.{Locality, Place, Process, Node, Target, Action, Evaluated, Net, Matched}
+use Rattle.rules.specs.Types.{Answer, Picked, Request}
 use Rattle.plans.specs.Answer.{number_of}
 use Rattle.plans.specs.Request.{target_of, at, spoken, asked, request_of, granted}
 use Rattle.step.specs.Pick.{host_of, slot_of, spare_of, performed, unchanged, with_host, stopped, out, in_found, input}
@@ -42,14 +43,14 @@ slot_lowest x j = (
   λ h. record { below = h.slot; holds = ap not h.free; before = λ i l. ap not (h.lowest i l) },
 )
 
-slot_is : (x : Node) (j : ℕ) → LowestFree x j → free_slot x ≡ Slot.Number j
+slot_is : (x : Node) (j : ℕ) → LowestFree x j → free_slot x ≡ Some j
 unfolding free_slot free_test
-slot_is x j h = first_is 4 (free_test x) Slot.Number Slot.Full j ((slot_lowest x j).1 h)
+slot_is x j h = first_is 4 (free_test x) Some None j ((slot_lowest x j).1 h)
 
 slot_cases :
-    (P : Slot → Type 0) (x : Node) → ((j : ℕ) → LowestFree x j → P (Slot.Number j)) → P Slot.Full → P (free_slot x)
+    (P : Option ℕ → Type 0) (x : Node) → ((j : ℕ) → LowestFree x j → P (Some j)) → P None → P (free_slot x)
 unfolding free_slot free_test
-slot_cases P x f = first_cases P 4 (free_test x) Slot.Number Slot.Full (λ j h. f j ((slot_lowest x j).0 h))
+slot_cases P x f = first_cases P 4 (free_test x) Some None (λ j h. f j ((slot_lowest x j).0 h))
 
 -- ---- a busy slot of an address in use, in a sound net
 record Seat (s : Net) (a : Locality) (k : ℕ) : Type 0 where
@@ -120,20 +121,20 @@ module _ (s : Net) (a : Locality) (k : ℕ) (after : Net) (seat : Seat s a k) wh
 
   -- a template met the oldest tuple that fits
   module _
-      (l : Locality) (go : Found → Process → Picked) (low : l.0 < s.addresses)
+      (l : Locality) (go : Option ℕ → Process → Picked) (low : l.0 < s.addresses)
       (at :
       (i : ℕ) → OldestThatFits (node_at s l) (template_in s a k) i
       → Gave Answer.Performed after
-      (go (Found.At i) (bound_of (process_in s a k) (tuple_at (node_at s l) i) (template_in s a k)))
+      (go (Some i) (bound_of (process_in s a k) (tuple_at (node_at s l) i) (template_in s a k)))
       → Reduces s a k after)
-      (none : (p : Process) → Gave Answer.Performed after (go Found.Nothing p) → ⊥)
+      (none : (p : Process) → Gave Answer.Performed after (go None p) → ⊥)
     where
       met_by :
-          (f : Found) → (met s a k l).found ≡ f → Gave Answer.Performed after (go f (met s a k l).process)
+          (f : Option ℕ) → (met s a k l).found ≡ f → Gave Answer.Performed after (go f (met s a k l).process)
           → Reduces s a k after
-      met_by (Found.At i) d g =
+      met_by (Some i) d g =
           at i ((promise.finds _ _ _ i (few_stored s a k seat l low)).0 d) (rw (promise.binds _ _ _ i d) at g)
-      met_by Found.Nothing d g = absurd (none _ g)
+      met_by None d g = absurd (none _ g)
 
       matched : Gave Answer.Performed after (go (met s a k l).found (met s a k l).process) → Reduces s a k after
       matched = met_by (met s a k l).found refl
@@ -210,12 +211,12 @@ stop_by s a k after _ _ (refuses n l) h g = let no = same_number g in absurd (om
 stop_by s a k after _ _ ends h g = subst (Ends s a k) (ap (λ (x : Picked). x.net) g.is) (NIL h)
 
 -- ---- from the rule to the pick
-at_is : (aim : Aim) (f : Locality → Request) (l : Locality) → aim ≡ Aim.At l → at aim f ≡ f l
+at_is : (aim : Option Locality) (f : Locality → Request) (l : Locality) → aim ≡ Some l → at aim f ≡ f l
 unfolding at
 at_is aim f l e = rw e
 
 spoken_is :
-    (e : Evaluated) (aim : Aim) (f : Locality → Request) (l : Locality) → e.defined ≡ true → aim ≡ Aim.At l
+    (e : Evaluated) (aim : Option Locality) (f : Locality → Request) (l : Locality) → e.defined ≡ true → aim ≡ Some l
     → spoken e aim f ≡ f l
 unfolding spoken
 spoken_is e aim f l d p = choose_true _ _ _ d ∙ at_is aim f l p
@@ -240,10 +241,10 @@ module _ (s : Net) (a : Locality) (k : ℕ) where
   step_does _ seat (OUT h p d g room) =
       does _ _ h (spoken_is _ _ _ _ d p.points) g ∙ choose_true _ _ _ (lt-ltb _ _ room)
   step_does _ seat (IN {l = l} {i = i} h p d g o) =
-      let found : (met s a k l).found ≡ Found.At i = (promise.finds _ _ _ i (few_stored s a k seat l p.exists)).1 o in
+      let found : (met s a k l).found ≡ Some i = (promise.finds _ _ _ i (few_stored s a k seat l p.exists)).1 o in
       does _ _ h (spoken_is _ _ _ _ d p.points) g ∙ rw (found, promise.binds _ _ _ i found)
   step_does _ seat (READ {l = l} {i = i} h p d g o) =
-      let found : (met s a k l).found ≡ Found.At i = (promise.finds _ _ _ i (few_stored s a k seat l p.exists)).1 o in
+      let found : (met s a k l).found ≡ Some i = (promise.finds _ _ _ i (few_stored s a k seat l p.exists)).1 o in
       does _ _ h (spoken_is _ _ _ _ d p.points) g ∙ rw (found, promise.binds _ _ _ i found)
   step_does _ seat (EVAL h p g within f) =
       does _ _ h (at_is _ _ _ p.points) g

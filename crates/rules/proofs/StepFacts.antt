@@ -5,6 +5,7 @@ use mathlib.Core.Path.{◌≡◌}
 use mathlib.Core.Bool.{true}
 use native.Mathlib.Omega.{arith}
 use borrow.Author.Tests.{ltb-true, leb-true, lt-ltb}
+use Rattle.std.specs.Prelude.{Some}
 use Rattle.net.specs.Records.{variable_at, process_at, node_at, instruction_at}
 use Rattle.keeping.specs.Reaching.{Follows, out_next, in_next, read_next, eval_next, new_next, fork_first, fork_second, out_all_next}
 use Rattle.sound.specs.Soundness.{value_sound, process_sound, tuples_sound, node_sound, target_sound, action_sound}
@@ -13,7 +14,6 @@ use Rattle.net.proofs.Laws.{both_l, both_r, all_e}
 use Rattle.plans.specs.Request.{aim_of, target_of}
 use Rattle.net.proofs.Laws.{choose_e, in_range_high}
 use Rattle.rules.specs.Types.{Locality, Place, Value, Process, Node, Target, Action, Net}
-use Rattle.rules.specs.Types.{Aim}
 
 -- ---- the net
 pub record Facts (s : Net) : Type 0 where
@@ -60,7 +60,7 @@ running f n k x i h l b =
     }
 
 -- ---- targets and next places
-held_exists : (n : ℕ) (x : Value) (l : Locality) → value_sound n x ≡ true → aim_of x ≡ Aim.At l → l.0 < n
+held_exists : (n : ℕ) (x : Value) (l : Locality) → value_sound n x ≡ true → aim_of x ≡ Some l → l.0 < n
 unfolding value_sound aim_of
 held_exists n Value.Unset l h e = let z : ◌≡◌ {A = ℕ} 0 1 = cc in absurd (omega arith)
 held_exists n (Value.Reading x) l h e = let z : ◌≡◌ {A = ℕ} 0 1 = cc in absurd (omega arith)
@@ -68,7 +68,7 @@ held_exists n (Value.Address m) l h e = let same : m ≡ l = cc in rw (← same)
 
 pub target_exists :
     (n k : ℕ) (a : Locality) (p : Process) (t : Target) (l : Locality)
-    → a.0 < n → Runs n k p → target_sound n t ≡ true → target_of a p t ≡ Aim.At l → l.0 < n
+    → a.0 < n → Runs n k p → target_sound n t ≡ true → target_of a p t ≡ Some l → l.0 < n
 unfolding target_sound target_of
 target_exists n k a p (Target.Written m) l h r g e = let same : m ≡ l = cc in rw (← same) (ltb-true _ _ g)
 target_exists n k a p Target.Own l h r g e = let same : a ≡ l = cc in rw (← same) h

@@ -1,7 +1,7 @@
 -- Demand 1 of document 00, the parts of it that speak of picks: no action is carried out whose right the hosting node's
 -- policy lacks, and no pick answered with a number above 1 changes the net. The right of an action is stated from
 -- outside, action by action, and not by the test that the machine makes.
-use Rattle.std.specs.Prelude.{ℕ, ◌<◌, ◌≡◌, true}
+use Rattle.std.specs.Prelude.{ℕ, ◌<◌, ◌≡◌, true, Some}
 use Rattle.net.specs.Records.{process_at, node_at, instruction_at, row_for}
 use Rattle.net.specs.declared.locality.Group.{Group}
 use Rattle.net.specs.Groups.{member}
@@ -10,29 +10,28 @@ use Rattle.plans.specs.Answer.{number_of}
 use Rattle.plans.specs.Request.{target_of}
 use Rattle.step.specs.Pick.{host_of, slot_of, pick_of}
 use Rattle.rules.specs.Types.{Locality, Place, Row, Process, Target, Action, Net}
-use Rattle.rules.specs.Types.{Aim}
 
 -- the row holds the right of an action of the process p hosted at a: at the address that its target points to o for an
 -- out, i for an in, r or i for a read and e for an eval, o at each member of an out's set, and n for a new. A fork needs none, and a stop is no action.
 pub data Held (row : Row) (a : Locality) (p : Process) : Action → Type 0 where
   out_held :
       {t : Target} {q : Place} {l : Locality}
-      → target_of a p t ≡ Aim.At l
+      → target_of a p t ≡ Some l
       → may_put row l ≡ true
       → Held row a p (Action.Out t q)
   in_held :
       {t : Target} {q : Place} {l : Locality}
-      → target_of a p t ≡ Aim.At l
+      → target_of a p t ≡ Some l
       → may_take row l ≡ true
       → Held row a p (Action.In t q)
   read_held :
       {t : Target} {q : Place} {l : Locality}
-      → target_of a p t ≡ Aim.At l
+      → target_of a p t ≡ Some l
       → may_read row l ≡ true
       → Held row a p (Action.Read t q)
   eval_held :
       {t : Target} {sent q : Place} {l : Locality}
-      → target_of a p t ≡ Aim.At l
+      → target_of a p t ≡ Some l
       → may_send row l ≡ true
       → Held row a p (Action.Eval t sent q)
   new_held : {v : ℕ} {q : Place} → may_create row ≡ true → Held row a p (Action.New v q)

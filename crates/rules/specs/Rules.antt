@@ -3,7 +3,7 @@
 -- after, with one rule for each action. A rule has no order of tests: it says what has to hold, and what the net is
 -- then. Document 004 lets a step choose any tuple that matches and any address not in use; document 01 takes the oldest
 -- tuple and the lowest address, and adds rights, room and the rule for sent code.
-use Rattle.std.specs.Prelude.{ℕ, ◌<◌, ◌≡◌, ◌↔◌, true, false, List}
+use Rattle.std.specs.Prelude.{ℕ, ◌<◌, ◌≡◌, ◌↔◌, true, false, List, Some}
 use Rattle.net.specs.Records.{process_at, tuple_at, marked, node_at, instruction_at, row_for, moved_to, copied_to, sent_from, free_process}
 use Rattle.net.specs.declared.locality.Group.{Group}
 use Rattle.net.specs.Groups.{member}
@@ -16,7 +16,7 @@ use Rattle.plans.specs.Request.{target_of}
 use Rattle.plans.specs.Additions.{tuple_of}
 use Rattle.step.specs.Pick.{host_of, slot_of, spare_of, pick_of, with_host, added, added_all, taken, created}
 use Rattle.rules.specs.Types.{Locality, Place, Row, Process, Node, Target, Action, Instruction, Evaluated, Net}
-use Rattle.rules.specs.Types.{Answer, Aim}
+use Rattle.rules.specs.Types.{Answer}
 
 -- ---- what the rules speak of
 
@@ -43,7 +43,7 @@ pub record Stands (s : Net) (a : Locality) (k : ℕ) (action : Action) : Type 0 
 
 -- the target points to l, and the node l exists (document 004, section 2.1, asks for that in every rule)
 pub record Points (s : Net) (a : Locality) (k : ℕ) (t : Target) (l : Locality) : Type 0 where
-  pub points : target_of a (process_in s a k) t ≡ Aim.At l
+  pub points : target_of a (process_in s a k) t ≡ Some l
   pub exists : l.0 < s.addresses
 
 -- slot j of the node is free, and every lower one is busy

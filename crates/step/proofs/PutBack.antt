@@ -11,6 +11,7 @@ use lib.Dec.{ltb}
 use lib.ListN.{length, get_or, set, get_or-eq_default}
 use lib.Seq.{set-get_or, set-set, set_comm, get_or-set_same, get_or-set_other}
 use borrow.Author.Tests.{lt-ltb, le-ltb, ltb-true, not-true}
+use Rattle.std.specs.Prelude.{Option, Some, None}
 use Rattle.net.specs.Choice.{choose, both}
 use Rattle.net.specs.Records.{process_at, node_at, rights_at, row_for, with_node, with_rows, with_process, with_tuple, with_counts, without_tuple}
 use Rattle.net.specs.Records.{tuple_at, after_taking, free_slot, no_rights, zero_row, put_in, taken_from, started_at_slot, started_on}
@@ -22,7 +23,7 @@ use Rattle.net.proofs.Every.{chosen_lt}
 use Rattle.net.proofs.Lowest.{first_cases}
 use Rattle.matching.proofs.MatchingPromise.{matching_promise as matching}
 use Rattle.keeping.proofs.KeepingPromise.{keeping_promise as keeping}
-use Rattle.step.specs.Types.{Locality, Place, Group, Value, Tuple, Rights, Row, Process, Node, Slot, Net, Evaluated, Found}
+use Rattle.step.specs.Types.{Locality, Place, Group, Value, Tuple, Rights, Row, Process, Node, Net, Evaluated}
 use Rattle.step.specs.Types.{Answer, Picked}
 use Rattle.step.specs.Types.{Request}
 use Rattle.plans.specs.Request.{granted, is_new}
@@ -45,7 +46,7 @@ abbrev pub back : Net → Locality → ℕ → Locality → Plan → Picked
 back s a k l plan = record { answer = plan.answer; net = put_back s a k l plan }
 
 -- a choice of plans put back is the choice of what they come to
-pub chosen : (f : Plan → Picked) (b : Bool) (x y : Plan) (u v : Picked) → f x ≡ u → f y ≡ v → f (choose b x y) ≡ choose b u v
+pub chosen : {A : Type 0} (f : A → Picked) (b : Bool) (x y : A) (u v : Picked) → f x ≡ u → f y ≡ v → f (choose b x y) ≡ choose b u v
 unfolding choose
 chosen f true x y u v g h = g
 chosen f false x y u v g h = h
@@ -109,10 +110,10 @@ process_process : (x : Node) (j k : ℕ) (c p : Process) → (j ≡ k → ⊥) �
 unfolding with_process
 process_process x j k c p n = rw (set_comm x.processes j k c p n)
 
-slot_free : (x : Node) (j : ℕ) → free_slot x ≡ Slot.Number j → (process_at x j).busy ≡ false
+slot_free : (x : Node) (j : ℕ) → free_slot x ≡ Some j → (process_at x j).busy ≡ false
 unfolding free_slot
 slot_free x j =
-    first_cases (λ r. r ≡ Slot.Number j → (process_at x j).busy ≡ false) 4 _ Slot.Number Slot.Full
+    first_cases (λ r. r ≡ Some j → (process_at x j).busy ≡ false) 4 _ Some None
     (λ i h e. let same : i ≡ j = cc in rw (← same) (not-true _ h.holds))
     (λ e. let z : ◌≡◌ {A = ℕ} 0 1 = cc in absurd (omega arith))
 
@@ -174,44 +175,44 @@ module _ (s : Net) (a : Locality) (k : ℕ) (size : length s.nodes ≡ 16) (low 
     out_back : (p : Process) (q : Place) (t : Tuple) → back s a k l (out_plan p (node_at s l) q t) ≡ out s a k p l q t
     unfolding out_plan changing put_in out added changes
     out_back p q t =
-        chosen (back s a k l) (ltb (node_at s l).stored 16) _ _ _ _
+        chosen (λ c. back s a k l (changing (moved_to p q) Answer.NoRoom (node_at s l) c)) (ltb (node_at s l).stored 16) _ _ _ _
         (going_back (moved_to p q) (λ y. with_tuple y t) (λ _. tuple_process (node_at s a) t k (moved_to p q)))
         (refusing_back l Answer.NoRoom _ refl)
 
     -- a tuple that is stored can be taken
-    taken_plan : (p : Process) (y : Node) (i : ℕ) → i < y.stored → changing p Answer.NoTuple (taken_from y i) ≡ going p (without_tuple y i)
+    taken_plan : (p : Process) (y : Node) (i : ℕ) → i < y.stored → changing p Answer.NoTuple y (taken_from y i) ≡ going p (without_tuple y i)
     unfolding changing taken_from choose
     taken_plan p y i h = rw (lt-ltb i y.stored h)
 
-    in_back : (p : Process) (q : Place) (found : Found) → ((i : ℕ) → found ≡ Found.At i → i < (node_at s l).stored)
+    in_back : (p : Process) (q : Place) (found : Option ℕ) → ((i : ℕ) → found ≡ Some i → i < (node_at s l).stored)
         → back s a k l (in_plan p (node_at s l) q found) ≡ in_found s a k l q found p
     unfolding in_plan in_found taken changes
-    in_back p q (Found.At i) h =
+    in_back p q (Some i) h =
         ap (back s a k l) (taken_plan (moved_to p q) (node_at s l) i (h i refl))
         ∙ going_back (moved_to p q) (λ y. without_tuple y i) (λ _. taking_process (node_at s a) i k (moved_to p q))
-    in_back p q Found.Nothing h = refusing_back l Answer.NoTuple _ refl
+    in_back p q None h = refusing_back l Answer.NoTuple _ refl
 
-    read_back_law : (p : Process) (q : Place) (found : Found) → back s a k l (read_plan p (node_at s l) q found) ≡ read_found s a k q found p
+    read_back_law : (p : Process) (q : Place) (found : Option ℕ) → back s a k l (read_plan p (node_at s l) q found) ≡ read_found s a k q found p
     unfolding read_plan read_found going performed changes
-    read_back_law p q (Found.At i) = kept_back Answer.Performed l (moved_to p q) refl
-    read_back_law p q Found.Nothing = refusing_back l Answer.NoTuple _ refl
+    read_back_law p q (Some i) = kept_back Answer.Performed l (moved_to p q) refl
+    read_back_law p q None = refusing_back l Answer.NoTuple _ refl
 
     -- a free slot is not the one in which a process stands
-    other_slot : (process_at (node_at s a) k).busy ≡ true → (j : ℕ) → free_slot (node_at s l) ≡ Slot.Number j → a.0 ≡ l.0 → j ≡ k → ⊥
+    other_slot : (process_at (node_at s a) k).busy ≡ true → (j : ℕ) → free_slot (node_at s l) ≡ Some j → a.0 ≡ l.0 → j ≡ k → ⊥
     other_slot busy j f e q =
         let free = slot_free (node_at s l) j f in
         let same : a ≡ l = λ i. record { 0 = e i } in
         let z : ◌≡◌ {A = ℕ} 0 1 = cc in omega arith
 
     module _ (busy : (process_at (node_at s a) k).busy ≡ true) (p copy : Process) (q : Place) where
-      started_back : (slot : Slot) → free_slot (node_at s l) ≡ slot
-          → back s a k l (changing (moved_to p q) Answer.NoRoom (started_at_slot (node_at s l) copy slot))
+      started_back : (slot : Option ℕ) → free_slot (node_at s l) ≡ slot
+          → back s a k l (changing (moved_to p q) Answer.NoRoom (node_at s l) (started_at_slot (node_at s l) copy slot))
           ≡ started_in s a k l p copy q slot
       unfolding started_at_slot started_in changing choose changes with_host
-      started_back (Slot.Number j) f =
+      started_back (Some j) f =
           going_back (moved_to p q) (λ y. with_process y j copy)
           (λ e. process_process (node_at s a) j k copy (moved_to p q) (other_slot busy j f e))
-      started_back Slot.Full f = refusing_back l Answer.NoRoom _ refl
+      started_back None f = refusing_back l Answer.NoRoom _ refl
 
       start_back : back s a k l (start_plan p (node_at s l) copy q) ≡ started_in s a k l p copy q (free_slot (node_at s l))
       unfolding start_plan started_on

@@ -7,7 +7,6 @@ use mathlib.Core.List.{List}
 use lib.ListN.{set}
 use lib.Seq.{set-get_or}
 use Rattle.net.specs.Choice.{choose, fold}
-use Rattle.net.specs.declared.node.Changed.{Changed}
 use Rattle.net.specs.Records.{address_of, marked, node_at, row_for, with_node, with_process, with_tuple, put_in}
 use Rattle.net.specs.Shape.{Shaped}
 use Rattle.net.specs.Groups.{member}
@@ -118,10 +117,6 @@ pub shared_net :
     (shared_at s (shared_of s.nodes t))
 unfolding shared_at with_nodes
 shared_net s t r e = ap (shared_at s) e
-
-pub put_node : (x : Node) (t : Tuple) (c : Changed) → c ≡ put_in x t → c.node ≡ with_tuple x t
-unfolding put_in
-put_node x t c e = ap (λ (z : Changed). z.node) e
 
 module _ (xs₀ : List Node) (g : Group) (t : Tuple) where
   pub given_none : xs₀ ≡ given_below 0 xs₀ g t

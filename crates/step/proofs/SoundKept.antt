@@ -5,6 +5,7 @@ use Prim.Native.Nat.{ℕ, ◌<◌}
 use mathlib.Core.Path.{◌≡◌, refl}
 use mathlib.Core.Bool.{true}
 use native.Mathlib.Omega.{arith}
+use Rattle.std.specs.Prelude.{Option, Some, None}
 use Rattle.net.specs.Records.{process_at, node_at, tuple_at, with_node, moved_to, free_process}
 use Rattle.matching.specs.Matching.{matched_of}
 use borrow.Author.Tests.{ltb-true}
@@ -14,7 +15,7 @@ use Rattle.matching.specs.MatchingPromise.{OldestThatFits}
 use Rattle.net.proofs.Laws.{choose_true}
 use Rattle.net.proofs.Every.{chosen, chosen_lt}
 use Rattle.matching.proofs.MatchingPromise.{matching_promise as promise}
-use Rattle.step.specs.Types.{Locality, Place, Group, Tuple, Process, Slot, Instruction, Net, Evaluated, Found}
+use Rattle.step.specs.Types.{Locality, Place, Group, Tuple, Process, Instruction, Net, Evaluated}
 use Rattle.step.specs.Types.{Answer, Picked}
 use Rattle.step.specs.Types.{Request}
 use Rattle.step.specs.Pick.{host_of, slot_of, unchanged, performed, with_host, stopped, out, out_all, in_found, input}
@@ -75,11 +76,11 @@ module _
         (λ _. same_kept s _ ok)
 
     module _ (l : Locality) (q : Place) (e : Evaluated) (reached : l.0 < s.addresses) (next : q.0 < s.length) where
-      oldest : (j : ℕ) → (matched_of p (node_at s l) e).found ≡ Found.At j → OldestThatFits (node_at s l) e j
+      oldest : (j : ℕ) → (matched_of p (node_at s l) e).found ≡ Some j → OldestThatFits (node_at s l) e j
       oldest j = (promise.finds p (node_at s l) e j (node_at_law s ok l reached).room).0
 
       bound_at_law :
-          (j : ℕ) → (matched_of p (node_at s l) e).found ≡ Found.At j
+          (j : ℕ) → (matched_of p (node_at s l) e).found ≡ Some j
           → Running s.addresses s.length (matched_of p (node_at s l) e).process
       unfolding tuple_at
       bound_at_law j h =
@@ -90,26 +91,26 @@ module _
           here.fits)
 
       in_kept :
-          (f : Found) → (matched_of p (node_at s l) e).found ≡ f
+          (f : Option ℕ) → (matched_of p (node_at s l) e).found ≡ f
           → Kept (in_found s a i l q f (matched_of p (node_at s l) e).process)
       unfolding in_found with_host with_node
-      in_kept (Found.At j) h =
+      in_kept (Some j) h =
           performed_kept _
           (taken_kept _ (move_kept _ q (bound_at_law j h) next) l j reached (rw (stored_same s a l i) (oldest j h).present))
-      in_kept Found.Nothing h = same_kept s _ ok
+      in_kept None h = same_kept s _ ok
 
       read_kept :
-          (f : Found) → (matched_of p (node_at s l) e).found ≡ f
+          (f : Option ℕ) → (matched_of p (node_at s l) e).found ≡ f
           → Kept (read_found s a i q f (matched_of p (node_at s l) e).process)
       unfolding read_found
-      read_kept (Found.At j) h = performed_kept _ (move_kept _ q (bound_at_law j h) next)
-      read_kept Found.Nothing h = same_kept s _ ok
+      read_kept (Some j) h = performed_kept _ (move_kept _ q (bound_at_law j h) next)
+      read_kept None h = same_kept s _ ok
 
-      started_kept : (copy : Process) → Running s.addresses s.length copy → (j : Slot) → Kept (started_in s a i l p copy q j)
+      started_kept : (copy : Process) → Running s.addresses s.length copy → (j : Option ℕ) → Kept (started_in s a i l p copy q j)
       unfolding started_in with_host with_node
-      started_kept copy h (Slot.Number j) =
+      started_kept copy h (Some j) =
           performed_kept _ (with_host_law _ (move_kept p q running next) l j _ reached (runs _ _ _ h))
-      started_kept copy h Slot.Full = same_kept s _ ok
+      started_kept copy h None = same_kept s _ ok
 
     create_kept : (v : ℕ) (q : Place) → q.0 < s.length → Kept (create s a i p v q)
     unfolding create

@@ -7,6 +7,7 @@ use mathlib.Core.Path.{◌≡◌, refl, ap, subst, ◌∙◌}
 use mathlib.Core.Bool.{true}
 use native.Mathlib.Omega.{arith}
 use borrow.Author.Tests.{ltb-true}
+use Rattle.std.specs.Prelude.{Option, Some, None}
 use Rattle.net.specs.Records.{marked, zero_field, zero_tuple, field_at, variable_at}
 use Rattle.matching.specs.Matching.{evaluated_of, want_at, fits_of, bound_of}
 use Rattle.sound.specs.Soundness.{item_sound, value_sound, target_sound, group_sound}
@@ -19,7 +20,7 @@ use Rattle.sound.proofs.NodeChanges.{Filling, no_field, next_field, all_fields}
 use Rattle.sound.proofs.CodeFacts.{TemplateOk, template_sound_law, Acts, InstructionOk}
 use Rattle.step.specs.Types.{Locality, Value, Item, Field, Tuple, Process, Target}
 use Rattle.step.specs.Types.{Action, Instruction, Want, Evaluated}
-use Rattle.step.specs.Types.{Aim, Request}
+use Rattle.step.specs.Types.{Request}
 use Rattle.plans.specs.Request.{aim_of, target_of, at, spoken, asked, request_of}
 use Rattle.plans.specs.Additions.{item_of, tuple_of}
 
@@ -90,9 +91,9 @@ said_ok n k host p c h r ok =
     (λ i l. want_item n _ (λ x. promise.ranges n host p c h (λ v. value_at n k p v r) (template_sound_law n c ok) i x l))
 
 -- ---- requests of the host a that are within a net of n addresses and k places
-AimOk : ℕ → Aim → Type 0
-AimOk n (Aim.At l) = l.0 < n
-AimOk n Aim.Nowhere = Unit {0}
+AimOk : ℕ → Option Locality → Type 0
+AimOk n (Some l) = l.0 < n
+AimOk n None = Unit {0}
 
 unfoldable pub RequestOk : Locality → ℕ → ℕ → Evaluated → Request → Type 0
 RequestOk a n k e Request.Lack = Unit {0}
@@ -122,12 +123,12 @@ target_ok n k a p (Target.Held v) h r e = aim_ok n _ (value_at n k p v r (ltb-tr
 module _
     (a : Locality) (n k : ℕ) (e : Evaluated) (f : Locality → Request) (each : (l : Locality) → l.0 < n → RequestOk a n k e (f l))
   where
-    at_ok : (aim : Aim) → AimOk n aim → RequestOk a n k e (at aim f)
+    at_ok : (aim : Option Locality) → AimOk n aim → RequestOk a n k e (at aim f)
     unfolding at AimOk RequestOk
-    at_ok (Aim.At l) h = each l h
-    at_ok Aim.Nowhere h = tt
+    at_ok (Some l) h = each l h
+    at_ok None h = tt
 
-    spoken_ok : (aim : Aim) → AimOk n aim → RequestOk a n k e (spoken e aim f)
+    spoken_ok : (aim : Option Locality) → AimOk n aim → RequestOk a n k e (spoken e aim f)
     unfolding spoken RequestOk
     spoken_ok aim h = chosen (RequestOk a n k e) e.defined _ _ (λ _. at_ok aim h) (λ _. tt)
 

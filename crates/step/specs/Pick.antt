@@ -1,6 +1,6 @@
 -- One pick (document 01, "One pick"): the answer and the net after it, for every net and every byte. In what follows s
 -- is the net, a the hosting address, k the slot, p the process that stands there.
-use Rattle.std.specs.Prelude.{ℕ, ◌+◌, ◌/◌, ◌%◌, Bool, eqb, ltb}
+use Rattle.std.specs.Prelude.{ℕ, ◌+◌, ◌/◌, ◌%◌, Bool, eqb, ltb, Option, Some, None}
 use Rattle.net.specs.Choice.{choose, fold}
 use Rattle.net.specs.Records.{process_at, node_at, instruction_at, row_for, with_process, with_tuple, with_node, with_rows}
 use Rattle.net.specs.Records.{with_variable, moved_to, copied_to, sent_from, without_tuple, free_slot, free_process, zero_node}
@@ -12,8 +12,8 @@ use Rattle.keeping.specs.Keeping.{keeps_of}
 use Rattle.sound.specs.Soundness.{sound_of}
 use Rattle.plans.specs.Request.{request_of, granted}
 use Rattle.plans.specs.Additions.{tuple_of, opened_rows, creator_rows}
-use Rattle.step.specs.Types.{Locality, Place, Tuple, Process, Slot, Net, Instruction, Value}
-use Rattle.step.specs.Types.{Evaluated, Found, Matched, Answer, Picked, Request}
+use Rattle.step.specs.Types.{Locality, Place, Tuple, Process, Net, Instruction, Value}
+use Rattle.step.specs.Types.{Evaluated, Matched, Answer, Picked, Request}
 
 -- ---- what a pick's byte names: address (4 bits), slot (2 bits), 2 zero bits
 unfoldable pub host_of : ℕ → Locality
@@ -67,24 +67,24 @@ out_all s a k p g q t =
 unfoldable pub taken : Net → Locality → ℕ → Net
 taken s l i = with_node s l (without_tuple (node_at s l) i)
 
-unfoldable pub in_found : Net → Locality → ℕ → Locality → Place → Found → Process → Picked
-in_found s a k l q (Found.At i) p = performed (taken (with_host s a k (moved_to p q)) l i)
-in_found s a k l q Found.Nothing p = unchanged Answer.NoTuple s
+unfoldable pub in_found : Net → Locality → ℕ → Locality → Place → Option ℕ → Process → Picked
+in_found s a k l q (Some i) p = performed (taken (with_host s a k (moved_to p q)) l i)
+in_found s a k l q None p = unchanged Answer.NoTuple s
 
 unfoldable pub input : Net → Locality → ℕ → Locality → Place → Matched → Picked
 input s a k l q m = in_found s a k l q m.found m.process
 
-unfoldable pub read_found : Net → Locality → ℕ → Place → Found → Process → Picked
-read_found s a k q (Found.At i) p = performed (with_host s a k (moved_to p q))
-read_found s a k q Found.Nothing p = unchanged Answer.NoTuple s
+unfoldable pub read_found : Net → Locality → ℕ → Place → Option ℕ → Process → Picked
+read_found s a k q (Some i) p = performed (with_host s a k (moved_to p q))
+read_found s a k q None p = unchanged Answer.NoTuple s
 
 unfoldable pub read : Net → Locality → ℕ → Place → Matched → Picked
 read s a k q m = read_found s a k q m.found m.process
 
 -- the process goes on at q, and its copy starts in slot j of l
-unfoldable pub started_in : Net → Locality → ℕ → Locality → Process → Process → Place → Slot → Picked
-started_in s a k l p copy q (Slot.Number j) = performed (with_host (with_host s a k (moved_to p q)) l j copy)
-started_in s a k l p copy q Slot.Full = unchanged Answer.NoRoom s
+unfoldable pub started_in : Net → Locality → ℕ → Locality → Process → Process → Place → Option ℕ → Picked
+started_in s a k l p copy q (Some j) = performed (with_host (with_host s a k (moved_to p q)) l j copy)
+started_in s a k l p copy q None = unchanged Answer.NoRoom s
 
 -- eval: the process that would start has the host as its origin (document 02, slip 10). Its code has to keep within the target's
 -- row for it, where self means the target

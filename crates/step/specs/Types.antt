@@ -11,7 +11,6 @@ pub use Rattle.net.specs.declared.policy.Rights.{Rights}
 pub use Rattle.net.specs.declared.policy.Row.{Row}
 pub use Rattle.net.specs.declared.process.Process.{Process}
 pub use Rattle.net.specs.declared.node.Node.{Node}
-pub use Rattle.net.specs.declared.node.Slot.{Slot}
 pub use Rattle.net.specs.declared.instruction.Target.{Target}
 pub use Rattle.net.specs.declared.instruction.Pattern.{Pattern}
 pub use Rattle.net.specs.declared.instruction.Action.{Action}
@@ -19,10 +18,8 @@ pub use Rattle.net.specs.declared.instruction.Instruction.{Instruction}
 pub use Rattle.net.specs.declared.network.Net.{Net}
 pub use Rattle.matching.specs.declared.template.Want.{Want}
 pub use Rattle.matching.specs.declared.template.Evaluated.{Evaluated}
-pub use Rattle.matching.specs.declared.template.Found.{Found}
 pub use Rattle.matching.specs.declared.template.Matched.{Matched}
 pub use Rattle.plans.specs.declared.answer.Answer.{Answer}
-pub use Rattle.plans.specs.declared.request.Aim.{Aim}
 pub use Rattle.plans.specs.declared.request.Request.{Request}
 pub use Rattle.plans.specs.declared.plan.Plan.{Plan}
 pub use Rattle.step.specs.declared.machine.Picked.{Picked}

@@ -31,61 +31,53 @@ pub struct Machine {
 
 impl Machine {
     // What a pick asks for.
-    fn turn_at(self, b: u8) -> Turn
-        ensures { (result ≡ turn_at self.net b) × (result.target.0 < 16) × (result.source.0 < 16) }
+    #[tactic(auto, using(crate::proofs::TurnLaws::turn_at_law), unfolding(net::specs::Records::node_at, net::specs::Records::instruction_at))]
+    fn turn_at(&self, b: u8) -> Turn
+        ensures { (result ≡ turn_at self.now.net b) × (result.target.0 < 16) × (result.source.0 < 16) }
     {
-        let net = self.net;
-        let a = host_of(b);
-        let host_at = a.0 as usize;
-        let seat = seat_of(b, net.format, net.addresses, net.nodes[host_at]);
-        let at = seat.index;
-        turn_of(seat, net.code[at])
+        let net = &self.net;
+        let host = host_of(b).0 as usize;
+        let seat = seat_of(b, net.format, net.addresses, net.nodes[host]);
+        turn_of(seat, net.code[seat.index])
     }
 
     // The plan of a turn, drawn from the node at its source.
-    fn plan_at(self, turn: Turn) -> Plan
+    #[tactic(auto, unfolding(crate::specs::Turn::plan_at, net::specs::Records::node_at))]
+    fn plan_at(&self, turn: Turn) -> Plan
         requires { turn.source.0 < 16 }
-        ensures { result ≡ plan_at self.net turn }
+        ensures { result ≡ plan_at self.now.net turn }
     {
-        let net = self.net;
-        let source = turn.source;
-        let source_at = source.0 as usize;
-        plan_with(net.code, turn, net.nodes[source_at])
+        let net = &self.net;
+        plan_with(&net.code, turn, net.nodes[turn.source.0 as usize])
     }
 
     // The plan of a pick put back: its target l first, then its host as it is then.
-    fn put_back(mut self, b: u8, l: Locality, plan: Plan) -> Machine
+    #[tactic(auto, using(crate::proofs::TurnLaws::put_is, crate::proofs::TurnLaws::put_nothing), unfolding(net::specs::Records::node_at))]
+    fn put_back(&mut self, b: u8, l: Locality, plan: Plan)
         requires { l.0 < 16 }
-        ensures { result.net ≡ put_back self.net (host_of b) (slot_of b) l plan }
+        ensures { self.new.net ≡ put_back self.old.net (host_of b) (slot_of b) l plan }
     {
-        let answer = plan.answer;
-        if changes_net(answer) {
-            let a = host_of(b);
-            let host_at = a.0 as usize;
-            let target_at = l.0 as usize;
-            let mut net = self.net;
-            let target = plan.target;
-            net.nodes[target_at] = target;
-            net.nodes[host_at] = host_after(b, net.format, l, plan, net.nodes[host_at]);
+        if changes_net(plan.answer) {
+            let host = host_of(b).0 as usize;
+            let net = &mut self.net;
+            net.nodes[l.0 as usize] = plan.target;
+            net.nodes[host] = host_after(b, net.format, l, plan, net.nodes[host]);
             net.addresses = count_after(plan.opens, net.addresses);
-            self.net = net;
-            self
-        } else {
-            self
         }
     }
 
     // The turn of an out to a set, which concerns many nodes.
-    fn share(self, turn: Turn) -> Picked
+    #[tactic(auto, unfolding(crate::specs::Sharing::shared_at, crate::specs::Sharing::with_nodes))]
+    fn share(mut self, turn: Turn) -> Picked
         ensures { result ≡ shared_at self.net (shared_of self.net.nodes turn) }
     {
-        let mut net = self.net;
-        let nodes = net.nodes;
-        let shared = share_out(nodes, turn);
-        let answer = shared.answer;
-        let after = shared.nodes;
-        net.nodes = after;
-        Picked { answer, net }
+        let shared = share_out(self.net.nodes, turn);
+        let nodes = shared.nodes;
+        self.net.nodes = nodes;
+        Picked {
+            answer: shared.answer,
+            net: self.net,
+        }
     }
 
     // A pick on a net that is known to be sound.
@@ -93,13 +85,13 @@ impl Machine {
         ensures { result ≡ step_of self.net b }
     {
         let turn = self.turn_at(b);
-        let group = turn.group;
-        if group.0 == 0 {
+        if turn.group.0 == 0 {
             let plan = self.plan_at(turn);
-            let answer = plan.answer;
-            self = self.put_back(b, turn.target, plan);
-            let after = self.net;
-            Picked { answer, net: after }
+            self.put_back(b, turn.target, plan);
+            Picked {
+                answer: plan.answer,
+                net: self.net,
+            }
         } else {
             self.share(turn)
         }

@@ -21,49 +21,39 @@ pub struct Shared {
 }
 
 // Whether the node x at address l has room, where that is a member of the set.
-fn room_if(g: Group, l: Locality, x: Node) -> bool
-    ensures { result ≡ implies (member g l) (ltb x.stored 16) }
+#[tactic(auto, unfolding(net::specs::Choice::implies))]
+fn room_if(g: Group, l: Locality, x: &Node) -> bool
+    ensures { result ≡ implies (member g l) (ltb x.now.stored 16) }
 {
     if g.has(l) { x.stored < 16 } else { true }
 }
 
 // Whether each member has room.
-fn room_at_all(nodes: [Node; 16], g: Group) -> bool
-    ensures { result ≡ room_in nodes g }
+fn room_at_all(nodes: &[Node; 16], g: Group) -> bool
+    ensures { result ≡ room_in nodes.now g }
 {
-    let mut ok = true;
-    let mut l = 0usize;
-    while l < 16 {
-        let x = nodes[l];
-        let good = room_if(g, Locality(l as u8), x);
-        ok = ok & good;
-        l += 1;
+    for l in 0..16 {
+        if !room_if(g, Locality(l as u8), &nodes[l]) {
+            return false;
+        }
     }
-    ok
+    true
 }
 
 // The node x at address l with the tuple added as the newest, where that is a member of the set.
+#[tactic(auto, using(net::proofs::NodeLaws::put_or), unfolding(net::specs::Choice::choose))]
 fn given(g: Group, l: Locality, x: Node, t: Tuple) -> Node
     ensures { result ≡ choose (member g l) (with_tuple x t) x }
 {
-    if g.has(l) {
-        let put = x.put(t);
-        put.node
-    } else {
-        x
-    }
+    if g.has(l) { x.put(t).unwrap_or(x) } else { x }
 }
 
 // The nodes with the tuple added at each member.
 fn give_all(mut nodes: [Node; 16], g: Group, t: Tuple) -> [Node; 16]
     ensures { result ≡ given_below 16 nodes g t }
 {
-    let mut l = 0usize;
-    while l < 16 {
-        let x = nodes[l];
-        let node = given(g, Locality(l as u8), x, t);
-        nodes[l] = node;
-        l += 1;
+    for l in 0..16 {
+        nodes[l] = given(g, Locality(l as u8), nodes[l], t);
     }
     nodes
 }
@@ -90,7 +80,7 @@ pub fn share_out(nodes: [Node; 16], turn: Turn) -> Shared
     let seat = turn.seat;
     let host = host_of(seat.pick);
     let host_at = host.0 as usize;
-    let room = room_at_all(nodes, turn.group);
+    let room = room_at_all(&nodes, turn.group);
     let plan = plan_of(turn, nodes[host_at], room);
     let answer = plan.answer;
     if changes_net(answer) {

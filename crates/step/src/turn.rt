@@ -20,7 +20,7 @@ use plans::rows::creator_rows;
 
 // What a pick finds at its host: the process that it names, with the row that it is judged by and the index
 // of its instruction. `pick` is the pick itself, `format` the net's format, `addresses` the address count.
-#[derive(Clone, Copy)]
+#[derive(Clone, Copy, PartialEq, Eq, Debug)]
 pub struct Seat {
     pub pick: u8,
     pub format: usize,
@@ -33,7 +33,7 @@ pub struct Seat {
 // What a pick asks for from its seat, with its evaluated template, the address that it changes beside its
 // host, the address whose node its plan is drawn from, whether it sends code, and the set that it puts to, which is
 // empty where it is no out to a set.
-#[derive(Clone, Copy)]
+#[derive(Clone, Copy, PartialEq, Eq, Debug)]
 pub struct Turn {
     pub seat: Seat,
     pub request: Request,
@@ -77,13 +77,13 @@ fn is_ready(b: u8, n: usize, p: Process) -> bool
 }
 
 // What a pick that is not ready is answered with.
+#[tactic(auto, unfolding(crate::specs::Turn::refusal, crate::specs::Pick::spare_of, crate::specs::Pick::host_of, net::specs::Choice::choose))]
 fn refused_with(b: u8, n: usize) -> Answer
     ensures { result ≡ refusal b n }
 {
-    let a = (b / 16) as usize;
     if b % 4 != 0 {
         Answer::Malformed
-    } else if a < n {
+    } else if ((b / 16) as usize) < n {
         Answer::FreeSlot
     } else {
         Answer::NotInUse
@@ -91,13 +91,12 @@ fn refused_with(b: u8, n: usize) -> Answer
 }
 
 // The instruction that a pick meets, c being the one at its process's place.
+#[tactic(auto, unfolding(crate::specs::Turn::met, net::specs::Choice::choose))]
 fn met_by(b: u8, n: usize, p: Process, c: Instruction) -> Instruction
     ensures { result ≡ met b n p c }
 {
-    let place = p.at;
-    let at = place.0 as usize;
-    if is_ready(b, n, p) {
-        if at < 512 { c } else { Instruction::zero() }
+    if is_ready(b, n, p) && (p.at.0 as usize) < 512 {
+        c
     } else {
         Instruction::zero()
     }
@@ -121,136 +120,99 @@ fn unused_or(n: usize, a: Locality) -> Locality
 }
 
 // The address that a request changes beside its host a.
+#[tactic(auto, unfolding(crate::specs::Turn::target_in, plans::specs::Request::is_new, net::specs::Choice::choose))]
 fn target_of(a: Locality, n: usize, r: Request) -> Locality
     ensures value { result ≡ target_in a n r }
     ensures result_bound { a.0 < 16 → result.0 < 16 }
 {
     match r {
-        Request::Lack => a,
-        Request::Stop => a,
-        Request::Out(l, _) => nearest(l, a),
-        Request::In(l, _) => nearest(l, a),
-        Request::Read(l, _) => nearest(l, a),
-        Request::Eval(l, _, _) => nearest(l, a),
         Request::New(_, _) => unused_or(n, a),
-        Request::Fork(_, _) => a,
-        Request::OutAll(_, _) => a,
+        _ => source_of(a, r),
     }
 }
 
 // The address whose node the plan of a request is drawn from: its one target's, or the host a where it has none, or one that
 // has no node yet, or a set of them.
+#[tactic(auto, unfolding(crate::specs::Turn::source_in))]
 fn source_of(a: Locality, r: Request) -> Locality
     ensures value { result ≡ source_in a r }
     ensures result_bound { a.0 < 16 → result.0 < 16 }
 {
     match r {
-        Request::Lack => a,
-        Request::Stop => a,
         Request::Out(l, _) => nearest(l, a),
         Request::In(l, _) => nearest(l, a),
         Request::Read(l, _) => nearest(l, a),
         Request::Eval(l, _, _) => nearest(l, a),
-        Request::New(_, _) => a,
-        Request::Fork(_, _) => a,
-        Request::OutAll(_, _) => a,
+        _ => a,
     }
 }
 
 // Whether a request sends code.
+#[tactic(auto, unfolding(crate::specs::Turn::sends_code))]
 fn sends_code(r: Request) -> bool
     ensures { result ≡ sends_code r }
 {
-    match r {
-        Request::Lack => false,
-        Request::Stop => false,
-        Request::Out(_, _) => false,
-        Request::In(_, _) => false,
-        Request::Read(_, _) => false,
-        Request::Eval(_, _, _) => true,
-        Request::New(_, _) => false,
-        Request::Fork(_, _) => false,
-        Request::OutAll(_, _) => false,
-    }
+    matches!(r, Request::Eval(_, _, _))
 }
 
 // The set that a request puts to: the empty one where it is no out to a set.
+#[tactic(auto, unfolding(crate::specs::Turn::group_of, crate::specs::Turn::no_group))]
 fn group_of(r: Request) -> Group
     ensures { result ≡ group_of r }
 {
     match r {
-        Request::Lack => Group(0),
-        Request::Stop => Group(0),
-        Request::Out(_, _) => Group(0),
-        Request::In(_, _) => Group(0),
-        Request::Read(_, _) => Group(0),
-        Request::Eval(_, _, _) => Group(0),
-        Request::New(_, _) => Group(0),
-        Request::Fork(_, _) => Group(0),
         Request::OutAll(g, _) => g,
+        _ => Group(0),
     }
 }
 
 // What a pick finds at its host: f is the format, n the address count.
+#[tactic(auto, unfolding(crate::specs::Turn::seat_of, crate::specs::Turn::seated, net::specs::Records::process_at))]
 pub fn seat_of(b: u8, f: usize, n: usize, host: Node) -> Seat
     ensures { (result ≡ seat_of b f n host) × (result.index < 512) }
 {
-    let k = slot_of(b);
-    let process = host.processes[k];
-    let row = host.row_for(process);
-    let index = index_of(process.at);
+    let process = host.processes[slot_of(b)];
     Seat {
         pick: b,
         format: f,
         addresses: n,
         process,
-        row,
-        index,
+        row: host.row_for(process),
+        index: index_of(process.at),
     }
 }
 
 // What a pick asks for from its seat, c being the instruction at the seat's index.
+#[tactic(auto, unfolding(crate::specs::Turn::turn_of, crate::specs::Turn::asking))]
 pub fn turn_of(seat: Seat, c: Instruction) -> Turn
     ensures { (result ≡ turn_of seat c) × (result.target.0 < 16) × (result.source.0 < 16) }
 {
     let host = host_of(seat.pick);
-    let process = seat.process;
-    let instruction = met_by(seat.pick, seat.addresses, process, c);
-    let asked = ask(host, process, instruction);
+    let instruction = met_by(seat.pick, seat.addresses, seat.process, c);
+    let asked = ask(host, seat.process, instruction);
     let request = asked.request;
-    let template = asked.template;
-    let target = target_of(host, seat.addresses, request);
-    let source = source_of(host, request);
-    let sends = sends_code(request);
-    let group = group_of(request);
     Turn {
         seat,
         request,
-        template,
-        target,
-        source,
-        sends,
-        group,
+        template: asked.template,
+        target: target_of(host, seat.addresses, request),
+        source: source_of(host, request),
+        sends: sends_code(request),
+        group: group_of(request),
     }
 }
 
 // Whether the code that a request of the process p at address a sends keeps within the row that the node y has for it.
-fn sent_within(code: [Instruction; 512], a: Locality, p: Process, y: Node, r: Request) -> bool
-    ensures { result ≡ sent_within code a p y r }
+#[tactic(auto, unfolding(crate::specs::Turn::sent_within))]
+fn sent_within(code: &[Instruction; 512], a: Locality, p: Process, y: Node, r: Request) -> bool
+    ensures { result ≡ sent_within code.now a p y r }
 {
     match r {
-        Request::Lack => true,
-        Request::Stop => true,
-        Request::Out(_, _) => true,
-        Request::In(_, _) => true,
-        Request::Read(_, _) => true,
         Request::Eval(l, sent, _) => {
             let row = y.row_for(p.sent_from(a, sent));
             keeps(code, sent, l, row)
         }
-        Request::New(_, _) => true,
-        Request::Fork(_, _) => true,
-        Request::OutAll(_, _) => true,
+        _ => true,
     }
 }
 
@@ -280,51 +242,40 @@ fn seat_plan(seat: Seat, template: Evaluated, request: Request, y: Node, within:
 }
 
 // The plan of a turn.
+#[tactic(auto, unfolding(crate::specs::Turn::turn_plan))]
 pub fn plan_of(turn: Turn, y: Node, within: bool) -> Plan
     ensures { result ≡ turn_plan turn y within }
 {
-    let request = turn.request;
-    seat_plan(turn.seat, turn.template, request, y, within)
+    seat_plan(turn.seat, turn.template, turn.request, y, within)
 }
 
 // The plan of a turn, with the code that it may send.
-pub fn plan_with(code: [Instruction; 512], turn: Turn, y: Node) -> Plan
-    ensures { result ≡ plan_with code turn y }
+#[tactic(auto, unfolding(crate::specs::Turn::plan_with))]
+pub fn plan_with(code: &[Instruction; 512], turn: Turn, y: Node) -> Plan
+    ensures { result ≡ plan_with code.now turn y }
 {
     let seat = turn.seat;
     let request = turn.request;
-    let host = host_of(seat.pick);
-    let within = sent_within(code, host, seat.process, y, request);
+    let within = sent_within(code, host_of(seat.pick), seat.process, y, request);
     plan_of(turn, y, within)
 }
 
 // Whether an answer changes the net.
+#[tactic(auto, unfolding(crate::specs::PutBack::changes))]
 pub fn changes_net(answer: Answer) -> bool
     ensures { result ≡ changes answer }
 {
-    match answer {
-        Answer::Performed => true,
-        Answer::Ended => true,
-        Answer::NoTuple => false,
-        Answer::NoRoom => false,
-        Answer::NoRight => false,
-        Answer::NotWithin => false,
-        Answer::NotSet => false,
-        Answer::FreeSlot => false,
-        Answer::NotInUse => false,
-        Answer::Malformed => false,
-        Answer::Unsound => false,
-    }
+    matches!(answer, Answer::Performed | Answer::Ended)
 }
 
 // The host x after a plan for the target l: its process in the slot of the pick, and where the step opens l the rights on
 // it that the format f gives.
+#[tactic(auto, unfolding(crate::specs::PutBack::host_after, net::specs::Choice::choose))]
 pub fn host_after(b: u8, f: usize, l: Locality, plan: Plan, x: Node) -> Node
     ensures { result ≡ host_after f plan (slot_of b) l x }
 {
-    let k = slot_of(b);
     let process = plan.process;
-    let moved = x.with_process(k, process);
+    let moved = x.with_process(slot_of(b), process);
     if plan.opens {
         let rows = creator_rows(f, x, process, l);
         moved.with_rows(rows)
@@ -334,12 +285,9 @@ pub fn host_after(b: u8, f: usize, l: Locality, plan: Plan, x: Node) -> Node
 }
 
 // The address count after a step.
+#[tactic(auto, unfolding(crate::specs::PutBack::count_after, net::specs::Choice::choose))]
 pub fn count_after(opens: bool, n: usize) -> usize
     ensures { result ≡ count_after opens n }
 {
-    if opens {
-        if n < 16 { n + 1 } else { n }
-    } else {
-        n
-    }
+    if opens && n < 16 { n + 1 } else { n }
 }

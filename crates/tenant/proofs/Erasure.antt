@@ -4,6 +4,7 @@
 use Prim.Native.Nat.{ℕ}
 use mathlib.Core.Path.{◌≡◌, refl, ap, ◌∙◌}
 use mathlib.Core.Bool.{Bool, true, false}
+use Rattle.std.specs.Prelude.{Option, Some, None}
 use Rattle.net.specs.Choice.{choose}
 use Rattle.net.specs.Records.{node_at, rights_at, row_for, no_rights}
 use Rattle.net.specs.declared.locality.Group.{Group}
@@ -16,7 +17,7 @@ use Rattle.step.specs.Pick.{host_of, unchanged, performed, with_host, stopped, a
 use Rattle.step.specs.Pick.{read_found, read, started_in, eval, fork, unused, created_at, created, create, carried_out, acting}
 use Rattle.step.specs.Pick.{process_step, slot_step, step_of}
 use Rattle.step.proofs.EachMember.{room_same, all_kept, all_through}
-use Rattle.tenant.specs.Types.{Locality, Place, Tuple, Process, Slot, Net, Evaluated, Found, Request, Answer}
+use Rattle.tenant.specs.Types.{Locality, Place, Tuple, Process, Net, Evaluated, Request, Answer}
 use Rattle.tenant.specs.Types.{Rights, Node, Picked}
 use Rattle.tenant.proofs.View.{view, view_format, view_addresses, view_code, view_node, view_out, view_in, view_opened}
 use Rattle.tenant.proofs.View.{seen, seen_choose, seen_unchanged, seen_performed}
@@ -80,25 +81,25 @@ module _ (tenant : Locality → Bool) where
     none_reads = refl
 
     in_out :
-        (l : Locality) (q : Place) (i : Found) (p : Process) → tenant l ≡ false
+        (l : Locality) (q : Place) (i : Option ℕ) (p : Process) → tenant l ≡ false
         → seen tenant (in_found s a k l q i p) ≡ in_found (view tenant s) a k l q i p
     unfolding in_found
-    in_out l q (Found.At i) p h = simp outward
-    in_out l q Found.Nothing p h = simp outward
+    in_out l q (Some i) p h = simp outward
+    in_out l q None p h = simp outward
 
     read_out :
-        (q : Place) (i : Found) (p : Process)
+        (q : Place) (i : Option ℕ) (p : Process)
         → seen tenant (read_found s a k q i p) ≡ read_found (view tenant s) a k q i p
     unfolding read_found
-    read_out q (Found.At i) p = simp outward
-    read_out q Found.Nothing p = simp outward
+    read_out q (Some i) p = simp outward
+    read_out q None p = simp outward
 
     started_out :
-        (l : Locality) (p copy : Process) (q : Place) (j : Slot) → tenant l ≡ false
+        (l : Locality) (p copy : Process) (q : Place) (j : Option ℕ) → tenant l ≡ false
         → seen tenant (started_in s a k l p copy q j) ≡ started_in (view tenant s) a k l p copy q j
     unfolding started_in
-    started_out l p copy q (Slot.Number j) h = simp outward
-    started_out l p copy q Slot.Full h = simp outward
+    started_out l p copy q (Some j) h = simp outward
+    started_out l p copy q None h = simp outward
 
     stopped_out : seen tenant (stopped s a k) ≡ stopped (view tenant s) a k
     unfolding stopped seen
@@ -184,21 +185,21 @@ module _ (tenant : Locality → Bool) where
         (l : Locality) (x : Bool) → x ≡ true → (tenant l ≡ false → x ≡ false) → tenant l ≡ true
     target_in_law l x h g = tested (tenant l) (λ t. t) (λ t. never x h (g t))
 
-    in_in : (l : Locality) (q : Place) (i : Found) (p : Process) → tenant l ≡ true → Unseen s (in_found s a k l q i p)
+    in_in : (l : Locality) (q : Place) (i : Option ℕ) (p : Process) → tenant l ≡ true → Unseen s (in_found s a k l q i p)
     unfolding in_found
-    in_in l q (Found.At i) p h = unseen_performed s _ (simp inward)
-    in_in l q Found.Nothing p h = unseen_unchanged s _
+    in_in l q (Some i) p h = unseen_performed s _ (simp inward)
+    in_in l q None p h = unseen_unchanged s _
 
-    read_in : (q : Place) (i : Found) (p : Process) → Unseen s (read_found s a k q i p)
+    read_in : (q : Place) (i : Option ℕ) (p : Process) → Unseen s (read_found s a k q i p)
     unfolding read_found
-    read_in q (Found.At i) p = unseen_performed s _ (simp inward)
-    read_in q Found.Nothing p = unseen_unchanged s _
+    read_in q (Some i) p = unseen_performed s _ (simp inward)
+    read_in q None p = unseen_unchanged s _
 
     started_in_law :
-        (l : Locality) (p copy : Process) (q : Place) (j : Slot) → tenant l ≡ true → Unseen s (started_in s a k l p copy q j)
+        (l : Locality) (p copy : Process) (q : Place) (j : Option ℕ) → tenant l ≡ true → Unseen s (started_in s a k l p copy q j)
     unfolding started_in
-    started_in_law l p copy q (Slot.Number j) h = unseen_performed s _ (simp inward)
-    started_in_law l p copy q Slot.Full h = unseen_unchanged s _
+    started_in_law l p copy q (Some j) h = unseen_performed s _ (simp inward)
+    started_in_law l p copy q None h = unseen_unchanged s _
 
     done_in :
         (p : Process) (e : Evaluated) (r : Request) → granted (row_for (node_at s a) p) r ≡ true → Unseen s (carried_out s a k p e r)

@@ -8,6 +8,7 @@ use native.Mathlib.Omega.{arith}
 use lib.ListN.{get_or, set, replicate}
 use lib.Seq.{get_or-set_other}
 use lib.Dec.{ltb}
+use Rattle.std.specs.Prelude.{Option, Some, None}
 use Rattle.net.specs.Choice.{choose}
 use Rattle.net.specs.Records.{node_at, rights_at, row_at, row_for, no_rights, zero_row, alike, address_of}
 use Rattle.net.specs.Records.{with_node, with_counts, with_process, with_tuple, without_tuple, with_rows, with_rights}
@@ -20,7 +21,7 @@ use Rattle.plans.specs.Additions.{gaining, own_row, opened_rows, creator_rows}
 use Rattle.step.specs.Pick.{read_found, read, started_in, eval, fork, opened, unused, created_at, created, create, carried_out, acting}
 use Rattle.step.specs.Pick.{process_step, slot_step, step_of}
 use Rattle.step.proofs.EachMember.{all_kept}
-use Rattle.tenant.specs.Types.{Locality, Place, Tuple, Rights, Row, Process, Node, Slot, Net, Evaluated, Found, Request}
+use Rattle.tenant.specs.Types.{Locality, Place, Tuple, Rights, Row, Process, Node, Net, Evaluated, Request}
 use Rattle.tenant.specs.Types.{Answer, Picked}
 
 -- what a test comes to
@@ -211,20 +212,20 @@ module _ (tenant : Locality → Bool) where
   performed_kept s f = record { fenced = f }
 
   module _ (s : Net) (f : Fence tenant s) (a : Locality) (k : ℕ) where
-    in_kept : (l : Locality) (q : Place) (i : Found) (p : Process) → Kept (in_found s a k l q i p)
+    in_kept : (l : Locality) (q : Place) (i : Option ℕ) (p : Process) → Kept (in_found s a k l q i p)
     unfolding in_found
-    in_kept l q (Found.At i) p = performed_kept _ (taken_kept _ l i (with_host_law s a k _ f))
-    in_kept l q Found.Nothing p = same_kept s _ f
+    in_kept l q (Some i) p = performed_kept _ (taken_kept _ l i (with_host_law s a k _ f))
+    in_kept l q None p = same_kept s _ f
 
-    read_kept : (q : Place) (i : Found) (p : Process) → Kept (read_found s a k q i p)
+    read_kept : (q : Place) (i : Option ℕ) (p : Process) → Kept (read_found s a k q i p)
     unfolding read_found
-    read_kept q (Found.At i) p = performed_kept _ (with_host_law s a k _ f)
-    read_kept q Found.Nothing p = same_kept s _ f
+    read_kept q (Some i) p = performed_kept _ (with_host_law s a k _ f)
+    read_kept q None p = same_kept s _ f
 
-    started_kept : (l : Locality) (p copy : Process) (q : Place) (j : Slot) → Kept (started_in s a k l p copy q j)
+    started_kept : (l : Locality) (p copy : Process) (q : Place) (j : Option ℕ) → Kept (started_in s a k l p copy q j)
     unfolding started_in
-    started_kept l p copy q (Slot.Number j) = performed_kept _ (with_host_law _ l j _ (with_host_law s a k _ f))
-    started_kept l p copy q Slot.Full = same_kept s _ f
+    started_kept l p copy q (Some j) = performed_kept _ (with_host_law _ l j _ (with_host_law s a k _ f))
+    started_kept l p copy q None = same_kept s _ f
 
     done_kept :
         (p : Process) (e : Evaluated) (r : Request) → granted (row_for (node_at s a) p) r ≡ true → Kept (carried_out s a k p e r)

@@ -10,4 +10,5 @@ pub use Rattle.net.specs.declared.instruction.Pattern.{Pattern}
 pub use Rattle.net.specs.declared.instruction.Action.{Action}
 pub use Rattle.net.specs.declared.instruction.Instruction.{Instruction}
 pub use Rattle.net.specs.declared.network.Net.{Net}
-pub use Rattle.writer.specs.declared.pack.Packed.{Packed}
+pub use Rattle.writer.specs.declared.pack.Unwritten.{Unwritten}
+pub use Rattle.writer.specs.Calls.{Packed}

@@ -37,14 +37,9 @@ fn put_template(out: &mut [u8], at: usize, c: Instruction) -> usize
     requires { c.count ≤ 4 }
     ensures { Wrote out.old at (template_text c) out.new result }
 {
-    let n = c.count;
     let mut next = at;
-    let mut i = 0;
-    while i < n {
-        let field = c.template[i];
-        let pattern = field.pattern;
-        next = put_pattern(out, next, 0 < i, pattern);
-        i += 1;
+    for i in 0..c.count {
+        next = put_pattern(out, next, 0 < i, c.template[i].pattern);
     }
     next
 }
@@ -78,12 +73,10 @@ fn put_members(out: &mut [u8], at: usize, g: Group) -> usize
 {
     let mut next = at;
     let mut some = false;
-    let mut i = 0usize;
-    while i < 16 {
+    for i in 0..16 {
         let has = g.has(Locality(i as u8));
         next = put_member(out, next, has, some, i);
-        some = some | has;
-        i += 1;
+        some |= has;
     }
     next
 }
@@ -187,13 +180,9 @@ pub(crate) fn put_definitions(out: &mut [u8], at: usize, net: Net) -> usize
     requires { Counts net }
     ensures { Wrote out.old at (lines_text (definitions_of net)) out.new result }
 {
-    let n = net.length;
     let mut next = at;
-    let mut i = 0;
-    while i < n {
-        let c = net.code[i];
-        next = put_definition(out, next, i, c);
-        i += 1;
+    for i in 0..net.length {
+        next = put_definition(out, next, i, net.code[i]);
     }
     next
 }

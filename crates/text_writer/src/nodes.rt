@@ -36,14 +36,9 @@ fn put_items(out: &mut [u8], at: usize, t: Tuple) -> usize
     requires { t.count ≤ 4 }
     ensures { Wrote out.old at (separated (map (λ f. item_text f.item) (take t.count t.fields))) out.new result }
 {
-    let n = t.count;
     let mut next = at;
-    let mut i = 0;
-    while i < n {
-        let field = t.fields[i];
-        let item = field.item;
-        next = put_item(out, next, 0 < i, item);
-        i += 1;
+    for i in 0..t.count {
+        next = put_item(out, next, 0 < i, t.fields[i].item);
     }
     next
 }
@@ -87,11 +82,8 @@ fn put_processes(out: &mut [u8], at: usize, a: Locality, x: Node) -> usize
     ensures { Wrote out.old at (lines_text (process_lines a x)) out.new result }
 {
     let mut next = at;
-    let mut i = 0;
-    while i < 4 {
-        let p = x.processes[i];
-        next = put_process(out, next, a, p);
-        i += 1;
+    for i in 0..4 {
+        next = put_process(out, next, a, x.processes[i]);
     }
     next
 }
@@ -101,13 +93,9 @@ fn put_tuples(out: &mut [u8], at: usize, a: Locality, x: Node) -> usize
     requires { NodeCounts x }
     ensures { Wrote out.old at (lines_text (tuple_lines a x)) out.new result }
 {
-    let n = x.stored;
     let mut next = at;
-    let mut i = 0;
-    while i < n {
-        let t = x.tuples[i];
-        next = put_tuple_line(out, next, a, t);
-        i += 1;
+    for i in 0..x.stored {
+        next = put_tuple_line(out, next, a, x.tuples[i]);
     }
     next
 }
@@ -117,15 +105,11 @@ pub(crate) fn put_nodes(out: &mut [u8], at: usize, net: Net) -> usize
     requires { Counts net }
     ensures { Wrote out.old at (lines_text (joined net.addresses (λ a. lines_at net (address_of a)))) out.new result }
 {
-    let n = net.addresses;
     let mut next = at;
-    let mut i = 0;
-    while i < n {
-        let x = net.nodes[i];
+    for i in 0..net.addresses {
         let a = Locality(i as u8);
-        next = put_processes(out, next, a, x);
-        next = put_tuples(out, next, a, x);
-        i += 1;
+        next = put_processes(out, next, a, net.nodes[i]);
+        next = put_tuples(out, next, a, net.nodes[i]);
     }
     next
 }

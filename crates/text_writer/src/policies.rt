@@ -53,11 +53,8 @@ fn put_grants(out: &mut [u8], at: usize, row: Row) -> usize
     ensures { Wrote out.old at (grants_text 0 row.rights) out.new result }
 {
     let mut next = at;
-    let mut i = 0;
-    while i < 16 {
-        let rights = row.rights[i];
-        next = put_grant(out, next, i, rights);
-        i += 1;
+    for i in 0..16 {
+        next = put_grant(out, next, i, row.rights[i]);
     }
     next
 }
@@ -96,14 +93,9 @@ fn put_rows(out: &mut [u8], at: usize, net: Net) -> usize
     requires { Counts net }
     ensures { Wrote out.old at (rows_text 0 (listed net.addresses (λ a. row_at (node_at net (address_of a)) (address_of 0)))) out.new result }
 {
-    let n = net.addresses;
     let mut next = at;
-    let mut i = 0;
-    while i < n {
-        let x = net.nodes[i];
-        let row = x.rows[0];
-        next = put_row(out, next, i, row);
-        i += 1;
+    for i in 0..net.addresses {
+        next = put_row(out, next, i, net.nodes[i].rows[0]);
     }
     next
 }
@@ -123,11 +115,8 @@ fn put_origins(out: &mut [u8], at: usize, i: usize, n: usize, x: Node) -> usize
     ensures { Wrote out.old at (node_text i 0 (origin_rows_of n x)) out.new result }
 {
     let mut next = at;
-    let mut j = 0;
-    while j < n {
-        let row = x.rows[j];
-        next = put_origin_row(out, next, i, j, row);
-        j += 1;
+    for j in 0..n {
+        next = put_origin_row(out, next, i, j, x.rows[j]);
     }
     next
 }
@@ -137,13 +126,9 @@ fn put_all_origins(out: &mut [u8], at: usize, net: Net) -> usize
     requires { Counts net }
     ensures { Wrote out.old at (nodes_text 0 (listed net.addresses (λ a. origin_rows_of net.addresses (node_at net (address_of a))))) out.new result }
 {
-    let n = net.addresses;
     let mut next = at;
-    let mut i = 0;
-    while i < n {
-        let x = net.nodes[i];
-        next = put_origins(out, next, i, n, x);
-        i += 1;
+    for i in 0..net.addresses {
+        next = put_origins(out, next, i, net.addresses, net.nodes[i]);
     }
     next
 }

@@ -13,7 +13,7 @@ use crate::policies::put_policy;
 use fresh::freshness::is_fresh;
 use net::network::Net;
 use text::writing::put_bytes;
-use writer::pack::Packed;
+use writer::pack::Unwritten;
 
 // No text of a net is longer (proved: `WrittenInBounds` of the crate `read_back_law`).
 pub const LONGEST_WRITTEN: usize = 105920;
@@ -29,16 +29,16 @@ fn put_text(out: &mut [u8], at: usize, net: Net) -> usize
 }
 
 // A text, copied where there is room for it.
-fn copy_text(text: &[u8], out: &mut [u8]) -> Packed
+fn copy_text(text: &[u8], out: &mut [u8]) -> Result<usize, Unwritten>
     ensures value { result ≡ placed_of (length text.now) (length out.old) }
     ensures out_after { out.new ≡ placed_in text.now out.old }
 {
     let n = text.len();
     if n <= out.len() {
         put_bytes(out, 0, text);
-        Packed::Written(n)
+        Ok(n)
     } else {
-        Packed::NoRoom
+        Err(Unwritten::NoRoom)
     }
 }
 
@@ -51,7 +51,7 @@ fn room() -> [u8; LONGEST_WRITTEN]
 
 // The text of a net that some image gives, from a buffer of our own: its length is known before a byte is written to the
 // lent one.
-fn write_fresh(net: Net, out: &mut [u8]) -> Packed
+fn write_fresh(net: Net, out: &mut [u8]) -> Result<usize, Unwritten>
     requires { fresh_of net ≡ true }
     ensures value { result ≡ placed_of (length (text_of net)) (length out.old) }
     ensures out_after { out.new ≡ placed_in (text_of net) out.old }
@@ -61,14 +61,14 @@ fn write_fresh(net: Net, out: &mut [u8]) -> Packed
     copy_text(&text[..n], out)
 }
 
-// Writes a net as a text into the buffer.
-pub fn write_text(net: Net, out: &mut [u8]) -> Packed
+// Writes a net as a text into the buffer, and gives the text's length.
+pub fn write_text(net: Net, out: &mut [u8]) -> Result<usize, Unwritten>
     ensures value { result ≡ texted_of net (length out.old) }
     ensures out_after { out.new ≡ text_in net out.old }
 {
     if is_fresh(net) {
         write_fresh(net, out)
     } else {
-        Packed::NotFresh
+        Err(Unwritten::NotFresh)
     }
 }

@@ -11,6 +11,7 @@ use lib.ListN.{length, get_or, set, length-map, length-set, length-append, get_o
 use lib.Seq.{map-set_same, get_or-set_same, get_or-set_other}
 use lib.Dec.{eqb}
 use borrow.Author.Tests.{lt-ltb, ltb-true}
+use Rattle.std.specs.Prelude.{Option, Some, None}
 use Rattle.net.specs.Choice.{choose, fold}
 use Rattle.net.specs.Records.{process_at, node_at, with_process, with_tuple, with_node, with_rows, with_counts, without_tuple, zero_node, moved_to}
 use Rattle.net.specs.Records.{address_of}
@@ -27,8 +28,8 @@ use Rattle.sound.proofs.NetFacts.{NetOk, sound_apart}
 use Rattle.sound.proofs.NetChanges.{node_at_law, instruction_at_law}
 use Rattle.plans.specs.Answer.{number_of}
 use Rattle.plans.specs.Request.{at, spoken, asked, request_of}
-use Rattle.step.specs.Types.{Locality, Place, Group, Tuple, Process, Slot, Node, Net, Target, Action, Evaluated, Found}
-use Rattle.step.specs.Types.{Answer, Aim, Request}
+use Rattle.step.specs.Types.{Locality, Place, Group, Tuple, Process, Node, Net, Target, Action, Evaluated}
+use Rattle.step.specs.Types.{Answer, Request}
 use Rattle.step.specs.declared.machine.Picked.{Picked}
 use Rattle.step.specs.Pick.{host_of, slot_of, unchanged, performed, with_host, stopped, added, out, room_at_all, added_all, out_all, taken}
 use Rattle.step.specs.Pick.{in_found, input, read_found}
@@ -278,33 +279,33 @@ module _ (s : Net) (ok : NetOk s) (a : Locality) (k : ℕ) (hosted : a.0 < s.add
       (λ _. refuses s _ Answer.NoRoom refl)
 
   in_moves :
-      (t : Target) (l : Locality) (q : Place) (e : Evaluated) → l.0 < s.addresses → (f : Found)
+      (t : Target) (l : Locality) (q : Place) (e : Evaluated) → l.0 < s.addresses → (f : Option ℕ)
       → (matched_of p (node_at s l) e).found ≡ f
       → Moves s (Action.In t q) (in_found s a k l q f (matched_of p (node_at s l) e).process)
   unfolding in_found taken without_tuple puts takes number_of
-  in_moves t l q e h (Found.At i) g =
+  in_moves t l q e h (Some i) g =
       let r = moved_to (matched_of p (node_at s l) e).process q in
       let stored = host_stored s a k r l in
       let present = matching.stored p (node_at s l) e i g in
       let whole = change l r (without_tuple (node_at (with_host s a k r) l) i) h in
       performs s _ _ (omega (arith, whole, stored, present))
-  in_moves t l q e h Found.Nothing g = refuses s _ Answer.NoTuple refl
+  in_moves t l q e h None g = refuses s _ Answer.NoTuple refl
 
   -- an action that puts and takes nothing
   module _ (x : Action) (no_put : puts x ≡ 0) (no_take : takes x ≡ 0) where
     same : (t : Net) → tuples_of t ≡ tuples_of s → Moves s x (performed t)
     same t h = performs s x t (omega (arith, h))
 
-    read_moves : (q : Place) (f : Found) (r : Process) → Moves s x (read_found s a k q f r)
+    read_moves : (q : Place) (f : Option ℕ) (r : Process) → Moves s x (read_found s a k q f r)
     unfolding read_found number_of
-    read_moves q (Found.At i) r = same _ (host_tuples s a k _)
-    read_moves q Found.Nothing r = refuses s x Answer.NoTuple refl
+    read_moves q (Some i) r = same _ (host_tuples s a k _)
+    read_moves q None r = refuses s x Answer.NoTuple refl
 
-    start_moves : (l : Locality) (copy : Process) (q : Place) (j : Slot) → Moves s x (started_in s a k l p copy q j)
+    start_moves : (l : Locality) (copy : Process) (q : Place) (j : Option ℕ) → Moves s x (started_in s a k l p copy q j)
     unfolding started_in number_of
-    start_moves l copy q (Slot.Number j) =
+    start_moves l copy q (Some j) =
         same _ (host_tuples (with_host s a k (moved_to p q)) l j copy ∙ host_tuples s a k (moved_to p q))
-    start_moves l copy q Slot.Full = refuses s x Answer.NoRoom refl
+    start_moves l copy q None = refuses s x Answer.NoRoom refl
 
   -- the new address has no tuples
   created_counts : (v : ℕ) (q : Place) → counts (created s a k p v q) ≡ set (counts s) s.addresses 0
@@ -342,12 +343,12 @@ module _ (s : Net) (ok : NetOk s) (a : Locality) (k : ℕ) (hosted : a.0 < s.add
     unfolding carried_out number_of
     lacks _ = acts Request.Lack (refuses s x Answer.NotSet refl)
 
-    at_acts : (aim : Aim) (f : Locality → Request) → ((l : Locality) → Acts (f l)) → Acts (at aim f)
+    at_acts : (aim : Option Locality) (f : Locality → Request) → ((l : Locality) → Acts (f l)) → Acts (at aim f)
     unfolding at
-    at_acts (Aim.At l) f h = h l
-    at_acts Aim.Nowhere f h = lacks
+    at_acts (Some l) f h = h l
+    at_acts None f h = lacks
 
-    spoken_acts : (aim : Aim) (f : Locality → Request) → ((l : Locality) → Acts (f l)) → Acts (spoken e aim f)
+    spoken_acts : (aim : Option Locality) (f : Locality → Request) → ((l : Locality) → Acts (f l)) → Acts (spoken e aim f)
     unfolding spoken
     spoken_acts aim f h = chosen Acts e.defined _ _ (λ _. at_acts aim f h) (λ _. lacks)
 

@@ -3,53 +3,51 @@
 // printed. One byte more than the longest image has decides everything (proved: `FirstBytesDecide`).
 #![tactic(auto)]
 
-use files::{print_first, read_file, say};
+use files::{Failure, print_first, read_file, say};
 use image::reader::{LONGEST_IMAGE, Verdict, read_image};
 use lines::lines::put_refused;
 use lines::shown::all_parts;
 use net::network::Net;
 use readers::fault::Fault;
 use text_writer::whole::{LONGEST_WRITTEN, write_text};
-use writer::pack::Packed;
+use writer::pack::Unwritten;
 
 // Prints the line of a refusal.
-fn print_refused(rt: &HostRuntime, fault: Fault) {
+fn print_refused(rt: &HostRuntime, fault: Fault) -> Result<(), Failure> {
     let mut line = [0u8; 48];
-    let parts = all_parts();
-    let n = put_refused(&mut line, 0, parts, fault);
-    print_first(rt, &line, n);
+    let n = put_refused(&mut line, 0, all_parts(), fault);
+    print_first(rt, &line, n)
 }
 
 // Prints the text of a net. That of an accepted image has one, which is no longer than the buffer.
-fn print_net(rt: &HostRuntime, net: Net) {
+fn print_net(rt: &HostRuntime, net: Net) -> Result<(), Failure> {
     let mut out = [0u8; LONGEST_WRITTEN];
-    let written = write_text(net, &mut out);
-    match written {
-        Packed::Written(n) => {
-            print_first(rt, &out, n);
-        }
-        Packed::NotFresh => say(rt, b"no image gives the net\n"),
-        Packed::NoRoom => say(rt, b"no room for the text\n"),
+    match write_text(net, &mut out) {
+        Ok(n) => return print_first(rt, &out, n),
+        Err(Unwritten::NotFresh) => say(rt, b"no image gives the net\n"),
+        Err(Unwritten::NoRoom) => say(rt, b"no room for the text\n"),
     }
+    Err(Failure::Short)
 }
 
 // Prints the net that an image gives.
-fn unpack(rt: &HostRuntime, image: &[u8]) {
+fn unpack(rt: &HostRuntime, image: &[u8]) -> Result<(), Failure> {
     let opened = read_image(image);
-    let answer = opened.answer;
-    let net = opened.net;
-    match answer {
-        Verdict::Accepted => print_net(rt, net),
+    match opened.answer {
+        Verdict::Accepted => print_net(rt, opened.net),
         Verdict::Refused(fault) => print_refused(rt, fault),
     }
 }
 
-fn main(rt: HostRuntime) {
+// Kept, here, in `repack` and in `pack`: two lines, of which a shared function would take the name, the room and the
+// work.
+// Reads the file, which is named where it cannot be read, and prints the text.
+fn run(rt: &HostRuntime) -> Result<(), Failure> {
     let mut image = [0u8; LONGEST_IMAGE + 1];
-    let net = read_file(&rt, b"net.bin", &mut image);
-    if net.failed {
-        return;
-    }
-    let n = net.count;
-    unpack(&rt, &image[..n]);
+    unpack(rt, read_file(rt, b"net.bin", &mut image)?)
+}
+
+// What fails is named where it does, and the status stays 0.
+fn main(rt: HostRuntime) {
+    let _ = run(&rt);
 }

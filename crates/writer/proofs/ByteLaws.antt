@@ -7,9 +7,10 @@ use native.Mathlib.Omega.{arith}
 use lib.Dec.{leb}
 use lib.ListN.{length, get_or, set, get_or-eq_default}
 use borrow.Author.Tests.{le-leb, lt-leb}
+use Rattle.std.specs.Prelude.{Ok, Err}
 use Rattle.net.proofs.Laws.{choose_true, choose_false}
 use Rattle.text.specs.Buffer.{over}
-use Rattle.writer.specs.Calls.{Packed, placed_of, placed_in}
+use Rattle.writer.specs.Calls.{Unwritten, placed_of, placed_in}
 use Rattle.written.specs.ImageOf.{digit, number_in}
 use Rattle.text.specs.Joined.{joined}
 use Rattle.writer.specs.Packing.{bytes_in}
@@ -99,15 +100,15 @@ module _ (xs : List ℕ) (bits : List Bool) where
 
 -- ---- what packing gives
 module _ (bits : List Bool) (n : ℕ) where
-  pub packed_whole : (room : ℕ) → n ≤ room → Packed.Written n ≡ placed_of (length (bytes_in bits n)) room
+  pub packed_whole : (room : ℕ) → n ≤ room → Ok n ≡ placed_of (length (bytes_in bits n)) room
   unfolding placed_of
   packed_whole room h =
-      rw (bytes_count bits n) (sym (choose_true (leb n room) (Packed.Written n) Packed.NoRoom (le-leb n room h)))
+      rw (bytes_count bits n) (sym (choose_true (leb n room) (Ok n) (Err Unwritten.NoRoom) (le-leb n room h)))
 
-  pub packed_cut : (room : ℕ) → room < n → Packed.NoRoom ≡ placed_of (length (bytes_in bits n)) room
+  pub packed_cut : (room : ℕ) → room < n → Err Unwritten.NoRoom ≡ placed_of (length (bytes_in bits n)) room
   unfolding placed_of
   packed_cut room h =
-      rw (bytes_count bits n) (sym (choose_false (leb n room) (Packed.Written n) Packed.NoRoom (lt-leb n room h)))
+      rw (bytes_count bits n) (sym (choose_false (leb n room) (Ok n) (Err Unwritten.NoRoom) (lt-leb n room h)))
 
   pub placed_whole :
       (xs ys : List ℕ) → n ≤ length xs → ys ≡ over xs 0 (bytes_in bits n) → ys ≡ placed_in (bytes_in bits n) xs

@@ -8,6 +8,10 @@ use native.Mathlib.Decide.{dec_le}
 use lib.Dec.{eqb}
 use lib.ListN.{length, get_or, replicate, length-replicate, get_or-replicate, get_or-append, get_or-eq_default, drop}
 use lib.Seq.{sets-eq, get_or-append-add, get_or-drop}
+use Rattle.std.specs.Prelude.{Err}
+use Rattle.std.specs.Prelude.{Option, Some, None, if◌then◌else◌}
+use borrow.Author.Tests.{le-leb}
+use Rattle.text.specs.Writer.{fitted}
 use Rattle.sound.specs.Soundness.{sound_of}
 use Rattle.net.proofs.Every.{chosen}
 use Rattle.net.proofs.Laws.{both_l, both_r, choose_true, choose_false}
@@ -16,13 +20,12 @@ use Rattle.accepted.specs.LengthClaims.{longest_in, longest_image, LongestAccept
 use Rattle.accepted.proofs.LengthClaims.{longest_accepted}
 use Rattle.writer.specs.Types.{Net}
 use Rattle.text.specs.Buffer.{over}
-use Rattle.writer.specs.Calls.{Packed, placed_of, placed_in, packed_of, image_in}
+use Rattle.writer.specs.Calls.{Packed, Unwritten, placed_of, placed_in, packed_of, image_in}
 use Rattle.fresh.specs.Fresh.{net_fits, fresh_of}
 use Rattle.written.specs.ImageOf.{digit, number_in, bytes_of, net_bits, image_of}
 use Rattle.text.specs.Joined.{joined}
 use Rattle.layout.specs.Counts.{Counts}
 use Rattle.writer.specs.Packing.{bytes_in}
-use Rattle.text.specs.Writing.{Wrote}
 use Rattle.written.proofs.AcceptedWritten.{fresh_accepted}
 use Rattle.written.proofs.FreshFits.{net_fit}
 use Rattle.layout.proofs.CountLaws.{counts_of}
@@ -96,42 +99,49 @@ module _ (room : ℕ) (bits : List Bool) (h : length bits ≤ room) where
 
   -- as a writer leaves them
   laid_bytes :
-      (ys : List Bool) (end : ℕ) → Wrote (replicate room false) 0 bits ys end → bytes_in ys ((end + 7) / 8) ≡ bytes_of bits
-  laid_bytes ys end w =
-      let l = length-replicate room false in
-      let f = w.fits (omega arith) in
-      let e : end ≡ length bits = omega arith in
+      (ys : List Bool) (end : ℕ) → ys ≡ over (replicate room false) 0 bits → end ≡ length bits
+      → bytes_in ys ((end + 7) / 8) ≡ bytes_of bits
+  laid_bytes ys end i e =
       ap (λ (n : ℕ). bytes_in ys ((n + 7) / 8)) e
-      ∙ ap (λ (xs : List Bool). bytes_in xs ((length bits + 7) / 8)) w.is
+      ∙ ap (λ (xs : List Bool). bytes_in xs ((length bits + 7) / 8)) i
       ∙ bytes_are
 
-  laid_end : (ys : List Bool) (end : ℕ) → Wrote (replicate room false) 0 bits ys end → end ≤ room
-  laid_end ys end w =
-      let l = length-replicate room false in
-      let f = w.fits (omega arith) in
-      let e : end ≡ length bits = omega arith in
-      omega arith
+-- all bits of a fresh net fit
+pub bits_fit :
+    (net : Net) (r : Option ℕ) → fresh_of net ≡ true
+    → r ≡ fitted (net_bits net) (length (replicate (8 * longest_image) false)) → r ≡ Some (length (net_bits net))
+unfolding fitted
+bits_fit net r h e =
+    let few = fresh_room net h in
+    let room = length-replicate (8 * longest_image) false in
+    let inside : length (net_bits net) ≤ length (replicate (8 * longest_image) false) = omega arith in
+    e ∙ ap (λ (b : Bool). if b then Some (length (net_bits net)) else None) (le-leb _ _ inside)
+
+pub bits_end :
+    (net : Net) (r : Option ℕ) (end : ℕ) → fresh_of net ≡ true
+    → r ≡ fitted (net_bits net) (length (replicate (8 * longest_image) false)) → r ≡ Some end → end ≡ length (net_bits net)
+bits_end net r end h e u = let k = bits_fit net r h e in cc
+
+pub bits_few : (net : Net) (end : ℕ) → fresh_of net ≡ true → end ≡ length (net_bits net) → end ≤ 8 * longest_image
+bits_few net end h e = omega (arith, fresh_room net h)
 
 -- ---- what a fresh net's writer gives
 module _
     (net : Net) (h : fresh_of net ≡ true) (ys : List Bool) (end : ℕ)
-    (w : Wrote (replicate (8 * longest_image) false) 0 (net_bits net) ys end) where
-  pub fresh_end : end ≤ 8 * longest_image
-  fresh_end = laid_end (8 * longest_image) (net_bits net) (fresh_room net h) ys end w
-
+    (i : ys ≡ over (replicate (8 * longest_image) false) 0 (net_bits net)) (e : end ≡ length (net_bits net)) where
   image_is : bytes_in ys ((end + 7) / 8) ≡ image_of net
   unfolding image_of
-  image_is = laid_bytes (8 * longest_image) (net_bits net) (fresh_room net h) ys end w
+  image_is = laid_bytes (8 * longest_image) (net_bits net) (fresh_room net h) ys end i e
 
   pub fresh_packed :
       (r : Packed) (room : ℕ) → r ≡ placed_of (length (bytes_in ys ((end + 7) / 8))) room
       → r ≡ placed_of (length (image_of net)) room
-  fresh_packed r room e = e ∙ ap (λ (xs : List ℕ). placed_of (length xs) room) image_is
+  fresh_packed r room d = d ∙ ap (λ (xs : List ℕ). placed_of (length xs) room) image_is
 
   pub fresh_placed :
       (before after : List ℕ) → after ≡ placed_in (bytes_in ys ((end + 7) / 8)) before
       → after ≡ placed_in (image_of net) before
-  fresh_placed before after e = e ∙ ap (λ (xs : List ℕ). placed_in xs before) image_is
+  fresh_placed before after d = d ∙ ap (λ (xs : List ℕ). placed_in xs before) image_is
 
 -- ---- every net
 module _ (net : Net) (answer : Bool) (e : answer ≡ fresh_of net) where
@@ -141,16 +151,16 @@ module _ (net : Net) (answer : Bool) (e : answer ≡ fresh_of net) where
   pub image_packed :
       (r : Packed) (room : ℕ) → answer ≡ true → r ≡ placed_of (length (image_of net)) room → r ≡ packed_of net room
   unfolding packed_of
-  image_packed r room p q = q ∙ sym (choose_true (fresh_of net) _ Packed.NotFresh (fresh_known p))
+  image_packed r room p q = q ∙ sym (choose_true (fresh_of net) _ (Err Unwritten.NotFresh) (fresh_known p))
 
   pub image_placed :
       (before after : List ℕ) → answer ≡ true → after ≡ placed_in (image_of net) before → after ≡ image_in net before
   unfolding image_in
   image_placed before after p q = q ∙ sym (choose_true (fresh_of net) _ before (fresh_known p))
 
-  pub image_none : (room : ℕ) → answer ≡ false → Packed.NotFresh ≡ packed_of net room
+  pub image_none : (room : ℕ) → answer ≡ false → Err Unwritten.NotFresh ≡ packed_of net room
   unfolding packed_of
-  image_none room p = sym (choose_false (fresh_of net) (placed_of (length (image_of net)) room) Packed.NotFresh (sym e ∙ p))
+  image_none room p = sym (choose_false (fresh_of net) (placed_of (length (image_of net)) room) (Err Unwritten.NotFresh) (sym e ∙ p))
 
   pub image_kept : (before : List ℕ) → answer ≡ false → before ≡ image_in net before
   unfolding image_in

@@ -8,11 +8,12 @@ use lib.Dec.{leb}
 use lib.ListN.{length, take, drop}
 use lib.Seq.{sets-eq, take-append_seam, drop-append_seam}
 use borrow.Author.Tests.{leb-true}
+use Rattle.std.specs.Prelude.{Ok, Err}
 use Rattle.net.proofs.Laws.{choose_true, choose_false}
 use Rattle.image.specs.Image.{opened_of, accepted}
 use Rattle.writer.specs.Types.{Net}
 use Rattle.text.specs.Buffer.{over}
-use Rattle.writer.specs.Calls.{Packed, placed_of, packed_of, packed_number, packed_length, placed_in, image_in}
+use Rattle.writer.specs.Calls.{Packed, Unwritten, placed_of, packed_of, packed_number, packed_length, placed_in, image_in}
 use Rattle.fresh.specs.Fresh.{fresh_of}
 use Rattle.written.specs.ImageOf.{image_of}
 use Rattle.written.specs.WrittenClaims.{Bytes, AcceptedIsWritten, WrittenIsBytes}
@@ -23,20 +24,20 @@ use Rattle.written.proofs.AcceptedWritten.{fresh_accepted, accepted_is_written, 
 data Case (net : Net) (buffer : List ℕ) : Type 0 where
   whole :
       fresh_of net ≡ true → length (image_of net) ≤ length buffer
-      → packed_of net (length buffer) ≡ Packed.Written (length (image_of net))
+      → packed_of net (length buffer) ≡ Ok (length (image_of net))
       → image_in net buffer ≡ over buffer 0 (image_of net) → Case net buffer
-  short : fresh_of net ≡ true → packed_of net (length buffer) ≡ Packed.NoRoom → image_in net buffer ≡ buffer → Case net buffer
+  short : fresh_of net ≡ true → packed_of net (length buffer) ≡ Err Unwritten.NoRoom → image_in net buffer ≡ buffer → Case net buffer
   stale :
-      fresh_of net ≡ false → packed_of net (length buffer) ≡ Packed.NotFresh → image_in net buffer ≡ buffer → Case net buffer
+      fresh_of net ≡ false → packed_of net (length buffer) ≡ Err Unwritten.NotFresh → image_in net buffer ≡ buffer → Case net buffer
 
 module _ (net : Net) (buffer : List ℕ) where
   placed : (b : Bool) → leb (length (image_of net)) (length buffer) ≡ b → fresh_of net ≡ true → Case net buffer
   unfolding packed_of placed_of image_in placed_in
   placed true e h =
-      whole h (leb-true _ _ e) (choose_true _ _ Packed.NotFresh h ∙ choose_true _ _ Packed.NoRoom e)
+      whole h (leb-true _ _ e) (choose_true _ _ (Err Unwritten.NotFresh) h ∙ choose_true _ _ (Err Unwritten.NoRoom) e)
       (choose_true _ _ buffer h ∙ choose_true _ _ buffer e)
   placed false e h =
-      short h (choose_true _ _ Packed.NotFresh h ∙ choose_false _ (Packed.Written (length (image_of net))) _ e)
+      short h (choose_true _ _ (Err Unwritten.NotFresh) h ∙ choose_false _ (Ok (length (image_of net))) _ e)
       (choose_true _ _ buffer h ∙ choose_false _ (over buffer 0 (image_of net)) _ e)
 
   tested : (b : Bool) → fresh_of net ≡ b → Case net buffer
@@ -57,7 +58,7 @@ module _ (net : Net) (buffer : List ℕ) where
       let e : 0 + length (image_of net) ≡ length (image_of net) = omega arith in
       sets-eq (image_of net) buffer 0 (omega arith) ∙ ap (λ (j : ℕ). image_of net ++ drop j buffer) e
 
-  accepts : (n : ℕ) → Case net buffer → packed_of net (length buffer) ≡ Packed.Written n
+  accepts : (n : ℕ) → Case net buffer → packed_of net (length buffer) ≡ Ok n
       → (opened_of (take n (image_in net buffer)) ≡ accepted net) × (drop n (image_in net buffer) ≡ drop n buffer)
   unfolding packed_number packed_length
   accepts n (whole h l e d) w =
@@ -94,23 +95,23 @@ module _ (size room : ℕ) where
   placed_number : (b : Bool) → leb size room ≡ b → packed_number (placed_of size room) ≡ 36 → ⊥
   unfolding placed_of packed_number
   placed_number true e f =
-      let z : ◌≡◌ {A = ℕ} 0 36 = sym (ap packed_number (choose_true _ (Packed.Written size) Packed.NoRoom e)) ∙ f in omega arith
+      let z : ◌≡◌ {A = ℕ} 0 36 = sym (ap packed_number (choose_true _ (Ok size) (Err Unwritten.NoRoom) e)) ∙ f in omega arith
   placed_number false e f =
-      let z : ◌≡◌ {A = ℕ} 35 36 = sym (ap packed_number (choose_false _ (Packed.Written size) Packed.NoRoom e)) ∙ f in omega arith
+      let z : ◌≡◌ {A = ℕ} 35 36 = sym (ap packed_number (choose_false _ (Ok size) (Err Unwritten.NoRoom) e)) ∙ f in omega arith
 
 module _ (net : Net) (room : ℕ) where
-  fresh_number : fresh_of net ≡ true → packed_of net room ≡ Packed.NotFresh → ⊥
+  fresh_number : fresh_of net ≡ true → packed_of net room ≡ Err Unwritten.NotFresh → ⊥
   unfolding packed_of packed_number
   fresh_number h e =
       placed_number (length (image_of net)) room (leb (length (image_of net)) room) refl
-      (ap packed_number (sym (choose_true _ (placed_of (length (image_of net)) room) Packed.NotFresh h) ∙ e))
+      (ap packed_number (sym (choose_true _ (placed_of (length (image_of net)) room) (Err Unwritten.NotFresh) h) ∙ e))
 
-  stale_answer : fresh_of net ≡ false → packed_of net room ≡ Packed.NotFresh
+  stale_answer : fresh_of net ≡ false → packed_of net room ≡ Err Unwritten.NotFresh
   unfolding packed_of
   stale_answer h = choose_false _ (placed_of (length (image_of net)) room) _ h
 
   only : (b : Bool) → fresh_of net ≡ b → ((s : List ℕ) → Bytes s → opened_of s ≡ accepted net → ⊥)
-      → packed_of net room ≡ Packed.NotFresh
+      → packed_of net room ≡ Err Unwritten.NotFresh
   unfolding WrittenIsBytes
   only true h f = absurd (f (image_of net) (written_is_bytes net) (fresh_accepted net h))
   only false h f = stale_answer h

@@ -1,0 +1,9 @@
+use Rattle.layout.proofs.PartLaws.{part_more}
+use Rattle.net.specs.Records.{node_at}
+use Rattle.written.specs.ImageOf.{processes_bits}
+use Rattle.layout.proofs.nodes.put_all_processes.Goals as goal
+
+pub loop-x-preserved : goal.loop-x-preserved
+unfolding node_at
+loop-x-preserved c =
+    part_more c.args.net.now.nodes c.loop-x.x-index c.args.net.now.addresses c.loop-x-test.true (processes_bits) _ _ _ _ _ c.loop-x.invariant c.put_processes.ensures

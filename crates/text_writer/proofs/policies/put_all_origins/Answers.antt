@@ -1,0 +1,18 @@
+use Rattle.std.proofs.Common.{rules}
+use Rattle.text.proofs.WritingLaws.{joined_none, joined_more}
+use Rattle.text_writer.proofs.ListLaws.{numbered_end}
+use Rattle.text_writer.proofs.PartLaws.{nodes_numbered}
+use Rattle.net.specs.Records.{node_at}
+use Rattle.text_writer.proofs.policies.put_all_origins.Goals as goal
+
+pub loop-i-init : goal.loop-i-init
+unfolding node_at
+loop-i-init c = search (rules, joined_none)
+
+pub loop-i-preserved : goal.loop-i-preserved
+unfolding node_at
+loop-i-preserved c = (search (rules, joined_more), search rules)
+
+pub returns : goal.returns
+unfolding node_at
+returns c = search (rules, numbered_end nodes_numbered)
