@@ -1,2 +1,4 @@
+pub mod LineLaws
 pub mod LineLengths
+pub mod LinesLaws
 pub mod TextLaws
