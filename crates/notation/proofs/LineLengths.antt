@@ -1,14 +1,14 @@
 -- How far the readers of lines go (`specs/Lines.antt`): no line has more than a third as many instructions as bytes. Assumes
 -- nothing.
-use Prim.Native.Nat.{ℕ, zero, suc, ◌+◌, ◌*◌, ◌≤◌, ◌<◌}
+use Prim.Native.Nat.{ℕ, ◌+◌, ◌*◌, ◌≤◌, ◌<◌}
 use mathlib.Core.Path.{◌≡◌}
-use mathlib.Core.List.{List, [], ◌∷◌, ◌++◌}
+use mathlib.Core.List.{List}
 use native.Mathlib.Omega.{arith}
 use lib.ListN.{length}
 use Rattle.readers.specs.Reader.{got}
-use Rattle.readers.proofs.Long.{Long, Any, long_got, long_pure, long_weaken, long_then, long_and, long_choice}
-use Rattle.readers.proofs.Long.{goes_pure, goes_then, goes_and, goes_choice, goes_require}
-use Rattle.lexemes.proofs.Long.{long_look, long_byte, long_word, goes_word, goes_fail, onward}
+use Rattle.readers.proofs.Long.{Long, long_got, long_pure, long_weaken, long_then, long_and, long_choice}
+use Rattle.readers.proofs.Long.{goes_require}
+use Rattle.lexemes.proofs.Long.{long_look, long_byte, long_word}
 use Rattle.fields.proofs.Long.{goes_address, goes_tuple}
 use Rattle.processes.proofs.Lengths.{long_named, long_process}
 use Rattle.notation.specs.Types.{Locality, Scope}

@@ -5,7 +5,7 @@ use Rattle.net.specs.Choice.{choose, in_range}
 use Rattle.keeping.specs.Admission.{admits}
 use Rattle.linking.specs.NameTable.{names_right_in}
 use Rattle.linking.specs.Placing.{place_at, linked_net}
-use Rattle.notation.specs.Types.{Step, Net}
+use Rattle.notation.specs.Types.{Net}
 use Rattle.notation.specs.Text.{Opened, refused, accepted}
 
 unfoldable pub judged_net : Net → Opened
@@ -18,7 +18,3 @@ judged_count table bodies starts n s =
 unfoldable pub judged_names : List ℕ → List Bool → List ℕ → List Bool → List ℕ → ℕ → Bool → Net → Opened
 judged_names table uses bodies defs starts n twice s =
     choose (names_right_in bodies defs uses twice) (judged_count table bodies starts n s) (refused 33)
-
-unfoldable pub judged_step : List ℕ → List Bool → List ℕ → List Bool → List ℕ → ℕ → Bool → Net → Step → Opened
-judged_step table uses bodies defs starts n twice s (Step.At p) = judged_names table uses bodies defs starts n twice s
-judged_step table uses bodies defs starts n twice s (Step.Failed f) = refused f.number

@@ -1,5 +1,6 @@
 -- The types of the crates below that the definitions of this crate speak of.
-pub use Rattle.readers.specs.declared.step.Step.{Step}
+pub use Rattle.readers.specs.declared.fault.Fault.{Fault}
+pub use Rattle.lexemes.specs.declared.reader.TextReader.{TextReader}
 pub use Rattle.net.specs.declared.locality.Locality.{Locality}
 pub use Rattle.net.specs.declared.locality.Place.{Place}
 pub use Rattle.net.specs.declared.tuple.Tuple.{Tuple}

@@ -1,382 +1,211 @@
 // The lines after the rows (document 01, "The planners' notation"): definitions, processes and tuples. What they say goes into
 // lent tables until all are read: the words of instructions, the three tables of names, and four words of starts for
 // each address.
-ghost use Rattle.std.specs.Prelude.{◌+◌, ◌*◌, ◌≤◌, true, false, [], ◌≡◌, set, leb, ltb};
-ghost use Rattle.net.specs.Choice.{choose, both};
-ghost use Rattle.net.specs.Records.{place_of, starting_at, process_count, marked, with_process, with_tuple};
-ghost use Rattle.readers.specs.Reader.{require};
-ghost use Rattle.readers.specs.Progress.{Went};
-ghost use Rattle.processes.specs.Progress.{room};
+#![tactic(auto, using(processes::proofs::Keeping::keeping), unfolding(crate::specs::Lines::definition_line, crate::specs::Lines::process_line, crate::specs::Lines::tuple_line, crate::specs::Lines::placed_line, crate::specs::Lines::located_line, crate::specs::Lines::line, text::specs::Bytes::bytes))]
+
+ghost use Rattle.std.specs.Prelude.{◌+◌, ◌*◌, ◌<◌, ◌≤◌, ◌≡◌, List, [], true, false, get_or, set};
+ghost use Rattle.net.specs.Choice.{choose};
+ghost use Rattle.net.specs.Records.{place_of, node_at, starting_at, marked, with_node, with_process, with_tuple};
+ghost use Rattle.linking.specs.State.{entered};
 ghost use Rattle.linking.specs.NodeCounts.{Counts};
-ghost use Rattle.notation.specs.Lines.{definition_line, process_line, tuple_line, placed_line, located_line};
-ghost use Rattle.notation.specs.LineProgress.{scope_in, state, Slotted, Roomed, Owner, Defined, Tupled, Placed, Located, AnyLined, inside, AllLined};
+ghost use Rattle.linking.specs.Source.{Line};
+ghost use Rattle.processes.specs.Progress.{Keeps};
+ghost use Rattle.processes.specs.Room.{room};
+ghost use Rattle.notation.specs.Lines.{definition_line, process_line, tuple_line, located_line, line, lines as all_lines};
+ghost use Rattle.notation.specs.LineProgress.{scope_in, Lined, AllLined};
 
 use fields::scope::Scope;
-use fields::tuples::{TupleRead, read_tuple};
+use fields::tuples::read_tuple;
 use fields::values::read_address;
-use lexemes::words::{byte_here, read_byte, read_word};
+use lexemes::reader::TextReader;
 use linking::names::flag_at;
 use net::locality::{Locality, Place};
 use net::network::Net;
-use net::node::Node;
 use net::process::Process;
 use net::tuple::Tuple;
-use processes::names::{mark, read_name};
-use processes::processes::{StartRead, read_process};
-use readers::step::{Step, require_that};
+use processes::code::Code;
+use processes::names::read_name;
+use processes::processes::read_process;
+use readers::fault::Fault;
+use terms::table::put;
 
-// A line read: the node of its address after it, the step, how many instructions there are, and whether a name is defined
-// twice.
-#[derive(Clone, Copy)]
-pub struct LineRead {
-    pub node: Node,
-    pub next: Step,
-    pub count: usize,
-    pub twice: bool,
+// What lines are read into: the code, the bodies of names, which are defined and whether one is twice, the starts of
+// processes, and the net.
+#[derive(Drop)]
+pub(crate) struct Lines<'a> {
+    pub(crate) code: Code<'a>,
+    pub(crate) bodies: &'a mut [usize],
+    pub(crate) defs: &'a mut [bool],
+    pub(crate) twice: bool,
+    pub(crate) starts: &'a mut [usize],
+    pub(crate) net: &'a mut Net,
 }
 
-// All lines read.
-#[derive(Clone, Copy)]
-pub struct LinesRead {
-    pub net: Net,
-    pub next: Step,
-    pub count: usize,
-    pub twice: bool,
-}
-
-// ---- definitions
-
-// The word of a body, at its name: a name that is defined already keeps its first one.
-fn enter(bodies: &mut [usize], before: bool, k: usize, w: usize)
-    ensures { bodies.new ≡ choose before bodies.old (set bodies.old k w) }
-{
-    if before {
-        return;
+impl<'a> Lines<'a> {
+    // Whether name k is defined.
+    fn is_defined(&self, k: usize) -> bool
+        ensures { result ≡ get_or self.now.defs.now k false }
+    {
+        flag_at(self.defs, k)
     }
-    if k < bodies.len() {
-        bodies[k] = w;
+
+    // The word of a body, at its name: a name that is defined already keeps its first one.
+    #[tactic(auto, unfolding(linking::specs::State::entered, net::specs::Choice::choose))]
+    fn enter(&mut self, k: usize, w: usize)
+        ensures bodies { self.new.bodies.now ≡ entered k w self.old.defs.now self.old.bodies.now }
+        ensures defs { self.new.defs ≡ self.old.defs }
+        ensures twice { self.new.twice ≡ choose (get_or self.old.defs.now k false) true self.old.twice }
+        ensures code { self.new.code ≡ self.old.code }
+        ensures starts { self.new.starts ≡ self.old.starts }
+        ensures net { self.new.net ≡ self.old.net }
+    {
+        if self.is_defined(k) {
+            self.twice = true;
+        } else {
+            put(self.bodies, k, w);
+        }
     }
-}
 
-// A3 = P. The node is as it was.
-fn read_definition(
-    s: &[u8],
-    from: Step,
-    scope: Scope,
-    n: usize,
-    twice: bool,
-    node: Node,
-    table: &mut [usize],
-    uses: &mut [bool],
-    bodies: &mut [usize],
-    defs: &mut [bool],
-) -> LineRead
-    requires { n ≤ room }
-    ensures node_value { result.node ≡ node }
-    ensures defined { Defined s.now from (definition_line scope) n table.old uses.old bodies.old defs.old twice result.next result.count table.new uses.new bodies.new defs.new result.twice }
-{
-    let name = read_name(s, from);
-    let named = name.next;
-    let k = name.value;
-    let equals = read_word(s, named, b" = ");
-    let got = read_process(s, equals, scope, n, table, uses);
-    let read = got.next;
-    let next = read_byte(s, read, 10);
-    let before = flag_at(defs, k);
-    enter(bodies, before, k, got.start);
-    mark(defs, k);
-    LineRead {
-        node,
-        next,
-        count: got.count,
-        twice: either(before, twice),
+    // Name k is defined.
+    fn define(&mut self, k: usize)
+        ensures defs { self.new.defs.now ≡ set self.old.defs.now k true }
+        ensures bodies { self.new.bodies ≡ self.old.bodies }
+        ensures twice { self.new.twice ≡ self.old.twice }
+        ensures code { self.new.code ≡ self.old.code }
+        ensures starts { self.new.starts ≡ self.old.starts }
+        ensures net { self.new.net ≡ self.old.net }
+    {
+        put(self.defs, k, true);
     }
-}
 
-// Whether one of two holds.
-fn either(a: bool, b: bool) -> bool
-    ensures { result ≡ choose a true b }
-{
-    if a { true } else { b }
-}
+    // The word of where the process of slot k of address a starts; until it is resolved the process stands at place 0.
+    #[tactic(auto, unfolding(net::specs::Records::with_node, net::specs::Records::node_at, net::specs::Records::place_of))]
+    fn start(&mut self, a: Locality, k: usize, w: usize)
+        requires slot { k ≤ 4 }
+        requires below { a.0 < 16 }
+        ensures starts { self.new.starts.now ≡ set self.old.starts.now (4 * a.0 + k) w }
+        ensures net { self.new.net.now ≡ with_node self.old.net.now a (with_process (node_at self.old.net.now a) k (starting_at a (place_of 0))) }
+        ensures code { self.new.code ≡ self.old.code }
+        ensures bodies { self.new.bodies ≡ self.old.bodies }
+        ensures defs { self.new.defs ≡ self.old.defs }
+        ensures twice { self.new.twice ≡ self.old.twice }
+    {
+        let owner = a.0 as usize;
+        put(self.starts, 4 * owner + k, w);
+        let node = self.net.nodes[owner];
+        self.net.nodes[owner] = node.with_process(k, Process::starting(a, Place(0)));
+    }
 
-// ---- processes and tuples, after their address a
-
-// The word of where a process of slot k starts.
-fn put_start(starts: &mut [usize], a: Locality, k: usize, w: usize)
-    requires { k ≤ 4 }
-    ensures { starts.new ≡ set starts.old (4 * a.0 + k) w }
-{
-    let owner = a.0 as usize;
-    let at = 4 * owner + k;
-    if at < starts.len() {
-        starts[at] = w;
+    // A tuple at address a, as the newest there; it bears that mark.
+    #[tactic(auto, unfolding(net::specs::Records::with_node, net::specs::Records::node_at, net::specs::Records::put_in))]
+    fn add(&mut self, a: Locality, t: Tuple)
+        requires { a.0 < 16 }
+        ensures net { self.new.net.now ≡ with_node self.old.net.now a (with_tuple (node_at self.old.net.now a) (marked a t)) }
+        ensures starts { self.new.starts ≡ self.old.starts }
+        ensures code { self.new.code ≡ self.old.code }
+        ensures bodies { self.new.bodies ≡ self.old.bodies }
+        ensures defs { self.new.defs ≡ self.old.defs }
+        ensures twice { self.new.twice ≡ self.old.twice }
+    {
+        let owner = a.0 as usize;
+        let node = self.net.nodes[owner];
+        self.net.nodes[owner] = node.put(t.marked(a)).node;
     }
 }
 
-// The step as it was where `used` of `size` places leave one, or else 22.
-fn ask_room(s: &[u8], from: Step, used: usize, size: usize) -> Step
-    ensures { Went s.now from (require (ltb used size) 22) result tt }
+// A3 = P.
+fn read_definition(r: &mut TextReader, scope: Scope, lines: &mut Lines) -> Result<(), Fault>
+    requires { lines.old.code.count ≤ room }
+    ensures { Keeps r.old (definition_line scope) (Lined lines.old lines.new) result r.new }
 {
-    require_that(from, used < size, 22)
+    let k = read_name(r)?;
+    r.word(b" = ")?;
+    let start = read_process(r, scope, &mut lines.code)?;
+    r.byte(b'\n')?;
+    lines.enter(k, start);
+    lines.define(k);
+    Ok(())
 }
 
-// A process, where k of them leave a slot for it, and the line's end.
-fn read_process_after(
-    s: &[u8],
-    from: Step,
-    scope: Scope,
-    n: usize,
-    k: usize,
-    table: &mut [usize],
-    uses: &mut [bool],
-) -> StartRead
-    requires { n ≤ room }
-    ensures { Slotted s.now from scope n k table.old uses.old result.start result.next result.count table.new uses.new }
-{
-    let free = ask_room(s, from, k, 4);
-    let got = read_process(s, free, scope, n, table, uses);
-    let read = got.next;
-    let next = read_byte(s, read, 10);
-    StartRead {
-        start: got.start,
-        next,
-        count: got.count,
-    }
-}
-
-// The node of address a with a process in slot k, which stands at place 0 until its start is resolved.
-fn started_in(node: Node, a: Locality, k: usize) -> Node
-    ensures { result ≡ with_process node k (starting_at a (place_of 0)) }
-{
-    let process = Process::starting(a, Place(0));
-    node.with_process(k, process)
-}
-
-// A process, which starts in the slot after k others.
+// A process after its address a, which starts in the slot after the others there.
 fn read_process_line(
-    s: &[u8],
-    from: Step,
+    r: &mut TextReader,
     scope: Scope,
-    n: usize,
-    twice: bool,
+    lines: &mut Lines,
     a: Locality,
-    node: Node,
-    k: usize,
-    table: &mut [usize],
-    uses: &mut [bool],
-    starts: &mut [usize],
-) -> LineRead
-    requires { (k ≡ process_count node) × ((k ≤ 4) × (n ≤ room)) }
-    ensures { Placed s.now from (process_line scope) n table.old uses.old twice starts.old a node result.next result.count table.new uses.new result.twice starts.new result.node }
+) -> Result<(), Fault>
+    requires small { lines.old.code.count ≤ room }
+    requires below { a.0 < 16 }
+    ensures { (ls : List Line) → Counts ls lines.old.net.now → Keeps r.old (process_line scope ls a) (Lined lines.old lines.new) result r.new }
 {
-    let got = read_process_after(s, from, scope, n, k, table, uses);
-    let next = got.next;
-    put_start(starts, a, k, got.start);
-    let people = started_in(node, a, k);
-    LineRead {
-        node: people,
-        next,
-        count: got.count,
-        twice,
-    }
+    let k = lines.net.nodes[a.0 as usize].process_count();
+    r.require(k < 4, 22)?;
+    let start = read_process(r, scope, &mut lines.code)?;
+    r.byte(b'\n')?;
+    lines.start(a, k, start);
+    Ok(())
 }
 
-// A tuple, where m of them leave room for it, and the line's end.
-fn read_tuple_after(s: &[u8], from: Step, scope: Scope, m: usize) -> TupleRead
-    ensures { Roomed s.now from scope m result.next result.tuple }
-{
-    let free = ask_room(s, from, m, 16);
-    let got = read_tuple(s, free, scope.addresses);
-    let tuple = got.tuple;
-    let read = got.next;
-    let next = read_byte(s, read, 10);
-    TupleRead { tuple, next }
-}
-
-// The node of address a with a tuple as its newest, which bears that mark.
-fn stored_in(node: Node, a: Locality, t: Tuple) -> Node
-    ensures { result ≡ with_tuple node (marked a t) }
-{
-    let tuple = t.marked(a);
-    let changed = node.put(tuple);
-    changed.node
-}
-
-// A tuple, which is the newest.
+// A tuple after its address a, which is the newest there.
 fn read_tuple_line(
-    s: &[u8],
-    from: Step,
+    r: &mut TextReader,
     scope: Scope,
-    n: usize,
-    twice: bool,
+    lines: &mut Lines,
     a: Locality,
-    node: Node,
-) -> LineRead
-    requires { n ≤ room }
-    ensures { Tupled s.now from (tuple_line scope) n twice a node result.next result.count result.twice result.node }
+) -> Result<(), Fault>
+    requires small { lines.old.code.count ≤ room }
+    requires below { a.0 < 16 }
+    ensures { (ls : List Line) → Counts ls lines.old.net.now → Keeps r.old (tuple_line scope ls a) (Lined lines.old lines.new) result r.new }
 {
-    let got = read_tuple_after(s, from, scope, node.stored);
-    let t = got.tuple;
-    let next = got.next;
-    let people = stored_in(node, a, t);
-    LineRead {
-        node: people,
-        next,
-        count: n,
-        twice,
-    }
+    r.require(lines.net.nodes[a.0 as usize].stored < 16, 22)?;
+    let tuple = read_tuple(r, scope.addresses)?;
+    r.byte(b'\n')?;
+    lines.add(a, tuple);
+    Ok(())
 }
 
-// A tuple or a process.
-fn read_placed(
-    s: &[u8],
-    from: Step,
-    scope: Scope,
-    n: usize,
-    twice: bool,
-    a: Locality,
-    node: Node,
-    table: &mut [usize],
-    uses: &mut [bool],
-    starts: &mut [usize],
-) -> LineRead
-    requires { n ≤ room }
-    ensures { Placed s.now from (placed_line scope) n table.old uses.old twice starts.old a node result.next result.count table.new uses.new result.twice starts.new result.node }
+// An address, and the tuple or the process that stands there.
+fn read_located(r: &mut TextReader, scope: Scope, lines: &mut Lines) -> Result<(), Fault>
+    requires { lines.old.code.count ≤ room }
+    ensures { (ls : List Line) → Counts ls lines.old.net.now → Keeps r.old (located_line scope ls) (Lined lines.old lines.new) result r.new }
 {
-    if byte_here(s, from) == 60 {
-        read_tuple_line(s, from, scope, n, twice, a, node)
+    let a = read_address(r, scope.addresses)?;
+    r.word(b" :: ")?;
+    if r.peek() == b'<' {
+        read_tuple_line(r, scope, lines, a)
     } else {
-        let k = node.process_count();
-        read_process_line(s, from, scope, n, twice, a, node, k, table, uses, starts)
+        read_process_line(r, scope, lines, a)
     }
 }
 
-// ---- all lines
-
-// The address of a line, and what stands there.
-fn read_located(
-    s: &[u8],
-    from: Step,
-    scope: Scope,
-    n: usize,
-    twice: bool,
-    node: Node,
-    table: &mut [usize],
-    uses: &mut [bool],
-    starts: &mut [usize],
-) -> LineRead
-    requires { n ≤ room }
-    ensures { Located s.now from scope (located_line scope) n table.old uses.old twice starts.old node result.next result.count table.new uses.new result.twice starts.new result.node }
+// A line.
+fn read_line(r: &mut TextReader, scope: Scope, lines: &mut Lines) -> Result<(), Fault>
+    requires { lines.old.code.count ≤ room }
+    ensures { (ls : List Line) → Counts ls lines.old.net.now → Keeps r.old (line scope ls) (Lined lines.old lines.new) result r.new }
 {
-    let owner = read_address(s, from, scope.addresses);
-    let a = owner.locality;
-    let named = owner.next;
-    let opened = read_word(s, named, b" :: ");
-    read_placed(s, opened, scope, n, twice, a, node, table, uses, starts)
-}
-
-// A line, given the node of its address.
-fn read_line(
-    s: &[u8],
-    from: Step,
-    scope: Scope,
-    n: usize,
-    twice: bool,
-    node: Node,
-    table: &mut [usize],
-    uses: &mut [bool],
-    bodies: &mut [usize],
-    defs: &mut [bool],
-    starts: &mut [usize],
-) -> LineRead
-    requires { n ≤ room }
-    ensures { AnyLined s.now from scope (state n table.old uses.old bodies.old defs.old twice starts.old) node result.next (state result.count table.new uses.new bodies.new defs.new result.twice starts.new) result.node }
-{
-    if byte_here(s, from) == 65 {
-        read_definition(s, from, scope, n, twice, node, table, uses, bodies, defs)
+    if r.peek() == b'A' {
+        read_definition(r, scope, lines)
     } else {
-        read_located(s, from, scope, n, twice, node, table, uses, starts)
+        read_located(r, scope, lines)
     }
 }
 
-// The index of the address that stands here, where one with a row does: nothing is read yet.
-fn owner_at(s: &[u8], from: Step, scope: Scope) -> usize
-    requires { scope.addresses ≤ 16 }
-    ensures { Owner s.now from scope result }
-{
-    let owner = read_address(s, from, scope.addresses);
-    let a = owner.locality;
-    let index = a.0 % 16;
-    index as usize
-}
-
-// Whether a step is inside the text.
-fn is_inside(s: &[u8], from: Step) -> bool
-    ensures { result ≡ inside s.now from }
-{
-    match from {
-        Step::At(p) => p < s.len(),
-        Step::Failed(_) => false,
-    }
-}
-
-// Whether a line follows, where at most so many may.
-fn goes_on(s: &[u8], from: Step, left: usize) -> bool
-    ensures { result ≡ both (leb 1 left) (inside s.now from) }
-{
-    if 1 <= left { is_inside(s, from) } else { false }
-}
-
-// All lines up to the end of the text. A line changes the node of one address, and no other part of the net.
-pub(crate) fn read_lines(
-    s: &[u8],
-    from: Step,
-    start: Net,
-    table: &mut [usize],
-    uses: &mut [bool],
-    bodies: &mut [usize],
-    defs: &mut [bool],
-    starts: &mut [usize],
-) -> LinesRead
-    requires { (start.addresses ≤ 16) × Counts [] start }
-    ensures { AllLined s.now from (scope_in start) (state 0 table.old uses.old bodies.old defs.old false starts.old start) result.next (state result.count table.new uses.new bodies.new defs.new result.twice starts.new result.net) }
+// All lines up to the end of the text, which has no more lines than bytes.
+pub(crate) fn read_lines(r: &mut TextReader, lines: &mut Lines) -> Result<(), Fault>
+    requires few { lines.old.net.now.addresses ≤ 16 }
+    requires counts { Counts [] lines.old.net.now }
+    requires none { lines.old.code.count ≡ 0 }
+    ensures { Keeps r.old (all_lines (scope_in lines.old.net.now)) (AllLined lines.old lines.new) result r.new }
 {
     let scope = Scope {
-        addresses: start.addresses,
-        format: start.format,
+        addresses: lines.net.addresses,
+        format: lines.net.format,
     };
-    let mut net = start;
-    let mut next = from;
-    let mut count: usize = 0;
-    let mut twice = false;
-    let mut left = s.len();
-    while goes_on(s, next, left) {
-        left -= 1;
-        let at = owner_at(s, next, scope);
-        let read = read_line(
-            s,
-            next,
-            scope,
-            count,
-            twice,
-            net.nodes[at],
-            table,
-            uses,
-            bodies,
-            defs,
-            starts,
-        );
-        let node = read.node;
-        net.nodes[at] = node;
-        next = read.next;
-        count = read.count;
-        twice = read.twice;
+    for i in 0..r.text.len() {
+        if r.at >= r.text.len() {
+            return Ok(());
+        }
+        read_line(r, scope, lines)?;
     }
-    LinesRead {
-        net,
-        next,
-        count,
-        twice,
-    }
+    Ok(())
 }

@@ -2,15 +2,16 @@
 // (33), the number of its instructions (22), and its starting processes (30).
 ghost use Rattle.std.specs.Prelude.{false, ◌≡◌, replicate};
 ghost use Rattle.linking.specs.State.{own_names};
-ghost use Rattle.notation.specs.Judging.{judged_net, judged_count, judged_names, judged_step};
+ghost use Rattle.notation.specs.Judging.{judged_net, judged_count, judged_names};
 ghost use Rattle.notation.specs.Text.{refused, read_of};
 
-use crate::lines::{LinesRead, read_lines};
+use crate::lines::{Lines, read_lines};
 use keeping::admission::admitted;
+use lexemes::reader::TextReader;
 use linking::names::names_right;
 use linking::places::link;
 use net::network::Net;
-use readers::step::Step;
+use processes::code::Code;
 use rows::policies::read_policy;
 
 // What reading a text answers: a refusal has its number.
@@ -28,80 +29,61 @@ pub struct Opened {
 }
 
 // A refusal leaves the empty net.
+#[tactic(auto, unfolding(crate::specs::Text::refused))]
 fn refuse(n: u8) -> Opened
     ensures { result ≡ refused n }
 {
-    let answer = Verdict::Refused(n);
-    let net = Net::empty();
-    Opened { answer, net }
+    Opened {
+        answer: Verdict::Refused(n),
+        net: Net::empty(),
+    }
 }
 
 // A net whose starting processes keep within their rows.
+#[tactic(auto, unfolding(crate::specs::Judging::judged_net, crate::specs::Text::accepted, net::specs::Choice::choose))]
 fn judge_net(net: Net) -> Opened
     ensures { result ≡ judged_net net }
 {
     if admitted(net) {
-        let answer = Verdict::Accepted;
-        Opened { answer, net }
+        Opened {
+            answer: Verdict::Accepted,
+            net,
+        }
     } else {
         refuse(30)
     }
 }
 
 // 1 to 512 instructions.
-fn judge_count(
-    net: Net,
-    count: usize,
-    table: &[usize],
-    bodies: &[usize],
-    starts: &[usize],
-) -> Opened
-    ensures { result ≡ judged_count table.now bodies.now starts.now count net }
+fn judge_count(lines: &Lines) -> Opened
+    ensures { result ≡ judged_count lines.now.code.table.now lines.now.bodies.now lines.now.starts.now lines.now.code.count lines.now.net.now }
 {
+    let count = lines.code.count;
     if count == 0 {
         refuse(22)
     } else if count <= 512 {
-        let whole = link(net, count, table, bodies, starts);
-        judge_net(whole)
+        let net = link(
+            *lines.net,
+            count,
+            lines.code.table,
+            lines.bodies,
+            lines.starts,
+        );
+        judge_net(net)
     } else {
         refuse(22)
     }
 }
 
 // Names that are right.
-fn judge_names(
-    lines: LinesRead,
-    table: &[usize],
-    uses: &[bool],
-    bodies: &[usize],
-    defs: &[bool],
-    starts: &[usize],
-) -> Opened
-    ensures { result ≡ judged_names table.now uses.now bodies.now defs.now starts.now lines.count lines.twice lines.net }
+#[tactic(auto, unfolding(crate::specs::Judging::judged_names, net::specs::Choice::choose))]
+fn judge(lines: &Lines) -> Opened
+    ensures { result ≡ judged_names lines.now.code.table.now lines.now.code.used.now lines.now.bodies.now lines.now.defs.now lines.now.starts.now lines.now.code.count lines.now.twice lines.now.net.now }
 {
-    let net = lines.net;
-    if names_right(bodies, defs, uses, lines.twice) {
-        judge_count(net, lines.count, table, bodies, starts)
+    if names_right(lines.bodies, lines.defs, lines.code.used, lines.twice) {
+        judge_count(lines)
     } else {
         refuse(33)
-    }
-}
-
-// A text read to its end, or to its first fault.
-fn judge(
-    lines: LinesRead,
-    table: &[usize],
-    uses: &[bool],
-    bodies: &[usize],
-    defs: &[bool],
-    starts: &[usize],
-) -> Opened
-    ensures { result ≡ judged_step table.now uses.now bodies.now defs.now starts.now lines.count lines.twice lines.net lines.next }
-{
-    let next = lines.next;
-    match next {
-        Step::At(_) => judge_names(lines, table, uses, bodies, defs, starts),
-        Step::Failed(fault) => refuse(fault.number),
     }
 }
 
@@ -110,10 +92,8 @@ fn own_names() -> [usize; 512]
     ensures { result ≡ own_names }
 {
     let mut names = [0usize; 512];
-    let mut k: usize = 0;
-    while k < 512 {
+    for k in 0..512 {
         names[k] = k;
-        k += 1;
     }
     names
 }
@@ -127,14 +107,35 @@ fn read_into(
     defs: &mut [bool],
     starts: &mut [usize],
 ) -> Opened
-    requires { (table.old ≡ replicate 4608 0) × ((uses.old ≡ replicate 512 false) × ((bodies.old ≡ own_names) × ((defs.old ≡ replicate 512 false) × (starts.old ≡ replicate 64 0)))) }
+    requires table_zero { table.old ≡ replicate 4608 0 }
+    requires uses_none { uses.old ≡ replicate 512 false }
+    requires bodies_own { bodies.old ≡ own_names }
+    requires defs_none { defs.old ≡ replicate 512 false }
+    requires starts_zero { starts.old ≡ replicate 64 0 }
     ensures { result ≡ read_of text.now }
 {
-    let policy = read_policy(text);
-    let start = policy.next;
-    let net = policy.net;
-    let lines = read_lines(text, start, net, table, uses, bodies, defs, starts);
-    judge(lines, table, uses, bodies, defs, starts)
+    let mut r = TextReader::new(text);
+    let mut net = match read_policy(&mut r) {
+        Ok(net) => net,
+        Err(fault) => return refuse(fault.number),
+    };
+    let code = Code {
+        table,
+        used: uses,
+        count: 0,
+    };
+    let mut lines = Lines {
+        code,
+        bodies,
+        defs,
+        twice: false,
+        starts,
+        net: &mut net,
+    };
+    match read_lines(&mut r, &mut lines) {
+        Ok(()) => judge(&lines),
+        Err(fault) => refuse(fault.number),
+    }
 }
 
 // What a text gives: the net, or the number of its first fault and the empty net.

@@ -10,6 +10,7 @@ use terms::table::{Entry, put, store};
 const ROOM: usize = 9223372036854775808;
 
 // A table of instructions, the marks of names, and how many instructions have a number.
+#[derive(Drop)]
 pub struct Code<'a> {
     pub table: &'a mut [usize],
     pub used: &'a mut [bool],
