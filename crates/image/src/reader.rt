@@ -21,6 +21,7 @@ pub enum Verdict {
 }
 
 // The answer with the net: the one that the image writes down, or the empty net.
+// Kept: a refused image leaves the empty net (`opened_of`), so the net stands beside the answer, and not within it.
 #[derive(Clone, Copy)]
 pub struct Opened {
     pub answer: Verdict,
