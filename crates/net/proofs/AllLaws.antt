@@ -7,7 +7,7 @@ use native.Mathlib.Omega.{arith}
 use native.Mathlib.Numerals.{add-one}
 use lib.Dec.{leb, ltb}
 use borrow.Author.Tests.{lt-ltb, le-ltb, le-leb, lt-leb}
-use Rattle.net.specs.Choice.{both, implies, all}
+use Rattle.net.specs.Choice.{choose, both, implies, all}
 
 -- ---- both
 and_is : (a b : Bool) → (a && b) ≡ both a b
@@ -17,6 +17,15 @@ and_is false b = refl
 
 pub and_both : (a b x y : Bool) → a ≡ x → b ≡ y → (a && b) ≡ both x y
 and_both a b x y p q = and_is a b ∙ ap (λ (z : Bool). both z b) p ∙ ap (both x) q
+
+-- what the code answers once the first of two tests holds
+pub then_both : (a b r : Bool) → a ≡ true → r ≡ b → r ≡ both a b
+unfolding both
+then_both a b r p e = rw p e
+
+pub then_choose : (a b c r : Bool) → a ≡ true → r ≡ b → r ≡ choose a b c
+unfolding choose
+then_choose a b c r p e = rw p e
 
 -- ---- implies: what a branch of the code knows picks the case
 pub when_true : (x y a : Bool) → a ≡ true → x ≡ y → x ≡ implies a y
