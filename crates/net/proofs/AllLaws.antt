@@ -63,6 +63,14 @@ more i test ok good p q = and_both ok good _ _ p q
 pub all_more : (i : ℕ) (test : ℕ → Bool) (ok good : Bool) → ok ≡ all i test → good ≡ test i → (ok && good) ≡ all (i + 1) test
 all_more i test ok good p q = rw add-one (more i test ok good p q)
 
+-- where the loop ends at the first number that fails
+pub all_begins : (test : ℕ → Bool) → all 0 test ≡ true
+unfolding all
+all_begins test = refl
+
+pub all_goes_on : (i : ℕ) (test : ℕ → Bool) (r : Bool) → all i test ≡ true → r ≡ true → r ≡ test i → all (i + 1) test ≡ true
+all_goes_on i test r p q e = sym (all_more i test true r (sym p) e) ∙ q
+
 pub all_end : (i n : ℕ) (test : ℕ → Bool) (ok : Bool) → ok ≡ all i test → i ≤ n → n ≤ i → ok ≡ all n test
 all_end i n test ok p l g = let e : i ≡ n = omega arith in rw e at p
 
