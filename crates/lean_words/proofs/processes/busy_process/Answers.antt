@@ -11,4 +11,3 @@ loop-v-preserved c = search (rules, setting_more)
 
 pub returns : goal.returns
 returns c = search (rules, setting_all)
-

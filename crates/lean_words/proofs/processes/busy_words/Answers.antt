@@ -14,4 +14,3 @@ loop-v-preserved c = search (rules, filled_more)
 
 pub returns : goal.returns
 returns c = search (rules, words_busy)
-

@@ -18,4 +18,3 @@ loop-k-preserved c = search (rules, first_again, lt-leb)
 pub returns : goal.returns
 unfolding free_slot_in
 returns c = search (rules, first_none)
-

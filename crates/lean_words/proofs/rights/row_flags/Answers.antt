@@ -15,4 +15,3 @@ loop-l-preserved c = search (rules, fold_more)
 
 pub returns : goal.returns
 returns c = search (rules, flags_row)
-

@@ -14,4 +14,3 @@ loop-l-preserved c = search (rules, filled_more)
 
 pub returns : goal.returns
 returns c = search (rules, row_parts)
-

@@ -11,4 +11,3 @@ loop-j-preserved c = search (rules, closing_more)
 
 pub returns : goal.returns
 returns c = search (rules, closing_end)
-

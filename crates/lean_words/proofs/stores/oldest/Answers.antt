@@ -18,4 +18,3 @@ loop-j-preserved c = search (rules, first_again, and_both)
 pub returns : goal.returns
 unfolding oldest_in
 returns c = search (rules, first_none)
-

@@ -11,4 +11,3 @@ loop-i-preserved c = search (rules, fields_more)
 
 pub returns : goal.returns
 returns c = search (rules, tuple_parts)
-

@@ -14,4 +14,3 @@ loop-i-preserved c = search (rules, filled_more)
 
 pub returns : goal.returns
 returns c = search (rules, words_tuple)
-
