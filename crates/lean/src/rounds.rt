@@ -129,13 +129,10 @@ pub(crate) fn make_each(
     requires { length picks.now ≤ length answers.old }
     ensures { MadeEach (tables_with heads.now fields.now sets.now needs.now format) (words_with n.old procs.old stored.old tuples.old rows.old) picks.now answers.old (words_with n.new procs.new stored.new tuples.new rows.new) answers.new }
 {
-    let mut i = 0;
-    while i < picks.len() {
-        let b = picks[i];
+    for (i, b) in picks.iter().enumerate() {
         let answer = step(
-            n, procs, stored, tuples, rows, heads, fields, sets, needs, format, b,
+            n, procs, stored, tuples, rows, heads, fields, sets, needs, format, *b,
         );
         answers[i] = (answer % 256) as u8;
-        i += 1;
     }
 }

@@ -1,0 +1,16 @@
+-- Assumes nothing.
+use Rattle.std.proofs.Common.{rules}
+use Rattle.lean_words.proofs.FilledLaws.{filled_none, filled_more, filled_end}
+use Rattle.lean.specs.Loading.{node_of, loaded_counts}
+use Rattle.lean.proofs.loading.load_counts.Goals as goal
+
+pub loop-a-init : goal.loop-a-init
+loop-a-init c = search (rules, filled_none)
+
+pub loop-a-preserved : goal.loop-a-preserved
+unfolding node_of
+loop-a-preserved c = search (rules, filled_more)
+
+pub returns : goal.returns
+unfolding loaded_counts
+returns c = search (rules, filled_end)

@@ -1,0 +1,18 @@
+-- Assumes nothing.
+use Rattle.std.proofs.Common.{rules}
+use Rattle.lean_words.proofs.FilledLaws.{filled_none, filled_more, filled_end}
+use Rattle.net.specs.Records.{place_of, instruction_at}
+use Rattle.lean_code.specs.Heads.{head_words}
+use Rattle.lean.specs.Loading.{loaded_heads}
+use Rattle.lean.proofs.loading.load_heads.Goals as goal
+
+pub loop-q-init : goal.loop-q-init
+loop-q-init c = search (rules, filled_none)
+
+pub loop-q-preserved : goal.loop-q-preserved
+unfolding instruction_at
+loop-q-preserved c = search (rules, filled_more)
+
+pub returns : goal.returns
+unfolding loaded_heads
+returns c = search (rules, filled_end)
