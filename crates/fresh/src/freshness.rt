@@ -57,6 +57,7 @@ fn nodes_start(net: &Net) -> bool
     net.nodes.iter().enumerate().all(|(a, x)| starts_at(a, x))
 }
 
+// Kept: what may not change (`fresh_of` asks the lengths of the arrays, which a net that is passed by value tells, `held_fits`).
 // Whether some accepted image gives the net.
 pub fn is_fresh(net: Net) -> bool
     ensures { result ≡ fresh_of net }

@@ -6,6 +6,8 @@ ghost use Rattle.lean.specs.Standing.{MadeEach};
 
 use crate::actions::{create, eval, fork, out, out_all, read, stop, take};
 
+// Kept: a rule of the project (fixed memory): the number of an action is the first word of its packed head.
+// What the instruction at a place does, by the number of its action.
 fn act(
     n: &mut usize,
     procs: &mut [[[usize; 16]; 4]; 16],
