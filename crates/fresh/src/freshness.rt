@@ -25,21 +25,29 @@ fn node_starts(x: &Node) -> bool
     ensures { result ≡ node_starts x.now }
 {
     let n = x.process_count();
-    x.processes.iter().enumerate().all(|(i, p)| slot_starts(i < n, *p))
+    x.processes
+        .iter()
+        .enumerate()
+        .all(|(i, p)| slot_starts(i < n, *p))
 }
 
 // Whether each process of the node at address a has it as its origin.
 fn own_origins(a: usize, x: &Node) -> bool
     ensures { result ≡ own_origins (address_of a) x.now }
 {
-    x.processes.iter().all(|p| !p.busy || usize::from(p.origin.0) == a)
+    x.processes
+        .iter()
+        .all(|p| !p.busy || usize::from(p.origin.0) == a)
 }
 
 // Whether each tuple of the node at address a has its mark.
 fn own_marks(a: usize, x: &Node) -> bool
     ensures { result ≡ own_marks (address_of a) x.now }
 {
-    x.tuples.iter().enumerate().all(|(i, t)| x.stored <= i || usize::from(t.mark.0) == a)
+    x.tuples
+        .iter()
+        .enumerate()
+        .all(|(i, t)| x.stored <= i || usize::from(t.mark.0) == a)
 }
 
 // Whether the node x at address a stands as an image starts it.
@@ -62,5 +70,5 @@ fn nodes_start(net: &Net) -> bool
 pub fn is_fresh(net: Net) -> bool
     ensures { result ≡ fresh_of net }
 {
-    sound(&net) && nodes_start(&net) && admitted(&net)
+    sound(net) && nodes_start(&net) && admitted(&net)
 }

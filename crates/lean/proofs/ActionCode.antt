@@ -7,9 +7,9 @@ use mathlib.Core.List.{List, []}
 use lib.Dec.{ltb}
 use lib.ListN.{get_or, set}
 use borrow.Author.Tests.{lt-ltb, le-ltb, le-leb, lt-leb}
-use Rattle.net.specs.Choice.{both, implies, all}
-use Rattle.net.proofs.Laws.{choose_true, choose_false, all_fails}
-use Rattle.net.proofs.AllLaws.{and_both, all_goes_on, all_end}
+use Rattle.net.specs.Choice.{both, implies}
+use Rattle.net.proofs.Laws.{choose_true, choose_false}
+use Rattle.net.proofs.AllLaws.{and_both}
 use Rattle.net.proofs.FoldLaws.{fold_none, fold_more, fold_end}
 use Rattle.lean_words.specs.Stores.{oldest_in, put_words, closed_up}
 use Rattle.lean_words.specs.Rights.{grants_flags}
@@ -207,23 +207,6 @@ pub or_implies : (a b : Bool) → (not a || b) ≡ implies a b
 unfolding implies
 or_implies true b = refl
 or_implies false b = refl
-
--- members that have room, and one that lacks it
-module _ (stored : List ℕ) (set : List Bool) (l : ℕ) where
-  pub room_more :
-      all l (λ i. implies (get_or set i false) (ltb (get_or stored i 0) 16)) ≡ true
-      → (not (get_or set l false) || ltb (get_or stored l 0) 16) ≡ true
-      → all (l + 1) (λ i. implies (get_or set i false) (ltb (get_or stored i 0) 16)) ≡ true
-  room_more e p = all_goes_on l _ _ e p (or_implies (get_or set l false) (ltb (get_or stored l 0) 16))
-
-  pub room_lacks : l < 16 → (not (get_or set l false) || ltb (get_or stored l 0) 16) ≡ false → false ≡ room_in stored set
-  unfolding room_in
-  room_lacks h p = all_fails 16 _ l h (sym (or_implies (get_or set l false) (ltb (get_or stored l 0) 16)) ∙ p)
-
-  pub room_whole :
-      all l (λ i. implies (get_or set i false) (ltb (get_or stored i 0) 16)) ≡ true → l ≤ 16 → 16 ≤ l → true ≡ room_in stored set
-  unfolding room_in
-  room_whole e h g = all_end l 16 _ true (sym e) h g
 
 module _ (stored : List ℕ) (tuples : List (List (List ℕ))) where
   pub put_member :

@@ -308,13 +308,13 @@ pub(crate) fn create(
 fn room_at_all(stored: &[usize; 16], set: &[bool; 16]) -> bool
     ensures { result ≡ room_in stored.now set.now }
 {
-    for l in 0..16 {
-        let fits = !set[l] | (stored[l] < 16);
-        if !fits {
-            return false;
-        }
+    let mut ok = true;
+    let mut l = 0;
+    while l < 16 {
+        ok = ok & (!set[l] | (stored[l] < 16));
+        l += 1;
     }
-    true
+    ok
 }
 
 // The tuple put at l, where that is a member.
@@ -341,8 +341,10 @@ fn put_at_all(
 )
     ensures { given_with stored.new tuples.new ≡ put_below 16 stored.old tuples.old set.now t }
 {
-    for l in 0..16 {
+    let mut l = 0;
+    while l < 16 {
         put_at(stored, tuples, set[l], l, t);
+        l += 1;
     }
 }
 

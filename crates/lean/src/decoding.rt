@@ -14,9 +14,12 @@ use net::tuple::Tuple;
 fn processes_of(slots: [[usize; 16]; 4]) -> [Process; 4]
     ensures { result ≡ processes_in slots }
 {
-    let mut all = [Process::free(); 4];
-    for k in 0..4 {
+    let free = Process::free();
+    let mut all = [free; 4];
+    let mut k = 0;
+    while k < 4 {
         all[k] = process_of(slots[k]);
+        k += 1;
     }
     all
 }
@@ -24,9 +27,12 @@ fn processes_of(slots: [[usize; 16]; 4]) -> [Process; 4]
 fn tuples_of(store: [[usize; 6]; 16]) -> [Tuple; 16]
     ensures { result ≡ tuples_in store }
 {
-    let mut all = [Tuple::zero(); 16];
-    for i in 0..16 {
+    let zero = Tuple::zero();
+    let mut all = [zero; 16];
+    let mut i = 0;
+    while i < 16 {
         all[i] = tuple_of(store[i]);
+        i += 1;
     }
     all
 }
@@ -34,9 +40,12 @@ fn tuples_of(store: [[usize; 6]; 16]) -> [Tuple; 16]
 fn rows_of(policy: [[bool; 65]; 16]) -> [Row; 16]
     ensures { result ≡ rows_in policy }
 {
-    let mut all = [Row::zero(); 16];
-    for o in 0..16 {
+    let zero = Row::zero();
+    let mut all = [zero; 16];
+    let mut o = 0;
+    while o < 16 {
         all[o] = row_of(policy[o]);
+        o += 1;
     }
     all
 }
@@ -74,8 +83,11 @@ pub(crate) fn decode(
 {
     let mut net = start;
     net.addresses = n;
-    for a in 0..16 {
-        net.nodes[a] = node_of(procs[a], stored[a], tuples[a], rows[a]);
+    let mut a = 0;
+    while a < 16 {
+        let node = node_of(procs[a], stored[a], tuples[a], rows[a]);
+        net.nodes[a] = node;
+        a += 1;
     }
     net
 }

@@ -105,8 +105,10 @@ fn refuse_each(picks: &[u8], answers: &mut [u8])
     requires { length picks.now ≤ length answers.old }
     ensures { answers.new ≡ over answers.old 0 (replicate (length picks.now) 10) }
 {
-    for i in 0..picks.len() {
+    let mut i = 0;
+    while i < picks.len() {
         answers[i] = 10;
+        i += 1;
     }
 }
 
@@ -145,7 +147,7 @@ impl Engine {
         let room = picks.len() <= answers.len();
         let mut engine = self;
         if room {
-            if sound(&engine.net) {
+            if sound(engine.net) {
                 engine.net = ran(engine.net, picks, answers);
             } else {
                 refuse_each(picks, answers);

@@ -18,8 +18,10 @@ fn slots_of(x: Node) -> [[usize; 16]; 4]
 {
     let free = free_words();
     let mut slots = [free; 4];
-    for k in 0..4 {
+    let mut k = 0;
+    while k < 4 {
         slots[k] = process_words(x.processes[k]);
+        k += 1;
     }
     slots
 }
@@ -27,8 +29,10 @@ fn slots_of(x: Node) -> [[usize; 16]; 4]
 fn load_processes(nodes: [Node; 16], procs: &mut [[[usize; 16]; 4]; 16])
     ensures { procs.new ≡ loaded_slots nodes procs.old }
 {
-    for a in 0..16 {
+    let mut a = 0;
+    while a < 16 {
         procs[a] = slots_of(nodes[a]);
+        a += 1;
     }
 }
 
@@ -37,8 +41,10 @@ fn store_of(x: Node) -> [[usize; 6]; 16]
 {
     let none = no_tuple();
     let mut store = [none; 16];
-    for i in 0..16 {
+    let mut i = 0;
+    while i < 16 {
         store[i] = tuple_words(x.tuples[i]);
+        i += 1;
     }
     store
 }
@@ -46,16 +52,21 @@ fn store_of(x: Node) -> [[usize; 6]; 16]
 fn load_tuples(nodes: [Node; 16], tuples: &mut [[[usize; 6]; 16]; 16])
     ensures { tuples.new ≡ loaded_tuples nodes tuples.old }
 {
-    for a in 0..16 {
+    let mut a = 0;
+    while a < 16 {
         tuples[a] = store_of(nodes[a]);
+        a += 1;
     }
 }
 
 fn load_counts(nodes: [Node; 16], stored: &mut [usize; 16])
     ensures { stored.new ≡ loaded_counts nodes stored.old }
 {
-    for a in 0..16 {
-        stored[a] = nodes[a].stored;
+    let mut a = 0;
+    while a < 16 {
+        let x = nodes[a];
+        stored[a] = x.stored;
+        a += 1;
     }
 }
 
@@ -63,8 +74,10 @@ fn policy_of(x: Node) -> [[bool; 65]; 16]
     ensures { result ≡ policy_of x }
 {
     let mut policy = [[false; 65]; 16];
-    for o in 0..16 {
+    let mut o = 0;
+    while o < 16 {
         policy[o] = row_flags(x.rows[o]);
+        o += 1;
     }
     policy
 }
@@ -72,8 +85,10 @@ fn policy_of(x: Node) -> [[bool; 65]; 16]
 fn load_rows(nodes: [Node; 16], rows: &mut [[[bool; 65]; 16]; 16])
     ensures { rows.new ≡ loaded_rows nodes rows.old }
 {
-    for a in 0..16 {
+    let mut a = 0;
+    while a < 16 {
         rows[a] = policy_of(nodes[a]);
+        a += 1;
     }
 }
 
@@ -103,8 +118,10 @@ pub(crate) fn load_heads(code: [Instruction; 512], length: usize, heads: &mut [[
     requires { length ≤ 512 }
     ensures { heads.new ≡ loaded_heads code length heads.old }
 {
-    for q in 0..length {
+    let mut q = 0;
+    while q < length {
         heads[q] = head_words(code[q]);
+        q += 1;
     }
 }
 
@@ -117,8 +134,10 @@ pub(crate) fn load_fields(
     requires { length ≤ 512 }
     ensures { fields.new ≡ loaded_fields code length fields.old }
 {
-    for q in 0..length {
+    let mut q = 0;
+    while q < length {
         fields[q] = template_words(code[q]);
+        q += 1;
     }
 }
 
@@ -127,8 +146,10 @@ pub(crate) fn load_sets(code: [Instruction; 512], length: usize, sets: &mut [[bo
     requires { length ≤ 512 }
     ensures { sets.new ≡ loaded_sets code length sets.old }
 {
-    for q in 0..length {
+    let mut q = 0;
+    while q < length {
         sets[q] = set_flags(code[q]);
+        q += 1;
     }
 }
 
@@ -137,10 +158,12 @@ pub(crate) fn load_needs(code: [Instruction; 512], length: usize, needs: &mut [[
     requires { length ≤ 512 }
     ensures { needs.new ≡ loaded_needs code length needs.old }
 {
-    for q in 0..length {
+    let mut q = 0;
+    while q < length {
         let sent = sent_by(code[q]);
         if sent.0 < 512 {
             needs[q] = needs_from(code, sent);
         }
+        q += 1;
     }
 }

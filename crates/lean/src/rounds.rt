@@ -6,8 +6,6 @@ ghost use Rattle.lean.specs.Standing.{MadeEach};
 
 use crate::actions::{create, eval, fork, out, out_all, read, stop, take};
 
-// Kept: a rule of the project (fixed memory): the number of an action is the first word of its packed head.
-// What the instruction at a place does, by the number of its action.
 fn act(
     n: &mut usize,
     procs: &mut [[[usize; 16]; 4]; 16],
@@ -131,10 +129,13 @@ pub(crate) fn make_each(
     requires { length picks.now ≤ length answers.old }
     ensures { MadeEach (tables_with heads.now fields.now sets.now needs.now format) (words_with n.old procs.old stored.old tuples.old rows.old) picks.now answers.old (words_with n.new procs.new stored.new tuples.new rows.new) answers.new }
 {
-    for (i, b) in picks.iter().enumerate() {
+    let mut i = 0;
+    while i < picks.len() {
+        let b = picks[i];
         let answer = step(
-            n, procs, stored, tuples, rows, heads, fields, sets, needs, format, *b,
+            n, procs, stored, tuples, rows, heads, fields, sets, needs, format, b,
         );
         answers[i] = (answer % 256) as u8;
+        i += 1;
     }
 }

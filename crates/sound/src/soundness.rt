@@ -31,14 +31,14 @@ struct Counts {
 
 // Whether the net is sound.
 #[tactic(auto, unfolding(crate::specs::Soundness::sound_of, net::specs::Choice::both))]
-pub fn sound(net: &Net) -> bool
-    ensures { result ≡ sound_of net.now }
+pub fn sound(net: Net) -> bool
+    ensures { result ≡ sound_of net }
 {
     is_in_range(1, net.format, 2)
         && is_in_range(1, net.addresses, 16)
         && is_in_range(1, net.length, 512)
-        && nodes_sound(net)
-        && code_sound(net)
+        && nodes_sound(&net)
+        && code_sound(&net)
 }
 
 #[tactic(auto, unfolding(net::specs::Choice::in_range, net::specs::Choice::both))]

@@ -102,7 +102,7 @@ impl Machine {
         ensures { (result ≡ pick_of self.net b) × (sound_of self.net ≡ true → sound_of result.net ≡ true) }
     {
         let net = self.net;
-        if sound(&net) {
+        if sound(net) {
             self.step(b)
         } else {
             let answer = Answer::Unsound;

@@ -1,8 +1,0 @@
--- Assumes nothing.
-use Rattle.std.proofs.Common.{◌≡◌, ◌≤◌, ◌<◌, length, ltb, leb, get_or, replicate, not, [], false, true}
-use Rattle.lean_words.specs.Filled.{filled}
-use Rattle.lean.specs.Loading.{policy_of, node_of, loaded_rows}
-use Rattle.lean.proofs.loading.load_rows.Given as goal
-
-abbrev pub invariant-loop-a : goal.invariant-loop-a
-invariant-loop-a l = l.rows ≡ filled l.a (λ i. policy_of (node_of l.fn.nodes i)) l.fn.rows
