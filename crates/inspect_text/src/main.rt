@@ -9,7 +9,7 @@ ghost use Rattle.notation.specs.Text.{number_of};
 
 use dump::put_net;
 use files::{Failure, print, read_next, take_turns};
-use notation::reading::{Opened, Verdict, read_text};
+use notation::reading::{Verdict, read_text};
 
 // Kept, here and in `poll`: a number is what a test tool writes of a refusal.
 // The answer's number in document 01, "The planners' notation".
@@ -23,15 +23,9 @@ fn number_of(answer: Verdict) -> u8
     }
 }
 
-// Reads a text in a frame of its own, which is gone when its net is written.
-#[inline(never)]
-fn open(text: &[u8]) -> Opened {
-    read_text(text)
-}
-
 // Writes what is made of one text.
 fn answer(rt: &HostRuntime, text: &[u8]) -> Result<(), Failure> {
-    let opened = open(text);
+    let opened = read_text(text);
     let mut out = [0u8; 27669];
     out[0] = number_of(opened.answer);
     put_net(&mut out[1..], &opened.net);
