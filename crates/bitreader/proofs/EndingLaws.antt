@@ -1,45 +1,19 @@
 -- Laws of the end of an image (`specs/Ending.antt`). Assumes nothing.
-use Prim.Native.Nat.{ℕ, ◌+◌, ◌-◌, ◌*◌, ◌/◌, ◌%◌, ◌<◌, ◌≤◌}
-use mathlib.Core.Path.{◌≡◌, sym, ap, ◌∙◌}
-use mathlib.Core.Bool.{Bool, true, false}
+use Prim.Native.Nat.{ℕ, ◌+◌, ◌*◌, ◌/◌, ◌<◌, ◌≤◌}
+use mathlib.Core.Path.{◌≡◌, ap}
+use mathlib.Core.Bool.{true, false}
 use mathlib.Core.List.{List}
 use native.Mathlib.Omega.{arith}
 use native.Mathlib.Decide.{dec_le}
-use lib.ListN.{length, length-take, take}
+use lib.ListN.{length, take}
 use lib.Seq.{take_all, length-take-le}
-use lib.Dec.{eqb}
-use borrow.Author.Tests.{eq-eqb, eqb-true, ne_eqb}
-use Rattle.net.specs.Choice.{both}
-use Rattle.bitreader.specs.Types.{Fault, Step}
+use borrow.Author.Tests.{eqb-true, ne_eqb}
+use Rattle.bitreader.specs.Types.{Fault}
 use Rattle.readers.specs.Reader.{got, fault, fault_at, require_in, require}
-use Rattle.readers.specs.Progress.{run_from, Went}
-use Rattle.bitreader.specs.Ending.{padding, ends_at, ending}
-use Rattle.bitreader.specs.Progress.{window, seen, Number}
+use Rattle.bitreader.specs.Ending.{ends_at, ending}
 use Rattle.net.proofs.Laws.{both_l, both_false_l}
 use Rattle.readers.proofs.ReaderLaws.{choose_got, choose_fault}
 use Rattle.bitreader.proofs.Budget.{Stops, Closes}
-
-seen_most : (s : List ℕ) → length (seen s) ≤ window
-unfolding seen
-seen_most s = simp length-take (omega arith)
-
-pub ends_far : (s : List ℕ) (p : ℕ) → 8 * window < p → false ≡ ends_at (seen s) p
-unfolding ends_at
-ends_far s p h = both_false_l _ _ (ne_eqb (length (seen s)) ((p + 7) / 8) (omega (arith, seen_most s)))
-
-module _ (s : List ℕ) (p m : ℕ) (e : m ≡ length s) where
-  pub ends_not : (m ≡ (p + 7) / 8 → ⊥) → false ≡ ends_at s p
-  unfolding ends_at
-  ends_not h = both_false_l _ _ (ne_eqb _ _ (λ d. h (e ∙ d)))
-
-  pub ends_here : (v : ℕ) → m ≡ (p + 7) / 8 → Number s p ((8 - p % 8) % 8) v → eqb v 0 ≡ ends_at s p
-  unfolding ends_at padding both
-  ends_here v h n = rw (eq-eqb (length s) ((p + 7) / 8) (sym e ∙ h)) (ap (λ (x : ℕ). eqb x 0) n.is)
-
-pub ending_at : (s : List ℕ) (from q : Step) (p : ℕ) (ok : Bool) → from ≡ Step.At p → ok ≡ ends_at s p
-    → ((t : List ℕ) → Went t (Step.At p) (require ok 29) q tt) → Went s from ending q tt
-unfolding run_from ending
-ending_at s from q p ok e f w = rw e (record { went = (rw f at (w s)).went })
 
 -- ---- with a further byte it fails, whatever the bytes are
 fails_past : (s : List ℕ) (p : ℕ) → (p + 7) / 8 < length s → false ≡ ends_at s p

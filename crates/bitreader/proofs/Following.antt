@@ -8,12 +8,11 @@ use native.Mathlib.Nat.{le_trans}
 use native.Mathlib.Omega.{arith}
 use native.Mathlib.Decide.{dec_le}
 use lib.ListN.{length}
-use lib.Dec.{leb, ltb}
 use borrow.Author.Tests.{le-leb, lt-leb}
-use Rattle.net.specs.Choice.{choose, both}
+use Rattle.net.specs.Choice.{choose}
 use Rattle.readers.specs.Reader.{Parsed, got, fault, Reader, and_then, fault_at, field_end}
 use Rattle.bitreader.specs.Types.{Fault}
-use Rattle.bitreader.specs.BitReader.{bit_at, number_at, judged, field}
+use Rattle.bitreader.specs.BitReader.{number_at, judged, field}
 use Rattle.bitreader.specs.SameBits.{SameBits}
 use Rattle.net.proofs.Laws.{choose_true, choose_false}
 

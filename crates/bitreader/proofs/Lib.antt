@@ -1,5 +1,5 @@
-pub mod BitLaws
 pub mod Budget
 pub mod EndingLaws
 pub mod FieldsWithin
 pub mod Following
+pub mod ReadsLaws

@@ -4,3 +4,4 @@ pub mod Fields
 pub mod Progress
 pub mod SameBits
 pub mod Types
+pub mod Window

@@ -1,20 +1,12 @@
 -- Describes the code, and is no part of what a reader has to believe: how the readers of `src/` keep to the definitions.
 -- They look at the first bytes of an image alone (`LengthClaims.antt` of the crate `accepted` says that this changes
 -- nothing).
-pub use Rattle.bitreader.specs.declared.bits.Taken.{Taken}
-use Rattle.std.specs.Prelude.{ℕ, ◌-◌, ◌<◌, ◌≤◌, ◌^◌, ◌≡◌, List, take}
-use Rattle.bitreader.specs.Types.{Step}
+pub use Rattle.bitreader.specs.declared.reader.BitReader.{BitReader}
+use Rattle.std.specs.Prelude.{Result, ℕ, ◌<◌, ◌≤◌, ◌^◌, ◌≡◌, List}
+use Rattle.bitreader.specs.Types.{Fault}
 use Rattle.bitreader.specs.BitReader.{number_at, bit_at}
-use Rattle.readers.specs.Reader.{Parsed, Reader}
-use Rattle.readers.specs.Progress.{outcome, place_of_step, Went}
-
--- how many bytes of an image the code looks at, at most
-abbrev pub window : ℕ
-window = 32768
-
--- the bytes that the code looks at
-unfoldable pub seen : List ℕ → List ℕ
-seen image = take window image
+use Rattle.readers.specs.Reader.{Reader}
+use Rattle.readers.specs.Progress.{came, Turning}
 
 -- a bit, with its range
 pub record Bit (s : List ℕ) (p r : ℕ) : Type 0 where
@@ -26,16 +18,12 @@ pub record Number (s : List ℕ) (p w r : ℕ) : Type 0 where
   pub is : r ≡ number_at s p w
   pub small : r < 2 ^ w
 
--- the value and step of a field that begins at place p, as an outcome, with its range
-pub record Took (o : Parsed ℕ) (p w end : ℕ) (r : Taken) : Type 0 where
-  pub took : outcome r.next r.value ≡ o
-  pub began : r.at ≡ p
-  pub narrow : r.value < 2 ^ w
-  pub below : r.value ≤ end - 1
+-- from the reader r the reader m comes to what was answered and to the reader r'
+pub record Reads {A : Type 0} (r : BitReader) (m : Reader A) (o : Result A Fault) (r' : BitReader) : Type 0 where
+  pub gave : came o r'.at ≡ m r.image.now r.at
+  pub same : r'.image ≡ r.image
 
--- the same of a field read from a step
-pub record TookFrom (s : List ℕ) (p : Step) (m : Reader ℕ) (w end : ℕ) (r : Taken) : Type 0 where
-  pub read : Went s p m r.next r.value
-  pub began : r.at ≡ place_of_step p
-  pub narrow : r.value < 2 ^ w
-  pub below : r.value ≤ end - 1
+-- turns of a loop from the reader r₀ and value a₀: of n turns, i are done and have come to the reader r and value a
+pub record Turned {A : Type 0} (r₀ : BitReader) (n : ℕ) (f : ℕ → A → Reader A) (a₀ : A) (r : BitReader) (i : ℕ) (a : A) : Type 0 where
+  pub turning : Turning r₀.image.now r₀.at n f a₀ r.at i a
+  pub same : r.image ≡ r₀.image

@@ -2,4 +2,3 @@
 pub use Rattle.net.specs.declared.locality.Locality.{Locality}
 pub use Rattle.net.specs.declared.locality.Place.{Place}
 pub use Rattle.readers.specs.declared.fault.Fault.{Fault}
-pub use Rattle.readers.specs.declared.step.Step.{Step}

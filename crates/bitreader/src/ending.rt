@@ -1,38 +1,29 @@
 // The end of an image (document 01, "The image", part 6).
 ghost use Rattle.std.specs.Prelude.{◌≡◌};
 ghost use Rattle.bitreader.specs.Ending.{ends_at, ending};
-ghost use Rattle.bitreader.specs.Progress.{seen};
-ghost use Rattle.readers.specs.Progress.{Went};
+ghost use Rattle.bitreader.specs.Progress.{Reads};
 
-use crate::bits::{WINDOW_BITS, read_number, visible};
-use readers::step::{Step, require_that};
+use crate::bits::number;
+use crate::reader::BitReader;
+use readers::fault::{Fault, require_in};
 
-// Whether the image ends with the byte of the bit before place p, in zero bits.
-fn ends_at(s: &[u8], p: usize) -> bool
-    ensures { result ≡ ends_at (seen s.now) p }
-{
-    if WINDOW_BITS < p {
-        return false;
-    }
-    let bytes = (p + 7) / 8;
-    if visible(s) == bytes {
-        let rest = (8 - p % 8) % 8;
-        let padding = read_number(s, p, rest);
-        padding.value == 0
-    } else {
-        false
-    }
-}
-
-// Zero bits to the end of the byte, and no further byte.
-pub fn read_ending(s: &[u8], from: Step) -> Step
-    ensures { Went (seen s.now) from ending result tt }
-{
-    match from {
-        Step::At(p) => {
-            let ok = ends_at(s, p);
-            require_that(from, ok, 29)
+impl<'a> BitReader<'a> {
+    // Whether the image ends with the byte of the bit before the next one, in zero bits.
+    fn ends(&self) -> bool
+        ensures { result ≡ ends_at self.now.image.now self.now.at }
+    {
+        let p = self.at;
+        if 8 * self.image.len() < p {
+            return false;
         }
-        Step::Failed(_) => from,
+        self.image.len() == (p + 7) / 8 && number(self.image, p, (8 - p % 8) % 8) == 0
+    }
+
+    // Zero bits to the end of the byte, and no further byte.
+    #[tactic(auto, unfolding(crate::specs::Ending::ending))]
+    pub fn ending(&mut self) -> Result<(), Fault>
+        ensures { Reads self.old ending result self.new }
+    {
+        require_in(self.at, 0, self.ends(), 29)
     }
 }

@@ -1,98 +1,68 @@
 // Fields that stand in several places of an image (document 01, "The image").
+ghost use Rattle.std.specs.Prelude.{◌^◌, ◌<◌, ◌≤◌, IfOk};
+ghost use Rattle.bitreader.specs.BitReader.{field};
 ghost use Rattle.bitreader.specs.Fields.{address, place, variable, reading};
-ghost use Rattle.bitreader.specs.Progress.{seen};
-ghost use Rattle.readers.specs.Progress.{place_of_step, Went};
-ghost use Rattle.std.specs.Prelude.{◌≡◌};
+ghost use Rattle.bitreader.specs.Progress.{Reads};
 
-use crate::bits::take;
+use crate::bits::number;
+use crate::reader::BitReader;
 use net::locality::{Locality, Place};
-use readers::step::Step;
+use readers::fault::Fault;
 use text::signed::signed_of;
 
-// Each is a field's value with the bit at which the field begins and the step after it.
-#[derive(Clone, Copy)]
-pub struct LocalityRead {
-    pub locality: Locality,
-    pub at: usize,
-    pub next: Step,
-}
-
-#[derive(Clone, Copy)]
-pub struct PlaceRead {
-    pub place: Place,
-    pub at: usize,
-    pub next: Step,
-}
-
-#[derive(Clone, Copy)]
-pub struct VariableRead {
-    pub variable: u8,
-    pub at: usize,
-    pub next: Step,
-}
-
-#[derive(Clone, Copy)]
-pub struct ReadingRead {
-    pub reading: i32,
-    pub at: usize,
-    pub next: Step,
-}
-
-// An address of 4 bits, below the address count n.
-pub fn read_address(s: &[u8], from: Step, n: usize) -> LocalityRead
-    ensures { Went (seen s.now) from (address n) result.next result.locality × (result.at ≡ place_of_step from) }
-{
-    let got = take(s, from, 4, 0, n, 23);
-    let v = got.value as u8;
-    let locality = Locality(v);
-    let next = got.next;
-    LocalityRead {
-        locality,
-        at: got.at,
-        next,
+impl<'a> BitReader<'a> {
+    // A field: the number of the next w bits, from low up to below end, or the fault n, or 28.
+    pub fn take(&mut self, w: usize, low: usize, end: usize, n: u8) -> Result<usize, Fault>
+        requires { w ≤ 32 }
+        ensures field { Reads self.old (field w low end n) result self.new }
+        ensures range { IfOk result (λ v. (v < 2 ^ w) × (v < end)) }
+    {
+        let p = self.at;
+        let bits = self.image.len() * 8;
+        if bits < p || bits - p < w {
+            return Err(Fault::at(28, p, w));
+        }
+        let v = number(self.image, p, w);
+        if v < low || end <= v {
+            return Err(Fault::at(n, p, w));
+        }
+        self.at = p + w;
+        Ok(v)
     }
-}
 
-// A code place of 9 bits, below the code length k.
-pub fn read_place(s: &[u8], from: Step, k: usize) -> PlaceRead
-    ensures { Went (seen s.now) from (place k) result.next result.place × (result.at ≡ place_of_step from) }
-{
-    let got = take(s, from, 9, 0, k, 24);
-    let v = got.value as u16;
-    let place = Place(v);
-    let next = got.next;
-    PlaceRead {
-        place,
-        at: got.at,
-        next,
+    // An address of 4 bits, below the address count n.
+    #[tactic(auto, using(crate::proofs::ReadsLaws::reading), unfolding(crate::specs::Fields::address))]
+    pub fn address(&mut self, n: usize) -> Result<Locality, Fault>
+        ensures { Reads self.old (address n) result self.new }
+    {
+        let l = self.take(4, 0, n, 23)?;
+        Ok(Locality(l as u8))
     }
-}
 
-// A variable of 3 bits.
-pub fn read_variable(s: &[u8], from: Step) -> VariableRead
-    ensures { Went (seen s.now) from variable result.next result.variable × (result.at ≡ place_of_step from) }
-{
-    let got = take(s, from, 3, 0, 8, 28);
-    let v = got.value as u8;
-    let next = got.next;
-    VariableRead {
-        variable: v,
-        at: got.at,
-        next,
+    // A code place of 9 bits, below the code length k.
+    #[tactic(auto, using(crate::proofs::ReadsLaws::reading), unfolding(crate::specs::Fields::place))]
+    pub fn code_place(&mut self, k: usize) -> Result<Place, Fault>
+        ensures { Reads self.old (place k) result self.new }
+    {
+        let p = self.take(9, 0, k, 24)?;
+        Ok(Place(p as u16))
     }
-}
 
-// A reading of 32 bits.
-pub fn read_reading(s: &[u8], from: Step) -> ReadingRead
-    ensures { Went (seen s.now) from reading result.next result.reading × (result.at ≡ place_of_step from) }
-{
-    let got = take(s, from, 32, 0, 4294967296, 28);
-    let bits = got.value as u32;
-    let reading = signed_of(bits);
-    let next = got.next;
-    ReadingRead {
-        reading,
-        at: got.at,
-        next,
+    // A variable of 3 bits.
+    #[tactic(auto, using(crate::proofs::ReadsLaws::reading), unfolding(crate::specs::Fields::variable, crate::specs::BitReader::bits))]
+    pub fn variable(&mut self) -> Result<u8, Fault>
+        ensures { Reads self.old variable result self.new }
+    {
+        let v = self.take(3, 0, 8, 28)?;
+        Ok(v as u8)
+    }
+
+    // A reading of 32 bits.
+    #[tactic(auto, using(crate::proofs::ReadsLaws::reading), unfolding(crate::specs::Fields::reading, crate::specs::BitReader::bits))]
+    pub fn reading(&mut self) -> Result<i32, Fault>
+        ensures { Reads self.old reading result self.new }
+    {
+        let bits = self.take(32, 0, 4294967296, 28)?;
+        Ok(signed_of(bits as u32))
     }
 }

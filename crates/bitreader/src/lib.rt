@@ -1,6 +1,7 @@
 // The bit reader, the fields that stand in several places of an image, and its end.
 #![tactic(auto)]
 
-pub mod bits;
+mod bits;
 pub mod ending;
 pub mod fields;
+pub mod reader;

@@ -8,7 +8,7 @@ use files::{Failure, print, print_first, read_file, say};
 use image::reader::{LONGEST_IMAGE, read_image};
 use net::network::Net;
 use plans::answer::Answer;
-use registers::register::{Registered, register};
+use registers::register::register;
 use step::machine::Machine;
 
 // The first part of a list, which stands after its length in two bytes, lower first, and what follows it. Both are empty
@@ -28,8 +28,8 @@ fn split_part(list: &[u8]) -> (&[u8], &[u8]) {
 fn print_register(rt: &HostRuntime, image: &[u8], picks: &[u8]) -> Result<(), Failure> {
     let mut out = [0u8; 65536];
     match register(image, picks, &mut out) {
-        Registered::Written(n) => print_first(rt, &out, n),
-        Registered::NoRoom => {
+        Some(n) => print_first(rt, &out, n),
+        None => {
             say(rt, b"no room for a register\n");
             Err(Failure::Short)
         }

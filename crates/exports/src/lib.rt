@@ -14,10 +14,8 @@ ghost use Rattle.run.specs.Run.{run_of, run_text_of};
 ghost use Rattle.image.specs.Image.{opened_of, place_of_fault};
 
 use image::reader::{place_of, read_image};
-use names::lookup::fault;
-use registers::register::{
-    Registered, named_register, named_register_text, register, register_text,
-};
+use names::lookup::test;
+use registers::register::{named_register, named_register_text, register, register_text};
 use run::run::{Finish, run, run_text};
 
 // The paper's number of how a run ended.
@@ -65,13 +63,10 @@ pub extern "C" fn cavindorum_refusal_place(image: &[u8]) -> usize
 }
 
 // A register's length, or 0 where the buffer is too short for it.
-fn length_of(written: Registered) -> usize
+fn length_of(written: Option<usize>) -> usize
     ensures { result ≡ registered_length written }
 {
-    match written {
-        Registered::Written(n) => n,
-        Registered::NoRoom => 0,
-    }
+    written.unwrap_or(0)
 }
 
 // Writes a register and gives its length, or 0 where the buffer is too short for it.
@@ -132,5 +127,8 @@ pub extern "C" fn cavindorum_named_register_text<'a>(
 pub extern "C" fn cavindorum_names_fault(site: &[u8], office: &[u8]) -> u8
     ensures { result ≡ names_fault site.now office.now }
 {
-    fault(site, office)
+    match test(site, office) {
+        Ok(()) => 0,
+        Err(fault) => fault.number(),
+    }
 }

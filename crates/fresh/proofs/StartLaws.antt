@@ -2,7 +2,7 @@
 -- all unset. Assumes nothing.
 use Prim.Native.Nat.{ℕ, ◌<◌}
 use mathlib.Core.Path.{◌≡◌, refl, ap}
-use mathlib.Core.Bool.{Bool, true, false, not}
+use mathlib.Core.Bool.{Bool, true, false, not, beq}
 use lib.Dec.{ltb}
 use Rattle.net.specs.Choice.{choose, both, all, fold}
 use Rattle.net.specs.Records.{unset_variable, free_process, starting_at, zero_node, variable_at, process_at, process_count}
@@ -35,3 +35,11 @@ starting_unset a p = refl
 pub zero_node_starts : node_starts zero_node ≡ true
 unfolding node_starts slot_starts zero_node process_at process_count all_unset variable_at free_process unset_variable is_unset fold choose all both
 zero_node_starts = refl
+
+-- two truth values that are equal, as a choice
+pub same_choice : (a b : Bool) → beq a b ≡ choose a b (not b)
+unfolding choose
+same_choice true true = refl
+same_choice true false = refl
+same_choice false true = refl
+same_choice false false = refl

@@ -15,4 +15,4 @@ pub use Rattle.net.specs.declared.instruction.Action.{Action}
 pub use Rattle.net.specs.declared.instruction.Instruction.{Instruction}
 pub use Rattle.net.specs.declared.network.Net.{Net}
 pub use Rattle.readers.specs.declared.fault.Fault.{Fault}
-pub use Rattle.readers.specs.declared.step.Step.{Step}
+pub use Rattle.bitreader.specs.declared.reader.BitReader.{BitReader}

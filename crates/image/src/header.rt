@@ -1,26 +1,22 @@
 // The header of an image (document 01, "The image", part 1; document 02, slip 10).
-ghost use Rattle.image.specs.Progress.{Headed};
-ghost use Rattle.bitreader.specs.Progress.{seen};
+ghost use Rattle.std.specs.Prelude.{◌≡◌};
+ghost use Rattle.net.specs.Records.{empty_net};
+ghost use Rattle.bitreader.specs.Progress.{Reads};
+ghost use Rattle.image.specs.Image.{header};
+ghost use Rattle.image.specs.Progress.{filled, Sized};
 
-use crate::built::CountsRead;
-use bitreader::bits::take;
-use readers::step::Step;
+use bitreader::reader::BitReader;
+use net::network::Net;
+use readers::fault::Fault;
 
-// Format, address count and code length.
-pub(crate) fn read_header(s: &[u8]) -> CountsRead
-    ensures { Headed (seen s.now) result }
+// Format, address count and code length, into the empty net.
+pub(crate) fn read_header(r: &mut BitReader, net: &mut Net) -> Result<(), Fault>
+    requires { net.now ≡ empty_net }
+    ensures reads { Reads r.old header (filled result net.new) r.new }
+    ensures sized { Sized net.new }
 {
-    let start = Step::At(0);
-    let format = take(s, start, 4, 1, 3, 21);
-    let second = format.next;
-    let addresses = take(s, second, 5, 1, 17, 22);
-    let third = addresses.next;
-    let length = take(s, third, 10, 1, 513, 22);
-    let next = length.next;
-    CountsRead {
-        format: format.value,
-        addresses: addresses.value,
-        length: length.value,
-        next,
-    }
+    net.format = r.take(4, 1, 3, 21)?;
+    net.addresses = r.take(5, 1, 17, 22)?;
+    net.length = r.take(10, 1, 513, 22)?;
+    Ok(())
 }

@@ -1,57 +1,40 @@
 // Starting processes of an image (document 01, "The image", part 3).
-ghost use Rattle.std.specs.Prelude.{◌≤◌};
-ghost use Rattle.readers.specs.Reader.{each};
-ghost use Rattle.image.specs.Image.{process, processes};
-ghost use Rattle.image.specs.Progress.{Part, with_processes};
-ghost use Rattle.bitreader.specs.Progress.{seen};
+ghost use Rattle.bitreader.specs.Progress.{Reads};
+ghost use Rattle.image.specs.Image.{processes, all_processes};
+ghost use Rattle.image.specs.Progress.{filled, Sized, Counted};
 
-use crate::built::ProcessesRead;
-use bitreader::bits::take;
-use bitreader::fields::read_place;
+use bitreader::reader::BitReader;
 use net::locality::Locality;
+use net::network::Net;
+use net::node::Node;
 use net::process::Process;
-use readers::step::Step;
+use readers::fault::Fault;
 
-// The starting places of the node at address a, which fill slots 0 upward.
-fn read_slots(
-    s: &[u8],
-    from: Step,
+// The processes of the node at address a, which fill slots 0 upward.
+fn read_node_processes(
+    r: &mut BitReader,
     a: Locality,
     k: usize,
-    count: usize,
-    start: [Process; 4],
-) -> ProcessesRead
-    requires { count ≤ 4 }
-    ensures { Part with_processes (seen s.now) from (each count (process a k)) start result.next result.processes }
+    node: &mut Node,
+) -> Result<(), Fault>
+    ensures { Reads r.old (processes a k node.old) (filled result node.new) r.new }
 {
-    let mut processes = start;
-    let mut step = from;
-    let mut i = 0;
-    while i < count {
-        let got = read_place(s, step, k);
-        let at = got.place;
-        let started = Process::starting(a, at);
-        processes[i] = started;
-        step = got.next;
-        i += 1;
+    let count = r.take(3, 0, 5, 22)?;
+    for slot in 0..count {
+        let at = r.code_place(k)?;
+        node.processes[slot] = Process::starting(a, at);
     }
-    ProcessesRead {
-        processes,
-        next: step,
-    }
+    Ok(())
 }
 
-// The processes of a node.
-pub(crate) fn read_processes(
-    s: &[u8],
-    from: Step,
-    a: Locality,
-    k: usize,
-    start: [Process; 4],
-) -> ProcessesRead
-    ensures { Part with_processes (seen s.now) from (processes a k) start result.next result.processes }
+// The processes of each address.
+pub(crate) fn read_processes(r: &mut BitReader, net: &mut Net) -> Result<(), Fault>
+    requires { Sized net.now }
+    ensures reads { Reads r.old (all_processes net.old) (filled result net.new) r.new }
+    ensures kept { Counted net.old net.new }
 {
-    let got = take(s, from, 3, 0, 5, 22);
-    let next = got.next;
-    read_slots(s, next, a, k, got.value, start)
+    for a in 0..net.addresses {
+        read_node_processes(r, Locality(a as u8), net.length, &mut net.nodes[a])?;
+    }
+    Ok(())
 }

@@ -1,136 +1,72 @@
 // Tuples of an image (document 01, "The image", part 4).
-ghost use Rattle.std.specs.Prelude.{◌≤◌};
-ghost use Rattle.readers.specs.Reader.{each};
-ghost use Rattle.image.specs.Image.{reading_item, address_item, item, tupleField, tuple, stored, tuples};
-ghost use Rattle.image.specs.Progress.{Part, with_store};
-ghost use Rattle.bitreader.specs.Progress.{seen};
-ghost use Rattle.readers.specs.Progress.{Went};
-ghost use Rattle.net.specs.Records.{zero_tuple};
+ghost use Rattle.std.specs.Prelude.{◌≡◌};
+ghost use Rattle.net.specs.Records.{with_tuple};
+ghost use Rattle.bitreader.specs.Progress.{Reads};
+ghost use Rattle.image.specs.Image.{item, tuple, tuples, all_tuples};
+ghost use Rattle.image.specs.Progress.{filled, Sized, Counted};
 
-use crate::built::StoreRead;
-use bitreader::bits::take;
-use bitreader::fields::{read_address, read_reading};
+use bitreader::reader::BitReader;
 use net::locality::Locality;
+use net::network::Net;
+use net::node::Node;
 use net::tuple::{Field, Item, Tuple};
-use readers::step::Step;
-
-#[derive(Clone, Copy)]
-struct ItemRead {
-    item: Item,
-    next: Step,
-}
-
-#[derive(Clone, Copy)]
-struct TupleRead {
-    tuple: Tuple,
-    next: Step,
-}
-
-fn read_reading_item(s: &[u8], from: Step) -> ItemRead
-    ensures { Went (seen s.now) from reading_item result.next result.item }
-{
-    let got = read_reading(s, from);
-    let item = Item::Reading(got.reading);
-    let next = got.next;
-    ItemRead { item, next }
-}
-
-fn read_address_item(s: &[u8], from: Step, n: usize) -> ItemRead
-    ensures { Went (seen s.now) from (address_item n) result.next result.item }
-{
-    let got = read_address(s, from, n);
-    let locality = got.locality;
-    let item = Item::Address(locality);
-    let next = got.next;
-    ItemRead { item, next }
-}
+use readers::fault::Fault;
 
 // A field of a tuple: its sort, then a reading or an address.
-fn read_item(s: &[u8], from: Step, n: usize) -> ItemRead
-    ensures { Went (seen s.now) from (item n) result.next result.item }
+fn read_item(r: &mut BitReader, n: usize) -> Result<Item, Fault>
+    ensures { Reads r.old (item n) result r.new }
 {
-    let got = take(s, from, 1, 0, 2, 28);
-    let next = got.next;
-    if got.value == 0 {
-        read_reading_item(s, next)
+    if r.take(1, 0, 2, 28)? == 0 {
+        Ok(Item::Reading(r.reading()?))
     } else {
-        read_address_item(s, next, n)
+        Ok(Item::Address(r.address(n)?))
     }
 }
 
-// The fields of a tuple.
-fn read_fields(s: &[u8], from: Step, n: usize, count: usize) -> TupleRead
-    ensures { Went (seen s.now) from (each count (tupleField n) zero_tuple) result.next result.tuple }
+// A tuple: its field count, then its fields.
+fn read_tuple(r: &mut BitReader, n: usize) -> Result<Tuple, Fault>
+    ensures { Reads r.old (tuple n) result r.new }
 {
+    let less = r.take(2, 0, 4, 28)?;
     let mut tuple = Tuple::zero();
-    let mut step = from;
-    let mut i = 0;
-    while i < count {
-        let got = read_item(s, step, n);
-        let item = got.item;
-        let field = Field { item };
-        tuple = tuple.with_field(field);
-        step = got.next;
-        i += 1;
+    for i in 0..less + 1 {
+        let item = read_item(r, n)?;
+        tuple = tuple.with_field(Field { item });
     }
-    TupleRead { tuple, next: step }
+    Ok(tuple)
 }
 
-fn read_tuple(s: &[u8], from: Step, n: usize) -> TupleRead
-    ensures { Went (seen s.now) from (tuple n) result.next result.tuple }
+// A tuple put as a node's newest, where there is room for it.
+#[tactic(auto, unfolding(net::specs::Records::with_tuple, net::specs::Choice::choose))]
+fn store(node: &mut Node, t: Tuple)
+    ensures { node.new ≡ with_tuple node.old t }
 {
-    let got = take(s, from, 2, 0, 4, 28);
-    let next = got.next;
-    let count = got.value + 1;
-    read_fields(s, next, n, count)
-}
-
-// As many tuples of the node at address a, oldest first, each with its mark, after the first `held` of those that stood there.
-fn read_store(
-    s: &[u8],
-    from: Step,
-    a: Locality,
-    n: usize,
-    count: usize,
-    held: usize,
-    start: [Tuple; 16],
-) -> StoreRead
-    ensures { Part with_store (seen s.now) from (each count (stored a n)) (held, start) result.next (result.stored, result.tuples) }
-{
-    let mut tuples = start;
-    let mut full = held;
-    let mut step = from;
-    let mut i = 0;
-    while i < count {
-        let got = read_tuple(s, step, n);
-        let read = got.tuple;
-        let tuple = read.marked(a);
-        if full < 16 {
-            tuples[full] = tuple;
-            full += 1;
-        }
-        step = got.next;
-        i += 1;
-    }
-    StoreRead {
-        stored: full,
-        tuples,
-        next: step,
+    if node.stored < 16 {
+        node.tuples[node.stored] = t;
+        node.stored += 1;
     }
 }
 
-// The tuples of a node.
-pub(crate) fn read_tuples(
-    s: &[u8],
-    from: Step,
-    a: Locality,
-    n: usize,
-    held: usize,
-    start: [Tuple; 16],
-) -> StoreRead
-    ensures { Part with_store (seen s.now) from (tuples a n) (held, start) result.next (result.stored, result.tuples) }
+// The tuples of the node at address a, oldest first, each with its mark, after those that stood there.
+fn read_node_tuples(r: &mut BitReader, a: Locality, n: usize, node: &mut Node) -> Result<(), Fault>
+    ensures { Reads r.old (tuples a n node.old) (filled result node.new) r.new }
 {
-    let got = take(s, from, 5, 0, 17, 22);
-    let next = got.next;
-    read_store(s, next, a, n, got.value, held, start)
+    let count = r.take(5, 0, 17, 22)?;
+    for i in 0..count {
+        let tuple = read_tuple(r, n)?;
+        store(node, tuple.marked(a));
+    }
+    Ok(())
+}
+
+// The tuples of each address.
+pub(crate) fn read_tuples(r: &mut BitReader, net: &mut Net) -> Result<(), Fault>
+    requires { Sized net.now }
+    ensures reads { Reads r.old (all_tuples net.old) (filled result net.new) r.new }
+    ensures kept { Counted net.old net.new }
+{
+    for a in 0..net.addresses {
+        read_node_tuples(r, Locality(a as u8), net.addresses, &mut net.nodes[a])?;
+    }
+    Ok(())
 }

@@ -5,4 +5,5 @@ pub use Rattle.net.specs.declared.instruction.Pattern.{Pattern}
 pub use Rattle.net.specs.declared.instruction.TemplateField.{TemplateField}
 pub use Rattle.net.specs.declared.instruction.Action.{Action}
 pub use Rattle.net.specs.declared.instruction.Instruction.{Instruction}
-pub use Rattle.readers.specs.declared.step.Step.{Step}
+pub use Rattle.readers.specs.declared.fault.Fault.{Fault}
+pub use Rattle.bitreader.specs.declared.reader.BitReader.{BitReader}

@@ -1,5 +1,4 @@
 pub mod AdmissionClaims
-pub mod AdmissionLaws
 pub mod KeepingLaws
 pub mod KeepingPromise
 pub mod NeverMoreWait

@@ -52,6 +52,8 @@ fn put_template(out: &mut Writer<'_, bool>, c: &Instruction)
     }
 }
 
+// Kept: the kinds of targets, fields and actions as numbers: an image writes these numbers (document 01, "The image", 5).
+
 // An out, an in or a read, by its kind: target, template and next place.
 fn put_access(out: &mut Writer<'_, bool>, kind: usize, t: Target, c: &Instruction, p: Place)
     requires { c.now.count ≤ 4 }

@@ -10,6 +10,8 @@ use net::locality::{Locality, Place};
 use text::signed::complement;
 use text::writer::Writer;
 
+// Kept: an address, a place and a variable in a function each: one call with its width; a width as parameter is no plainer.
+
 // An address.
 pub fn put_address(out: &mut Writer<'_, bool>, l: Locality)
     ensures { out.new ≡ after out.old (address_bits l) }

@@ -55,12 +55,8 @@ pub fn template_words(c: Instruction) -> [[usize; 4]; 4]
     ensures { result ≡ template_words c }
 {
     let mut words = [[0usize; 4]; 4];
-    let mut i = 0;
-    while i < 4 {
-        let field = c.template[i];
-        let pattern = field.pattern;
-        words[i] = field_words(pattern);
-        i += 1;
+    for (i, field) in c.template.iter().enumerate() {
+        words[i] = field_words(field.pattern);
     }
     words
 }

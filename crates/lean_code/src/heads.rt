@@ -15,17 +15,18 @@ fn at(p: Place) -> usize
 }
 
 // The written address of a target; 0 where it is none.
+#[tactic(auto, unfolding(crate::specs::Heads::target_written))]
 fn written(t: Target) -> usize
     ensures { result ≡ target_written t }
 {
     match t {
-        Target::Written(l) => l.0 as usize,
-        Target::Own => 0,
-        Target::Held(_) => 0,
+        Target::Written(l) => usize::from(l.0),
+        _ => 0,
     }
 }
 
 // From where a target comes.
+#[tactic(auto, unfolding(crate::specs::Heads::target_from))]
 fn from(t: Target) -> usize
     ensures { result ≡ target_from t }
 {
@@ -71,27 +72,19 @@ fn members(g: Group) -> [bool; 16]
     ensures { result ≡ member_flags g }
 {
     let mut flags = [false; 16];
-    let mut l = 0usize;
-    while l < 16 {
+    for l in 0..16 {
         flags[l] = g.has(Locality(l as u8));
-        l += 1;
     }
     flags
 }
 
 // The members of the set that an action puts to.
+#[tactic(auto, unfolding(crate::specs::Heads::set_flags, crate::specs::Heads::flags_of))]
 pub fn set_flags(c: Instruction) -> [bool; 16]
     ensures { result ≡ set_flags c }
 {
-    let action = c.action;
-    match action {
-        Action::Stop => [false; 16],
-        Action::Out(_, _) => [false; 16],
-        Action::In(_, _) => [false; 16],
-        Action::Read(_, _) => [false; 16],
-        Action::Eval(_, _, _) => [false; 16],
-        Action::New(_, _) => [false; 16],
-        Action::Fork(_, _) => [false; 16],
+    match c.action {
         Action::OutAll(g, _) => members(g),
+        _ => [false; 16],
     }
 }

@@ -26,11 +26,9 @@ fn add_right(need: &mut [bool; 69], t: Target, right: usize)
 fn add_members(need: &mut [bool; 69], g: Group)
     ensures { need.new ≡ add_members need.old g }
 {
-    let mut l = 0usize;
-    while l < 16 {
+    for l in 0..16 {
         let had = need[l + 32];
         need[l + 32] = had | g.has(Locality(l as u8));
-        l += 1;
     }
 }
 
@@ -68,27 +66,19 @@ pub fn needs_from(code: [Instruction; 512], p: Place) -> [bool; 69]
 {
     let marks = reached(&code, p);
     let mut need = [false; 69];
-    let mut q = 0;
-    while q < 512 {
+    for q in 0..512 {
         add_reached(&mut need, marks[q], code[q]);
-        q += 1;
     }
     need
 }
 
 // The place that an instruction sends; 512 where it sends none.
+#[tactic(auto, unfolding(crate::specs::Needs::sent_by, crate::specs::Needs::sent_of))]
 pub fn sent_by(c: Instruction) -> Place
     ensures { result ≡ sent_by c }
 {
-    let action = c.action;
-    match action {
-        Action::Stop => Place(512),
-        Action::Out(_, _) => Place(512),
-        Action::In(_, _) => Place(512),
-        Action::Read(_, _) => Place(512),
+    match c.action {
         Action::Eval(_, sent, _) => sent,
-        Action::New(_, _) => Place(512),
-        Action::Fork(_, _) => Place(512),
-        Action::OutAll(_, _) => Place(512),
+        _ => Place(512),
     }
 }

@@ -21,21 +21,16 @@ pub fn free_words() -> [usize; 16]
 fn busy_words(p: Process) -> [usize; 16]
     ensures { result ≡ busy_words p }
 {
-    let place = p.at;
-    let origin = p.origin;
     let mut words = [0usize; 16];
-    let mut v = 0;
-    while v < 8 {
-        let variable = p.variables[v];
-        let value = variable.value;
-        words[v] = value_word(value);
-        v += 1;
+    for (v, variable) in p.variables.iter().enumerate() {
+        words[v] = value_word(variable.value);
     }
-    words[8] = place.0 as usize;
-    words[9] = origin.0 as usize;
+    words[8] = usize::from(p.at.0);
+    words[9] = usize::from(p.origin.0);
     words
 }
 
+#[tactic(auto, unfolding(crate::specs::Processes::process_words, net::specs::Choice::choose))]
 pub fn process_words(p: Process) -> [usize; 16]
     ensures { result ≡ process_words p }
 {
@@ -48,16 +43,14 @@ fn busy_process(words: [usize; 16]) -> Process
 {
     let at = words[8] % 512;
     let mut p = Process::starting(address_of(words[9]), Place(at as u16));
-    let mut v = 0;
-    while v < 8 {
+    for v in 0..8 {
         let value = value_of(words[v]);
-        let variable = Variable { value };
-        p.variables[v] = variable;
-        v += 1;
+        p.variables[v] = Variable { value };
     }
     p
 }
 
+#[tactic(auto, unfolding(crate::specs::Processes::process_in, net::specs::Choice::choose))]
 pub fn process_of(words: [usize; 16]) -> Process
     ensures { result ≡ process_in words }
 {
@@ -72,12 +65,10 @@ pub fn process_of(words: [usize; 16]) -> Process
 pub fn free_slot(slots: &[[usize; 16]; 4]) -> usize
     ensures { result ≡ free_slot_in slots.now }
 {
-    let mut k = 0;
-    while k < 4 {
+    for k in 0..4 {
         if 512 <= slots[k][8] {
             return k;
         }
-        k += 1;
     }
     4
 }

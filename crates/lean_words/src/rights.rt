@@ -8,14 +8,11 @@ pub fn row_flags(row: Row) -> [bool; 65]
     ensures { result ≡ row_flags row }
 {
     let mut flags = [false; 65];
-    let mut l = 0;
-    while l < 16 {
-        let held = row.rights[l];
+    for (l, held) in row.rights.iter().enumerate() {
         flags[l] = held.take;
         flags[l + 16] = held.read;
         flags[l + 32] = held.put;
         flags[l + 48] = held.send;
-        l += 1;
     }
     flags[64] = row.create;
     flags
@@ -25,16 +22,13 @@ pub fn row_of(flags: [bool; 65]) -> Row
     ensures { result ≡ row_in flags }
 {
     let mut row = Row::zero();
-    let mut l = 0;
-    while l < 16 {
-        let held = Rights {
+    for l in 0..16 {
+        row.rights[l] = Rights {
             take: flags[l],
             read: flags[l + 16],
             put: flags[l + 32],
             send: flags[l + 48],
         };
-        row.rights[l] = held;
-        l += 1;
     }
     row.create = flags[64];
     row
@@ -51,6 +45,8 @@ pub fn gain(row: &mut [bool; 65], l: usize)
     row[at + 48] = true;
 }
 
+// Kept: a rule of the project (fixed memory): the number of a right says where its 16 flags stand in the packed row; so too in
+// `add_right` of `lean_code` and `aim` of `lean`.
 // Whether a row grants a right at an address: 0 is i, 1 is r, which i includes, 2 is o, 3 is e.
 pub fn grants(row: &[bool; 65], l: usize, right: usize) -> bool
     ensures { result ≡ grants_flags row.now l right }
@@ -91,13 +87,11 @@ fn covers_own(need: &[bool; 69], row: &[bool; 65], l: usize) -> bool
 pub fn admits(need: &[bool; 69], row: &[bool; 65], l: usize) -> bool
     ensures { result ≡ admits_words need.now row.now l }
 {
-    let mut ok = true;
-    let mut m = 0;
-    while m < 16 {
-        let good = covers(need, row, m);
-        ok = ok & good;
-        m += 1;
+    for m in 0..16 {
+        if !covers(need, row, m) {
+            return false;
+        }
     }
     let own = covers_own(need, row, l);
-    ok & (own & (!need[64] | row[64]))
+    own & (!need[64] | row[64])
 }

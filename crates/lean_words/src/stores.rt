@@ -15,17 +15,12 @@ pub fn no_tuple() -> [usize; 6]
 pub fn tuple_words(t: Tuple) -> [usize; 6]
     ensures { result ≡ tuple_words t }
 {
-    let mark = t.mark;
     let mut words = [0usize; 6];
-    let mut i = 0;
-    while i < 4 {
-        let field = t.fields[i];
-        let item = field.item;
-        words[i] = item_word(item);
-        i += 1;
+    for (i, field) in t.fields.iter().enumerate() {
+        words[i] = item_word(field.item);
     }
     words[4] = t.count;
-    words[5] = mark.0 as usize;
+    words[5] = usize::from(t.mark.0);
     words
 }
 
@@ -33,16 +28,12 @@ pub fn tuple_of(words: [usize; 6]) -> Tuple
     ensures { result ≡ tuple_in words }
 {
     let mut t = Tuple::zero();
-    let mut i = 0;
-    while i < 4 {
+    for i in 0..4 {
         let item = item_of(words[i]);
-        let field = Field { item };
-        t.fields[i] = field;
-        i += 1;
+        t.fields[i] = Field { item };
     }
-    let mark = address_of(words[5]);
     t.count = words[4];
-    t.mark = mark;
+    t.mark = address_of(words[5]);
     t
 }
 
@@ -61,12 +52,10 @@ fn fits(t: &[usize; 6], want: &[usize; 9]) -> bool
 pub fn oldest(ts: &[[usize; 6]; 16], stored: usize, want: &[usize; 9]) -> usize
     ensures { result ≡ oldest_in ts.now stored want.now }
 {
-    let mut j = 0;
-    while j < 16 {
+    for j in 0..16 {
         if fits(&ts[j], want) & (j < stored) {
             return j;
         }
-        j += 1;
     }
     16
 }
@@ -82,10 +71,8 @@ pub fn put_words(want: &[usize; 9], a: usize) -> [usize; 6]
 pub fn close_up(ts: &mut [[usize; 6]; 16], i: usize)
     ensures { ts.new ≡ closed_up ts.old i }
 {
-    let mut j = i;
-    while j < 15 {
+    for j in i..15 {
         ts[j] = ts[j + 1];
-        j += 1;
     }
     ts[15] = no_tuple();
 }

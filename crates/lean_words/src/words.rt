@@ -43,6 +43,7 @@ fn reading_of(w: usize) -> i32
 }
 
 // The address of a word below 256.
+#[tactic(auto, unfolding(crate::specs::Items::address_in))]
 pub fn address_of(w: usize) -> Locality
     ensures { result ≡ address_in w }
 {
@@ -50,15 +51,17 @@ pub fn address_of(w: usize) -> Locality
     Locality(low as u8)
 }
 
+#[tactic(auto, unfolding(crate::specs::Items::item_word))]
 pub fn item_word(x: Item) -> usize
     ensures { result ≡ item_word x }
 {
     match x {
         Item::Reading(v) => reading_word(v),
-        Item::Address(l) => l.0 as usize,
+        Item::Address(l) => usize::from(l.0),
     }
 }
 
+#[tactic(auto, unfolding(crate::specs::Items::item_in, net::specs::Choice::choose))]
 pub fn item_of(w: usize) -> Item
     ensures { result ≡ item_in w }
 {
@@ -69,16 +72,18 @@ pub fn item_of(w: usize) -> Item
     }
 }
 
+#[tactic(auto, unfolding(crate::specs::Items::value_word))]
 pub fn value_word(x: Value) -> usize
     ensures { result ≡ value_word x }
 {
     match x {
         Value::Unset => UNSET,
         Value::Reading(v) => reading_word(v),
-        Value::Address(l) => l.0 as usize,
+        Value::Address(l) => usize::from(l.0),
     }
 }
 
+#[tactic(auto, unfolding(crate::specs::Items::value_in, net::specs::Choice::choose))]
 pub fn value_of(w: usize) -> Value
     ensures { result ≡ value_in w }
 {

@@ -1,333 +1,197 @@
 // The lines of a register (document 01, "The register"): each is written word by word.
-ghost use Rattle.std.specs.Prelude.{◌≤◌, [], ◌∷◌, ◌++◌, ◌≡◌, get_or};
-ghost use Rattle.text.specs.Writing.{Wrote};
-ghost use Rattle.names.specs.Names.{name_after};
-ghost use Rattle.lines.specs.Words.{number, spaced, printed};
-ghost use Rattle.lines.specs.Shown.{named, named_after};
-ghost use Rattle.lines.specs.Lines.{fewer, refusal_line, place_words, refused_line, net_line, pick_line, made_line, name_words, node_line};
-ghost use Rattle.lines.specs.Lines.{field_words, mark_words, tuple_line, tuple_lines, node_lines, net_lines, pick_lines};
-ghost use Rattle.lines.specs.Lines.{tuple_count, total_line, closing_lines, after_lines};
+#![tactic(auto, using(text::proofs::WriterLaws::writing))]
 
-use crate::shown::Parts;
-use crate::words::{put_item, put_labelled, put_name, put_number, put_two};
-use names::lookup::{fault, name_after};
+ghost use Rattle.std.specs.Prelude.{[], ◌∷◌, ◌≡◌, get_or};
+ghost use Rattle.text.specs.Writer.{after};
+ghost use Rattle.names.specs.Names.{name_after};
+ghost use Rattle.names.specs.Faults.{number_of};
+ghost use Rattle.lines.specs.Words.{spaced, printed};
+ghost use Rattle.lines.specs.Shown.{named, named_after};
+ghost use Rattle.lines.specs.Lines.{refusal_line, place_words, refused_line, net_line, made_line, name_words, node_line, node_lines};
+ghost use Rattle.lines.specs.Lines.{field_words, mark_words, tuple_line, tuple_lines, net_lines, pick_lines};
+ghost use Rattle.lines.specs.Lines.{tuple_count, closing_lines, after_lines};
+
+use crate::shown::{Parts, Shown};
+use crate::words::{put_item, put_line, put_name, put_number, put_start};
+use names::entries::NamesFault;
+use names::lookup::{name_after, test};
 use net::locality::Locality;
 use net::network::Net;
 use net::node::Node;
 use net::tuple::Tuple;
 use readers::fault::Fault;
 use step::turn::{host_of, slot_of};
-use text::writing::{put, put_bytes};
-
-// A count, or the size of its array where the count is larger.
-fn at_most(count: usize, size: usize) -> usize
-    ensures { (result ≡ fewer count size) × (result ≤ size) }
-{
-    if count < size { count } else { size }
-}
+use text::writer::Writer;
 
 // A refusal by its number alone.
-pub fn put_refusal(out: &mut [u8], at: usize, n: u8) -> usize
-    ensures { Wrote out.old at (printed (refusal_line n ∷ [])) out.new result }
+#[tactic(auto, unfolding(crate::specs::Lines::refusal_line, text::specs::Bytes::bytes))]
+pub fn put_refusal(out: &mut Writer<'_, u8>, n: u8)
+    ensures { out.new ≡ after out.old (printed (refusal_line n ∷ [])) }
 {
-    let first = put_bytes(out, at, b"refused");
-    let second = put_number(out, first, n as usize);
-    put(out, second, 10)
+    put_line(out, b"refused", &[n as usize]);
 }
 
 // The bit at which the field at fault begins, where it is shown.
-fn put_place(out: &mut [u8], at: usize, parts: Parts, fault: Fault) -> usize
-    ensures { Wrote out.old at (spaced (place_words parts fault)) out.new result }
+fn put_place(out: &mut Writer<'_, u8>, parts: Parts, fault: Fault)
+    ensures { out.new ≡ after out.old (spaced (place_words parts fault)) }
 {
     if parts.place {
-        put_labelled(out, at, b"at", fault.place)
-    } else {
-        at
+        put_name(out, b"at");
+        put_number(out, fault.place);
     }
 }
 
 // A refusal of an image.
-pub fn put_refused(out: &mut [u8], at: usize, parts: Parts, fault: Fault) -> usize
-    ensures { Wrote out.old at (printed (refused_line parts fault ∷ [])) out.new result }
+pub fn put_refused(out: &mut Writer<'_, u8>, parts: Parts, fault: Fault)
+    ensures { out.new ≡ after out.old (printed (refused_line parts fault ∷ [])) }
 {
-    let first = put_bytes(out, at, b"refused");
-    let second = put_number(out, first, fault.number as usize);
-    let third = put_place(out, second, parts, fault);
-    put(out, third, 10)
+    put_start(out, b"refused", &[fault.number as usize]);
+    put_place(out, parts, fault);
+    out.put(b'\n');
 }
 
-pub fn put_net(out: &mut [u8], at: usize, n: usize, k: usize) -> usize
-    ensures { Wrote out.old at (printed (net_line n k ∷ [])) out.new result }
+// A net's address count and code length.
+#[tactic(auto, unfolding(crate::specs::Lines::net_line, text::specs::Bytes::bytes))]
+pub fn put_net(out: &mut Writer<'_, u8>, n: usize, k: usize)
+    ensures { out.new ≡ after out.old (printed (net_line n k ∷ [])) }
 {
-    let first = put_bytes(out, at, b"net");
-    let second = put_two(out, first, n, k);
-    put(out, second, 10)
+    put_line(out, b"net", &[n, k]);
 }
 
-fn put_pick(out: &mut [u8], at: usize, i: usize, a: Locality, k: usize, answer: u8) -> usize
-    ensures { Wrote out.old at (printed (pick_line i a k answer ∷ [])) out.new result }
+// A pick, by its byte, and its answer.
+fn put_pick(out: &mut Writer<'_, u8>, i: usize, b: u8, answer: u8)
+    ensures { out.new ≡ after out.old (printed (made_line i b answer ∷ [])) }
 {
-    let first = put_bytes(out, at, b"pick");
-    let second = put_two(out, first, i, a.0 as usize);
-    let third = put_two(out, second, k, answer as usize);
-    put(out, third, 10)
-}
-
-// The line of a pick by its byte.
-fn put_made(out: &mut [u8], at: usize, i: usize, b: u8, answer: u8) -> usize
-    ensures { Wrote out.old at (printed (made_line i b answer ∷ [])) out.new result }
-{
-    let a = host_of(b);
-    let k = slot_of(b);
-    put_pick(out, at, i, a, k, answer)
+    put_line(
+        out,
+        b"pick",
+        &[i, host_of(b).0 as usize, slot_of(b), answer as usize],
+    );
 }
 
 // The answer of a pick, or 0 past the last one.
-fn answer_of(answers: &[u8], i: usize) -> u8
+fn answer_at(answers: &[u8], i: usize) -> u8
     ensures { result ≡ get_or answers.now i 0 }
 {
-    if i < answers.len() { answers[i] } else { 0 }
-}
-
-// The line of a pick, whose answer stands at place i.
-fn put_answered(out: &mut [u8], at: usize, k: usize, b: u8, answers: &[u8], i: usize) -> usize
-    ensures { Wrote out.old at (printed (made_line k b (get_or answers.now i 0) ∷ [])) out.new result }
-{
-    let answer = answer_of(answers, i);
-    put_made(out, at, k, b, answer)
+    answers.get(i).copied().unwrap_or(0)
 }
 
 // A line for each pick.
-pub fn put_picks(out: &mut [u8], at: usize, picks: &[u8], answers: &[u8]) -> usize
-    ensures { Wrote out.old at (printed (pick_lines picks.now answers.now)) out.new result }
+pub fn put_picks(out: &mut Writer<'_, u8>, picks: &[u8], answers: &[u8])
+    ensures { out.new ≡ after out.old (printed (pick_lines picks.now answers.now)) }
 {
-    let mut next = at;
-    let mut i = 0;
-    while i < picks.len() {
-        let b = picks[i];
-        next = put_answered(out, next, i + 1, b, answers, i);
-        i += 1;
+    for (i, b) in picks.iter().enumerate() {
+        put_pick(out, i + 1, *b, answer_at(answers, i));
     }
-    next
 }
 
 // A station's name, where there is one.
-fn put_station(out: &mut [u8], at: usize, station: &[u8]) -> usize
-    ensures { Wrote out.old at (spaced (name_words station.now)) out.new result }
+fn put_station(out: &mut Writer<'_, u8>, station: &[u8])
+    ensures { out.new ≡ after out.old (spaced (name_words station.now)) }
 {
-    if 0 < station.len() {
-        put_name(out, at, station)
-    } else {
-        at
+    if !station.is_empty() {
+        put_name(out, station);
     }
 }
 
-// The numbers of a node's line.
-fn put_counts(out: &mut [u8], at: usize, a: Locality, stored: usize, busy: usize) -> usize
-    ensures { Wrote out.old at (spaced (number a.0 ∷ number stored ∷ number busy ∷ [])) out.new result }
+fn put_node(out: &mut Writer<'_, u8>, station: &[u8], a: Locality, stored: usize, busy: usize)
+    ensures { out.new ≡ after out.old (printed (node_line station.now a stored busy ∷ [])) }
 {
-    let next = put_number(out, at, a.0 as usize);
-    put_two(out, next, stored, busy)
+    put_start(out, b"node", &[a.0 as usize, stored, busy]);
+    put_station(out, station);
+    out.put(b'\n');
 }
 
-fn put_node(
-    out: &mut [u8],
-    at: usize,
-    station: &[u8],
-    a: Locality,
-    stored: usize,
-    busy: usize,
-) -> usize
-    ensures { Wrote out.old at (printed (node_line station.now a stored busy ∷ [])) out.new result }
+fn put_fields(out: &mut Writer<'_, u8>, t: &Tuple)
+    ensures { out.new ≡ after out.old (spaced (field_words t.now)) }
 {
-    let first = put_bytes(out, at, b"node");
-    let second = put_counts(out, first, a, stored, busy);
-    let third = put_station(out, second, station);
-    put(out, third, 10)
-}
-
-fn put_fields(out: &mut [u8], at: usize, t: Tuple) -> usize
-    ensures { Wrote out.old at (spaced (field_words t)) out.new result }
-{
-    let n = at_most(t.count, 4);
-    let mut next = at;
-    let mut i = 0;
-    while i < n {
-        let field = t.fields[i];
-        let item = field.item;
-        next = put_item(out, next, item);
-        i += 1;
+    for i in 0..t.count.min(4) {
+        put_item(out, t.fields[i].item);
     }
-    next
 }
 
 // Who put a tuple there, where it is shown.
-fn put_mark(out: &mut [u8], at: usize, parts: Parts, t: Tuple) -> usize
-    ensures { Wrote out.old at (spaced (mark_words parts t)) out.new result }
+fn put_mark(out: &mut Writer<'_, u8>, parts: Parts, t: &Tuple)
+    ensures { out.new ≡ after out.old (spaced (mark_words parts t.now)) }
 {
-    let mark = t.mark;
     if parts.mark {
-        put_labelled(out, at, b"from", mark.0 as usize)
-    } else {
-        at
+        put_name(out, b"from");
+        put_number(out, t.mark.0 as usize);
     }
 }
 
-// The fields of a tuple, and who put it there.
-fn put_marked(out: &mut [u8], at: usize, parts: Parts, t: Tuple) -> usize
-    ensures { Wrote out.old at (spaced (field_words t ++ mark_words parts t)) out.new result }
+fn put_tuple(out: &mut Writer<'_, u8>, parts: Parts, a: Locality, t: &Tuple)
+    ensures { out.new ≡ after out.old (printed (tuple_line parts a t.now ∷ [])) }
 {
-    let next = put_fields(out, at, t);
-    put_mark(out, next, parts, t)
+    put_start(out, b"tuple", &[a.0 as usize]);
+    put_fields(out, t);
+    put_mark(out, parts, t);
+    out.put(b'\n');
 }
 
-fn put_tuple(out: &mut [u8], at: usize, parts: Parts, a: Locality, t: Tuple) -> usize
-    ensures { Wrote out.old at (printed (tuple_line parts a t ∷ [])) out.new result }
+fn put_tuples(out: &mut Writer<'_, u8>, parts: Parts, a: Locality, x: &Node)
+    ensures { out.new ≡ after out.old (printed (tuple_lines parts a x.now)) }
 {
-    let first = put_bytes(out, at, b"tuple");
-    let second = put_number(out, first, a.0 as usize);
-    let third = put_marked(out, second, parts, t);
-    put(out, third, 10)
-}
-
-fn put_tuples(out: &mut [u8], at: usize, parts: Parts, a: Locality, x: Node) -> usize
-    ensures { Wrote out.old at (printed (tuple_lines parts a x)) out.new result }
-{
-    let n = at_most(x.stored, 16);
-    let mut next = at;
-    let mut i = 0;
-    while i < n {
-        let t = x.tuples[i];
-        next = put_tuple(out, next, parts, a, t);
-        i += 1;
+    for i in 0..x.stored.min(16) {
+        put_tuple(out, parts, a, &x.tuples[i]);
     }
-    next
 }
 
 // A node's line, and its tuples.
-fn put_node_lines(
-    out: &mut [u8],
-    at: usize,
-    parts: Parts,
-    station: &[u8],
-    a: Locality,
-    x: Node,
-) -> usize
-    ensures { Wrote out.old at (printed (node_lines parts station.now a x)) out.new result }
+fn put_node_lines(out: &mut Writer<'_, u8>, parts: Parts, station: &[u8], a: Locality, x: &Node)
+    ensures { out.new ≡ after out.old (printed (node_lines parts station.now a x.now)) }
 {
-    let busy = x.process_count();
-    let next = put_node(out, at, station, a, x.stored, busy);
-    put_tuples(out, next, parts, a, x)
+    put_node(out, station, a, x.stored, x.process_count());
+    put_tuples(out, parts, a, x);
 }
 
-// The lines of an address, named by the lists where their test has given this number.
-fn put_address<'a>(
-    out: &mut [u8],
-    at: usize,
-    parts: Parts,
-    site: &'a [u8],
-    office: &'a [u8],
-    number: u8,
+// The lines of an address, named by the lists where their test has answered this.
+fn put_address(
+    out: &mut Writer<'_, u8>,
+    shown: Shown<'_>,
+    tested: Result<(), NamesFault>,
     a: Locality,
-    x: Node,
-) -> usize
-    ensures { Wrote out.old at (printed (node_lines parts (name_after number site.now office.now a) a x)) out.new result }
+    x: &Node,
+)
+    ensures { out.new ≡ after out.old (printed (node_lines shown.entry.parts (name_after (number_of tested) shown.entry.site.now shown.entry.office.now a) a x.now)) }
 {
-    let station = name_after(site, office, number, a);
-    put_node_lines(out, at, parts, station, a, x)
+    let station = name_after(shown.site, shown.office, tested, a);
+    put_node_lines(out, shown.parts, station, a, x);
 }
 
 // The lines of each address in use.
-fn put_nodes<'a>(
-    out: &mut [u8],
-    at: usize,
-    parts: Parts,
-    site: &'a [u8],
-    office: &'a [u8],
-    number: u8,
-    net: Net,
-) -> usize
-    ensures { Wrote out.old at (printed (net_lines (named_after number parts site.now office.now) net)) out.new result }
+fn put_nodes(out: &mut Writer<'_, u8>, shown: Shown<'_>, tested: Result<(), NamesFault>, net: &Net)
+    ensures { out.new ≡ after out.old (printed (net_lines (named_after (number_of tested) shown.entry.parts shown.entry.site.now shown.entry.office.now) net.now)) }
 {
-    let n = at_most(net.addresses, 16);
-    let mut next = at;
-    let mut i = 0;
-    while i < n {
-        let x = net.nodes[i];
-        next = put_address(out, next, parts, site, office, number, Locality(i as u8), x);
-        i += 1;
+    for i in 0..net.addresses.min(16) {
+        put_address(out, shown, tested, Locality(i as u8), &net.nodes[i]);
     }
-    next
-}
-
-// The same, where the lists are tested first.
-fn put_named<'a>(
-    out: &mut [u8],
-    at: usize,
-    parts: Parts,
-    site: &'a [u8],
-    office: &'a [u8],
-    net: Net,
-) -> usize
-    ensures { Wrote out.old at (printed (net_lines (named parts site.now office.now) net)) out.new result }
-{
-    let number = fault(site, office);
-    put_nodes(out, at, parts, site, office, number, net)
 }
 
 // How many tuples stand in the net, at the addresses in use.
-fn tuple_count(net: Net) -> usize
-    ensures { result ≡ tuple_count net }
+fn tuple_count(net: &Net) -> usize
+    ensures { result ≡ tuple_count net.now }
 {
-    let n = at_most(net.addresses, 16);
     let mut count = 0;
-    let mut i = 0;
-    while i < n {
-        let x = net.nodes[i];
-        let stored = at_most(x.stored, 16);
-        count += stored;
-        i += 1;
+    for i in 0..net.addresses.min(16) {
+        count += net.nodes[i].stored.min(16);
     }
     count
 }
 
-fn put_total(out: &mut [u8], at: usize, n: usize) -> usize
-    ensures { Wrote out.old at (printed (total_line n ∷ [])) out.new result }
-{
-    let first = put_bytes(out, at, b"total");
-    let second = put_number(out, first, n);
-    put(out, second, 10)
-}
-
-fn put_counted(out: &mut [u8], at: usize, net: Net) -> usize
-    ensures { Wrote out.old at (printed (total_line (tuple_count net) ∷ [])) out.new result }
-{
-    let n = tuple_count(net);
-    put_total(out, at, n)
-}
-
 // The last line of a register, where it is shown.
-fn put_closing(out: &mut [u8], at: usize, parts: Parts, net: Net) -> usize
-    ensures { Wrote out.old at (printed (closing_lines parts net)) out.new result }
+fn put_closing(out: &mut Writer<'_, u8>, parts: Parts, net: &Net)
+    ensures { out.new ≡ after out.old (printed (closing_lines parts net.now)) }
 {
     if parts.total {
-        put_counted(out, at, net)
-    } else {
-        at
+        put_line(out, b"total", &[tuple_count(net)]);
     }
 }
 
-// What a register says of the net after the picks.
-pub fn put_after<'a>(
-    out: &mut [u8],
-    at: usize,
-    parts: Parts,
-    site: &'a [u8],
-    office: &'a [u8],
-    net: Net,
-) -> usize
-    ensures { Wrote out.old at (printed (after_lines (named parts site.now office.now) net)) out.new result }
+// What a register says of the net after the picks: the lists of names are tested first.
+pub fn put_after(out: &mut Writer<'_, u8>, shown: Shown<'_>, net: &Net)
+    ensures { out.new ≡ after out.old (printed (after_lines (named shown.entry.parts shown.entry.site.now shown.entry.office.now) net.now)) }
 {
-    let next = put_named(out, at, parts, site, office, net);
-    put_closing(out, next, parts, net)
+    put_nodes(out, shown, test(shown.site, shown.office), net);
+    put_closing(out, shown.parts, net);
 }

@@ -1,67 +1,62 @@
 // Words of a line after its first, which is its name: a space before each.
-ghost use Rattle.std.specs.Prelude.{[], ◌∷◌};
-ghost use Rattle.text.specs.Writing.{Wrote};
-ghost use Rattle.lines.specs.Words.{name, number, reading, address, spaced};
+#![tactic(auto, using(text::proofs::WriterLaws::writing))]
+
+ghost use Rattle.std.specs.Prelude.{◌≡◌, [], ◌∷◌, ◌++◌, map};
+ghost use Rattle.text.specs.Writer.{after};
+ghost use Rattle.lines.specs.Words.{name, number, spaced, printed};
 ghost use Rattle.lines.specs.Lines.{item_word};
 
-use net::locality::Locality;
 use net::tuple::Item;
-use text::decimal::{put_marked, put_signed};
-use text::writing::{put, put_bytes};
+use text::writer::Writer;
 
-// A number.
-pub fn put_number(out: &mut [u8], at: usize, n: usize) -> usize
-    ensures { Wrote out.old at (spaced (number n ∷ [])) out.new result }
+pub fn put_number(out: &mut Writer<'_, u8>, n: usize)
+    ensures { out.new ≡ after out.old (spaced (number n ∷ [])) }
 {
-    put_marked(out, at, 32, n)
+    out.put(b' ');
+    out.decimal(n);
 }
 
-// Two numbers.
-pub fn put_two(out: &mut [u8], at: usize, m: usize, n: usize) -> usize
-    ensures { Wrote out.old at (spaced (number m ∷ number n ∷ [])) out.new result }
+pub fn put_name(out: &mut Writer<'_, u8>, text: &[u8])
+    ensures { out.new ≡ after out.old (spaced (name text.now ∷ [])) }
 {
-    let next = put_number(out, at, m);
-    put_number(out, next, n)
+    out.put(b' ');
+    out.put_all(text);
 }
 
-// A name.
-pub fn put_name(out: &mut [u8], at: usize, text: &[u8]) -> usize
-    ensures { Wrote out.old at (spaced (name text.now ∷ [])) out.new result }
+// A tuple's field: a reading, or an address with its @.
+pub fn put_item(out: &mut Writer<'_, u8>, item: Item)
+    ensures { out.new ≡ after out.old (spaced (item_word item ∷ [])) }
 {
-    let next = put(out, at, 32);
-    put_bytes(out, next, text)
-}
-
-// A number with its label before it.
-pub fn put_labelled(out: &mut [u8], at: usize, label: &[u8], n: usize) -> usize
-    ensures { Wrote out.old at (spaced (name label.now ∷ number n ∷ [])) out.new result }
-{
-    let next = put_name(out, at, label);
-    put_number(out, next, n)
-}
-
-// A reading.
-fn put_reading(out: &mut [u8], at: usize, x: i32) -> usize
-    ensures { Wrote out.old at (spaced (reading x ∷ [])) out.new result }
-{
-    let next = put(out, at, 32);
-    put_signed(out, next, x)
-}
-
-// An address with its @.
-fn put_address(out: &mut [u8], at: usize, l: Locality) -> usize
-    ensures { Wrote out.old at (spaced (address l ∷ [])) out.new result }
-{
-    let next = put(out, at, 32);
-    put_marked(out, next, 64, l.0 as usize)
-}
-
-// A tuple's field.
-pub fn put_item(out: &mut [u8], at: usize, item: Item) -> usize
-    ensures { Wrote out.old at (spaced (item_word item ∷ [])) out.new result }
-{
+    out.put(b' ');
     match item {
-        Item::Reading(x) => put_reading(out, at, x),
-        Item::Address(l) => put_address(out, at, l),
+        Item::Reading(x) => out.signed_decimal(x),
+        Item::Address(l) => {
+            out.put(b'@');
+            out.decimal(l.0 as usize);
+        }
     }
+}
+
+fn put_numbers(out: &mut Writer<'_, u8>, numbers: &[usize])
+    ensures { out.new ≡ after out.old (spaced (map number numbers.now)) }
+{
+    for n in numbers {
+        put_number(out, *n);
+    }
+}
+
+// A line's name and the numbers after it.
+pub fn put_start(out: &mut Writer<'_, u8>, text: &[u8], numbers: &[usize])
+    ensures { out.new ≡ after out.old (text.now ++ spaced (map number numbers.now)) }
+{
+    out.put_all(text);
+    put_numbers(out, numbers);
+}
+
+// A line of numbers.
+pub fn put_line(out: &mut Writer<'_, u8>, text: &[u8], numbers: &[usize])
+    ensures { out.new ≡ after out.old (printed ((name text.now ∷ map number numbers.now) ∷ [])) }
+{
+    put_start(out, text, numbers);
+    out.put(b'\n');
 }

@@ -13,7 +13,7 @@ use mir.Val.{Fits}
 use Rattle.net.specs.Choice.{choose}
 use Rattle.net.proofs.Laws.{choose_true}
 use Rattle.text.specs.Buffer.{over}
-use Rattle.registers.specs.declared.register.Registered.{Registered}
+use Rattle.std.specs.Prelude.{Option, Some, None}
 use Rattle.registers.specs.Calls.{written_in, registered_of, registered_length}
 use Rattle.lines.specs.declared.shown.Parts.{Parts}
 use Rattle.lines.specs.Words.{printed}
@@ -26,13 +26,13 @@ use Rattle.listing.specs.Comparing.{compared_of}
 use Rattle.listing.specs.Written.{Holds, ComparedIn}
 use Rattle.listing.proofs.ListingClaims.{compared_is}
 
-module _ (out : List ℕ) (written : Registered) where
+module _ (out : List ℕ) (written : Option ℕ) where
   -- as much as was written
-  pub written_inside : (n : ℕ) → written ≡ Registered.Written n → registered_length written ≤ length out → n ≤ length out
+  pub written_inside : (n : ℕ) → written ≡ Some n → registered_length written ≤ length out → n ≤ length out
   unfolding registered_length
   written_inside n e h = omega (arith, ap registered_length e, h)
 
-  pub written_compared : (listing : List ℕ) (r : Checked) (n : ℕ) → written ≡ Registered.Written n → r ≡ compared_of (take n out) listing → ComparedIn out written listing r
+  pub written_compared : (listing : List ℕ) (r : Checked) (n : ℕ) → written ≡ Some n → r ≡ compared_of (take n out) listing → ComparedIn out written listing r
   unfolding registered_length
   written_compared listing r n e c = record {
     is = λ text l.
@@ -40,12 +40,12 @@ module _ (out : List ℕ) (written : Registered) where
         c ∙ ap (λ (xs : List ℕ). compared_of xs listing) (ap (λ (k : ℕ). take k out) long ∙ l.front);
   }
 
-  pub written_never : (listing : List ℕ) (r : Checked) → written ≡ Registered.NoRoom → ComparedIn out written listing r
+  pub written_never : (listing : List ℕ) (r : Checked) → written ≡ None → ComparedIn out written listing r
   written_never listing r e = record { is = λ text l. let whole = l.whole in let z : ◌≡◌ {A = ℕ} 0 1 = cc in absurd (omega arith) }
 
 -- ---- what the call that writes a register promises
-module _ (before out text : List ℕ) (written : Registered) (e : written ≡ registered_of text (length before)) where
-  fits_whole : (t : Bool) → leb (length text) (length before) ≡ t → registered_length (choose t (Registered.Written (length text)) Registered.NoRoom) ≤ length before
+module _ (before out text : List ℕ) (written : Option ℕ) (e : written ≡ registered_of text (length before)) where
+  fits_whole : (t : Bool) → leb (length text) (length before) ≡ t → registered_length (choose t (Some (length text)) None) ≤ length before
   unfolding registered_length choose
   fits_whole true h = leb-true _ _ h
   fits_whole false h = omega arith
@@ -63,7 +63,7 @@ module _ (before out text : List ℕ) (written : Registered) (e : written ≡ re
 
 -- ---- the whole check
 module _
-    (image picks listing before out : List ℕ) (age : Age) (parts : Parts) (written : Registered) (r : Checked)
+    (image picks listing before out : List ℕ) (age : Age) (parts : Parts) (written : Option ℕ) (r : Checked)
   where
     -- what an age shows, printed
     wanted_is : parts ≡ parts_for age → register_as (unnamed parts) image picks ≡ printed (wanted_lines image picks age)

@@ -7,7 +7,7 @@ ghost use Rattle.listing.specs.Written.{ComparedIn};
 
 use crate::comparing::compare;
 use lines::shown::{Parts, all_parts, no_parts};
-use registers::register::{Registered, register_showing};
+use registers::register::register_showing;
 use registers::room::room;
 
 // How many bytes the longest listing has that agrees: one more of a listing decides what is answered (proved:
@@ -52,13 +52,13 @@ pub fn line_of(checked: Result<(), Mismatch>) -> usize
 }
 
 // The register that was written at a buffer's start, with a listing.
-fn compare_written(out: &[u8], written: Registered, listing: &[u8]) -> Result<(), Mismatch>
+fn compare_written(out: &[u8], written: Option<usize>, listing: &[u8]) -> Result<(), Mismatch>
     requires { registered_length written ≤ length out.now }
     ensures { ComparedIn out.now written listing.now result }
 {
     match written {
-        Registered::Written(n) => compare(&out[..n], listing),
-        Registered::NoRoom => Ok(()),
+        Some(n) => compare(&out[..n], listing),
+        None => Ok(()),
     }
 }
 

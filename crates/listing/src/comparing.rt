@@ -168,6 +168,8 @@ fn ended(theirs: &[u8], at: Cursor) -> Result<(), Mismatch>
     }
 }
 
+// Kept: a while: a cursor moves on by all digits of a number at once, and no count of the turns is known.
+
 // Our register with a listing.
 pub(crate) fn compare(ours: &[u8], theirs: &[u8]) -> Result<(), Mismatch>
     ensures { result ≡ compared_of ours.now theirs.now }

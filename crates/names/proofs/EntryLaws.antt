@@ -1,5 +1,6 @@
 -- Laws of the entries of a list of names (`specs/Names.antt`), and of the loops over them: before each turn, the entries
 -- that are left give what all of them give. Assumes nothing.
+use Rattle.std.specs.Prelude.{Some, None, Result, Ok, Err, IsTrue, EachIndex, slice_index, ◌↔◌}
 use Prim.Native.Nat.{ℕ, zero, suc, ◌+◌, ◌-◌, ◌/◌, ◌<◌, ◌≤◌}
 use mathlib.Core.Path.{◌≡◌, refl, sym, ap, ◌∙◌}
 use mathlib.Core.Bool.{Bool, true, false}
@@ -10,12 +11,49 @@ use lib.Seq.{drop-cons, drop-drop, take_all}
 use lib.Dec.{eqb}
 use borrow.Author.Tests.{eq-eqb, ne_eqb}
 use Rattle.net.specs.Choice.{choose}
-use Rattle.net.proofs.Laws.{choose_true, choose_false, if_true, if_false, if_lt, if_not_lt}
+use Rattle.net.proofs.Laws.{all_i, all_e, in_range_law, in_range_low, in_range_high, choose_true, choose_false, if_true, if_false, if_lt, if_not_lt}
 use Rattle.net.specs.declared.locality.Locality.{Locality}
-use Rattle.names.specs.Names.{Found, size_at, address_at, text_at, places_from, places_of, length_fault, cut_fault, all_letters}
+use Rattle.names.specs.Names.{size_at, address_at, text_at, places_from, places_of, length_fault, cut_fault, letter_at, all_letters}
 use Rattle.names.specs.Names.{letter_fault, entry_fault, first_of, fault_among}
 use Rattle.names.specs.Names.{list_fault, found_among, found_in}
 use Rattle.names.specs.Lookup.{Sought}
+use Rattle.std.specs.Result.{result_and}
+use Rattle.names.specs.declared.entries.NamesFault.{NamesFault}
+use Rattle.names.specs.Faults.{fault_number, number_of}
+
+-- ---- the number that a test answers
+pub is_fault : (fault : NamesFault) → fault_number fault ≡ 0 → ⊥
+unfolding fault_number
+is_fault NamesFault.NoLength e = omega arith
+is_fault NamesFault.CutShort e = omega arith
+is_fault NamesFault.OutOfRange e = omega arith
+
+pub number_and : (a b : Result (Unit {0}) NamesFault) → number_of (result_and a b) ≡ first_of (number_of a) (number_of b)
+unfolding number_of first_of
+number_and (Ok x) b = sym (choose_true _ _ _ refl)
+number_and (Err fault) b = sym (choose_false _ _ _ (ne_eqb _ 0 (is_fault fault)))
+
+first_none : (m : ℕ) → first_of 0 m ≡ m
+unfolding first_of
+first_none m = choose_true _ _ _ refl
+
+first_some : (n m : ℕ) → first_of (suc n) m ≡ suc n
+unfolding first_of
+first_some n m = choose_false _ _ _ (ne_eqb (suc n) 0 (λ e. omega arith))
+
+first_first : (n m k : ℕ) → first_of (first_of n m) k ≡ first_of n (first_of m k)
+first_first zero m k = rw (first_none m, first_none (first_of m k)) refl
+first_first (suc n) m k = rw (first_some n m, first_some n k, first_some n (first_of m k)) refl
+
+-- by what it answers
+module _ (tested : Result (Unit {0}) NamesFault) where
+  pub number_ok : (x : Unit {0}) → tested ≡ Ok x → number_of tested ≡ 0
+  unfolding number_of
+  number_ok x e = rw e refl
+
+  pub number_err : (fault : NamesFault) → tested ≡ Err fault → number_of tested ≡ 0 → ⊥
+  unfolding number_of
+  number_err fault e z = is_fault fault (ap number_of (sym e) ∙ z)
 
 -- ---- the places of entries
 skipped : (at skip : ℕ) (list : List ℕ) → places_from at skip list ≡ places_from (skip + at) 0 (drop skip list)
@@ -67,24 +105,25 @@ module _ (list : List ℕ) (at : ℕ) (h : at < length list) where
   pub found_next :
       (a : Locality)
       → found_among list a (places_after list at)
-      ≡ choose (eqb (address_at list at) a.0) (Found.At at) (found_among list a (places_after list (entry_end list at)))
+      ≡ choose (eqb (address_at list at) a.0) (Some at) (found_among list a (places_after list (entry_end list at)))
   unfolding found_among
   found_next a = ap (found_among list a) (places_next list at h)
 
   -- the first fault
   pub fault_again :
-      (n next : ℕ) → Left list (fault_among list) at → n ≡ entry_fault list at → n ≡ 0 → next ≡ entry_end list at
+      (next : ℕ) → Left list (fault_among list) at → 0 ≡ entry_fault list at → next ≡ entry_end list at
       → Left list (fault_among list) next
   unfolding first_of
-  fault_again n next l e z p = record {
+  fault_again next l e p = record {
     same = ap (λ (q : ℕ). fault_among list (places_after list q)) p
-        ∙ sym (fault_next ∙ choose_true _ _ _ (eq-eqb _ 0 (sym e ∙ z))) ∙ l.same;
+        ∙ sym (fault_next ∙ choose_true _ _ _ (eq-eqb _ 0 (sym e))) ∙ l.same;
   }
 
   pub fault_here :
-      (n : ℕ) → Left list (fault_among list) at → n ≡ entry_fault list at → (n ≡ 0 → ⊥) → n ≡ list_fault list
-  unfolding first_of list_fault
-  fault_here n l e z = e ∙ sym (fault_next ∙ choose_false _ _ _ (ne_eqb _ 0 (λ q. z (e ∙ q)))) ∙ l.same
+      (fault : NamesFault) → Left list (fault_among list) at → number_of (Err fault) ≡ entry_fault list at
+      → number_of (Err fault) ≡ list_fault list
+  unfolding first_of list_fault number_of
+  fault_here fault l e = e ∙ sym (fault_next ∙ choose_false _ _ _ (ne_eqb _ 0 (λ q. is_fault fault (e ∙ q)))) ∙ l.same
 
   -- the first entry for an address
   module _ (a : Locality) where
@@ -97,7 +136,7 @@ module _ (list : List ℕ) (at : ℕ) (h : at < length list) where
           ∙ sym (found_next a ∙ choose_false _ _ _ (ne_eqb _ _ z)) ∙ l.same;
     }
 
-    pub found_here : Left list (found_among list a) at → get_or list at 0 / 16 ≡ a.0 → Sought list a (Found.At at)
+    pub found_here : Left list (found_among list a) at → get_or list at 0 / 16 ≡ a.0 → Sought list a (Some at)
     unfolding address_at found_in
     found_here l e = record {
       first = sym (found_next a ∙ choose_true _ _ _ (eq-eqb _ _ e)) ∙ l.same;
@@ -110,7 +149,7 @@ module _ (list : List ℕ) (at : ℕ) (h : length list ≤ at) where
   unfolding fault_among
   fault_past = ap (fault_among list) (places_none list at h)
 
-  pub found_past : (a : Locality) → found_among list a (places_after list at) ≡ Found.Nothing
+  pub found_past : (a : Locality) → found_among list a (places_after list at) ≡ None
   unfolding found_among
   found_past a = ap (found_among list a) (places_none list at h)
 
@@ -118,7 +157,7 @@ module _ (list : List ℕ) (at : ℕ) (h : length list ≤ at) where
   unfolding list_fault
   fault_none l = sym fault_past ∙ l.same
 
-  pub found_none : (a : Locality) → Left list (found_among list a) at → Sought list a Found.Nothing
+  pub found_none : (a : Locality) → Left list (found_among list a) at → Sought list a None
   unfolding found_in
   found_none a l = record {
     first = sym (found_past a) ∙ l.same;
@@ -151,6 +190,20 @@ module _ (list : List ℕ) (at end : ℕ) (e : end ≡ entry_end list at) (h : a
       let enough : size_at list at ≤ length (drop (at + 1) list) = omega arith in
       if_not_lt _ _ _ _ _ enough refl
 
+-- ---- letters
+same_truth : (a b : Bool) → (a ≡ true → b ≡ true) → (b ≡ true → a ≡ true) → a ≡ b
+same_truth true b f g = sym (f refl)
+same_truth false true f g = g refl
+same_truth false false f g = refl
+
+-- what the chain over a text says
+pub letters_each :
+    (text : List ℕ) (ok : Bool) → (IsTrue ok ↔ EachIndex text (λ k. (33 ≤ slice_index text k) × (slice_index text k ≤ 126))) → ok ≡ all_letters text
+unfolding all_letters letter_at
+letters_each text ok e =
+    same_truth ok _ (λ h. all_i (length text) _ (λ i l. in_range_law 33 _ 126 (e.0 h i l).0 (e.0 h i l).1))
+    (λ h. e.1 (λ i l. (in_range_low 33 _ 126 (all_e (length text) _ h i l), in_range_high 33 _ 126 (all_e (length text) _ h i l))))
+
 -- ---- letters in the text of an entry
 module _ (list text : List ℕ) (at : ℕ) (ok : Bool) (t : text ≡ take (size_at list at) (drop (at + 1) list)) (e : ok ≡ all_letters text) where
   pub in_letters : ok ≡ true → 0 ≡ letter_fault list at
@@ -163,7 +216,8 @@ module _ (list text : List ℕ) (at : ℕ) (ok : Bool) (t : text ≡ take (size_
 
 -- ---- the faults of an entry, in their order
 pub entry_tested :
-    (list : List ℕ) (at size cut letter later n : ℕ) → size ≡ length_fault list at → cut ≡ cut_fault list at
-    → letter ≡ letter_fault list at → later ≡ first_of cut letter → n ≡ first_of size later → n ≡ entry_fault list at
+    (list : List ℕ) (at : ℕ) (size end letters : Result (Unit {0}) NamesFault) → number_of size ≡ length_fault list at
+    → number_of end ≡ cut_fault list at → number_of letters ≡ letter_fault list at
+    → number_of (result_and (result_and size end) letters) ≡ entry_fault list at
 unfolding entry_fault
-entry_tested list at size cut letter later n s c l m e = cc
+entry_tested list at size end letters s c l = rw (number_and, number_and, s, c, l, first_first) refl

@@ -1,5 +1,6 @@
 -- A name is the text of the first entry for its address, and what it is made of (`specs/NameClaims.antt`). Assumes nothing.
-use Prim.Native.Nat.{ℕ, ◌+◌, ◌/◌, ◌<◌, ◌≤◌}
+use Rattle.std.specs.Prelude.{Option, Some, None}
+use Prim.Native.Nat.{ℕ, ◌/◌, ◌<◌, ◌≤◌}
 use mathlib.Core.Path.{◌≡◌, refl, sym, ap, subst, ◌∙◌}
 use mathlib.Core.List.{List, [], ◌∷◌, ◌++◌}
 use native.Mathlib.Omega.{arith}
@@ -10,13 +11,13 @@ use borrow.Author.Tests.{eqb-true, eqb-false, eq-eqb, ne_eqb}
 use Rattle.net.proofs.Laws.{choose_true, choose_false}
 use Rattle.net.proofs.Every.{chosen}
 use Rattle.net.specs.declared.locality.Locality.{Locality}
-use Rattle.names.specs.Names.{Found, of_office, address_at, text_at, places_of, names_fault, found_among, found_in, no_name}
+use Rattle.names.specs.Names.{of_office, address_at, text_at, places_of, names_fault, found_among, found_in, no_name}
 use Rattle.names.specs.Names.{stretch_for, stretch_after, bytes_of, name_after, stretch_of, name_of}
 use Rattle.names.specs.NameClaims.{Letters, Text, Entry, first_byte, Entries, no_entries, entry_then, FirstFault, no_fault}
 use Rattle.names.specs.NameClaims.{past_entry, length_of_nought, cut_short, out_of_range}
 use Rattle.names.specs.NameClaims.{FirstOfTwo, in_site, past_site, FaultNamesNone, FirstFor, here, later, NoneFor}
-use Rattle.names.specs.NameClaims.{nothing_left_law, other}
-use Rattle.names.specs.NameClaims.{EntryFor, of_site_law, of_office_law, InNeither, in_neither, NameIsEntry, NoneAboveFifteen, NameIsShort}
+use Rattle.names.specs.NameClaims.{nothing_left, other}
+use Rattle.names.specs.NameClaims.{EntryFor, named_by_site, named_by_office, InNeither, in_neither, NameIsEntry, NoneAboveFifteen, NameIsShort}
 use Rattle.names.proofs.EntryLaws.{places_after, entry_end, found_next, found_past}
 use Rattle.names.proofs.Standing.{stands, ended, address_there, text_there, after_there, address_is, text_is, rest_is}
 use Rattle.names.proofs.FirstFault.{first_fault_of_names}
@@ -48,19 +49,19 @@ is_whole list n z (cut_short a size l u c) = absurd (omega arith)
 is_whole list n z (out_of_range a text rest i l u h w) = absurd (omega arith)
 
 -- ---- what is found in a list that is entries
-data FoundFor (list : List ℕ) (a : Locality) (entries : List Entry) : Found → Type 0 where
-  found_at : {p : ℕ} → FirstFor a.0 entries (text_at list p) → FoundFor list a entries (Found.At p)
-  not_found : NoneFor a.0 entries → FoundFor list a entries Found.Nothing
+data FoundFor (list : List ℕ) (a : Locality) (entries : List Entry) : Option ℕ → Type 0 where
+  found_at : {p : ℕ} → FirstFor a.0 entries (text_at list p) → FoundFor list a entries (Some p)
+  not_found : NoneFor a.0 entries → FoundFor list a entries None
 
 module _ (list : List ℕ) (a : Locality) where
   found_later :
-      (e : Entry) (entries : List Entry) (f : Found) → (e.address ≡ a.0 → ⊥) → FoundFor list a entries f
+      (e : Entry) (entries : List Entry) (f : Option ℕ) → (e.address ≡ a.0 → ⊥) → FoundFor list a entries f
       → FoundFor list a (e ∷ entries) f
   found_later e entries _ n (found_at h) = found_at (later n h)
   found_later e entries _ n (not_found h) = not_found (other n h)
 
   first_here : (b : ℕ) (text : List ℕ) (entries : List Entry) (at : ℕ) → b ≡ a.0 → text_at list at ≡ text
-      → FoundFor list a (record { address = b; text = text } ∷ entries) (Found.At at)
+      → FoundFor list a (record { address = b; text = text } ∷ entries) (Some at)
   first_here b text entries at e t =
       found_at
       (subst (λ (x : ℕ). FirstFor a.0 (record { address = x; text = text } ∷ entries) (text_at list at)) (sym e)
@@ -69,7 +70,7 @@ module _ (list : List ℕ) (a : Locality) where
   found_for :
       (at : ℕ) (tail : List ℕ) (entries : List Entry) → drop at list ≡ tail → Entries tail entries
       → FoundFor list a entries (found_among list a (places_after list at))
-  found_for at _ _ e no_entries = subst (FoundFor list a []) (sym (found_past list at (ended list at e) a)) (not_found nothing_left_law)
+  found_for at _ _ e no_entries = subst (FoundFor list a []) (sym (found_past list at (ended list at e) a)) (not_found nothing_left)
   found_for at _ _ e (entry_then {a = b} {text = text} {rest = rest} {entries = entries} t es) =
       let s = stands list at _ _ e in
       let entry : Entry = record { address = b; text = text } in
@@ -91,7 +92,7 @@ data Outcome (a : Locality) (sites offices : List Entry) : List ℕ → Type 0 w
   from_neither : NoneFor a.0 sites → NoneFor a.0 offices → Outcome a sites offices []
 
 outcome :
-    (site office : List ℕ) (a : Locality) (sites offices : List Entry) (f g : Found) → FoundFor site a sites f
+    (site office : List ℕ) (a : Locality) (sites offices : List Entry) (f g : Option ℕ) → FoundFor site a sites f
     → FoundFor office a offices g → Outcome a sites offices (bytes_of site office (stretch_for site office f g))
 unfolding bytes_of stretch_for no_name text_at
 outcome site office a sites offices _ g (found_at h) w = from_site h
@@ -125,8 +126,8 @@ module _ (site office : List ℕ) (a : Locality) where
   entry_of :
       {sites offices : List Entry} (name : List ℕ) → Entries site sites → Entries office offices
       → Outcome a sites offices name → (name ≡ [] → ⊥) → EntryFor site office a name
-  entry_of name e w (from_site f) n = of_site_law e f
-  entry_of name e w (from_office h f) n = of_office_law e h w f
+  entry_of name e w (from_site f) n = named_by_site e f
+  entry_of name e w (from_office h f) n = named_by_office e h w f
   entry_of name e w (from_neither h g) n = absurd (n refl)
 
   neither_of :
@@ -171,8 +172,8 @@ module _ (site office : List ℕ) (a : Locality) where
   name_text n = go (is_entry n)
     where
       go : EntryFor site office a (name_of site office a) → Text (name_of site office a)
-      go (of_site_law e f) = first_text a.0 e f
-      go (of_office_law e h w f) = first_text a.0 w f
+      go (named_by_site e f) = first_text a.0 e f
+      go (named_by_office e h w f) = first_text a.0 w f
 
 pub name_is_entry : NameIsEntry
 name_is_entry = record { entry = is_entry; empty = is_neither }
@@ -193,7 +194,7 @@ name_is_short = record {
 -- ---- an address above 15
 found_above :
     (list : List ℕ) (a : Locality) (places : List ℕ) → ((i : ℕ) → get_or list i 0 < 256) → 15 < a.0
-    → found_among list a places ≡ Found.Nothing
+    → found_among list a places ≡ None
 unfolding found_among address_at
 found_above list a [] small h = refl
 found_above list a (p ∷ places) small h =
@@ -201,7 +202,7 @@ found_above list a (p ∷ places) small h =
     choose_false _ _ _ (ne_eqb (get_or list p 0 / 16) a.0 (λ e. omega arith)) ∙ found_above list a places small h
 
 none_found :
-    (site office : List ℕ) (f g : Found) → f ≡ Found.Nothing → g ≡ Found.Nothing
+    (site office : List ℕ) (f g : Option ℕ) → f ≡ None → g ≡ None
     → bytes_of site office (stretch_for site office f g) ≡ []
 unfolding bytes_of stretch_for no_name
 none_found site office f g e w = rw (e, w)

@@ -1,3 +1,4 @@
+pub mod Faults
 pub mod Lookup
 pub mod NameClaims
 pub mod Names

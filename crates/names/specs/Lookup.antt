@@ -1,8 +1,8 @@
 -- What is promised of a reference that is handed back: which part of which lent list it is.
-use Rattle.std.specs.Prelude.{ℕ, ◌+◌, ◌<◌, ◌≡◌, List, length, take, drop}
+use Rattle.std.specs.Prelude.{ℕ, ◌+◌, ◌<◌, ◌≡◌, List, Option, None, Some, length, take, drop}
 use Rattle.std.specs.Borrow.{Bor}
 use Rattle.net.specs.declared.locality.Locality.{Locality}
-use Rattle.names.specs.Names.{Found, Stretch, of_site, of_office, size_at, found_in, stretch_for, stretch_after, name_after}
+use Rattle.names.specs.Names.{Stretch, of_site, of_office, size_at, found_in, stretch_for, stretch_after, name_after}
 use Rattle.names.specs.Names.{stretch_of, name_of}
 
 -- r points to a place of a lent list, and reaches over so many bytes from there
@@ -29,15 +29,15 @@ pub record Named (site office : Bor (List ℕ)) (a : Locality) (r : Bor (List �
 -- ---- describes the code, and is no part of what a reader has to believe
 
 -- the first entry for an address was looked for
-pub record Sought (list : List ℕ) (a : Locality) (found : Found) : Type 0 where
+pub record Sought (list : List ℕ) (a : Locality) (found : Option ℕ) : Type 0 where
   pub first : found ≡ found_in list a
-  pub inside : (p : ℕ) → found ≡ Found.At p → p < length list
+  pub inside : (p : ℕ) → found ≡ Some p → p < length list
 
 -- r is the text of the entry found in a lent list, or none of the list's bytes
-unfoldable pub TextFound : Bor (List ℕ) → Found → Bor (List ℕ) → Type 0
-TextFound list (Found.At p) r = PartOf list (p + 1) (size_at list.now p) r
-TextFound list Found.Nothing r = PartOf list 0 0 r
+unfoldable pub TextFound : Bor (List ℕ) → Option ℕ → Bor (List ℕ) → Type 0
+TextFound list (Some p) r = PartOf list (p + 1) (size_at list.now p) r
+TextFound list None r = PartOf list 0 0 r
 
 -- r is the stretch for what was found in the two lists
-unfoldable pub Picked : Bor (List ℕ) → Bor (List ℕ) → Found → Found → Bor (List ℕ) → Type 0
+unfoldable pub Picked : Bor (List ℕ) → Bor (List ℕ) → Option ℕ → Option ℕ → Bor (List ℕ) → Type 0
 Picked site office inSite inOffice r = PartOfOne site office (stretch_for site.now office.now inSite inOffice) r

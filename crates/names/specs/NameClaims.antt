@@ -86,12 +86,12 @@ pub data FirstFor (a : ℕ) : List Entry → List ℕ → Type 0 where
 
 -- no entry is for it
 pub data NoneFor (a : ℕ) : List Entry → Type 0 where
-  nothing_left_law : NoneFor a []
+  nothing_left : NoneFor a []
   other : {e : Entry} {entries : List Entry} → (e.address ≡ a → ⊥) → NoneFor a entries → NoneFor a (e ∷ entries)
 
 pub data EntryFor (site office : List ℕ) (a : Locality) (name : List ℕ) : Type 0 where
-  of_site_law : {entries : List Entry} → Entries site entries → FirstFor a.0 entries name → EntryFor site office a name
-  of_office_law :
+  named_by_site : {entries : List Entry} → Entries site entries → FirstFor a.0 entries name → EntryFor site office a name
+  named_by_office :
       {entries more : List Entry}
       → Entries site entries
       → NoneFor a.0 entries

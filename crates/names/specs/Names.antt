@@ -1,7 +1,6 @@
 -- Station names (document 02, slip 14): a list of names, what is tested of two of them, and the stretch that is the name of
 -- an address.
-pub use Rattle.names.specs.declared.entries.Found.{Found}
-use Rattle.std.specs.Prelude.{ℕ, zero, suc, ◌+◌, ◌/◌, ◌%◌, Bool, List, [], ◌∷◌, length, get_or, take, drop, eqb, ltb}
+use Rattle.std.specs.Prelude.{ℕ, zero, suc, ◌+◌, ◌/◌, ◌%◌, Bool, List, [], ◌∷◌, length, get_or, take, drop, eqb, ltb, Option, None, Some}
 use Rattle.net.specs.Choice.{choose, in_range, all}
 use Rattle.net.specs.declared.locality.Locality.{Locality}
 
@@ -63,11 +62,11 @@ unfoldable pub names_fault : List ℕ → List ℕ → ℕ
 names_fault site office = first_of (list_fault site) (list_fault office)
 
 -- ---- "the first entry for an address wins"
-unfoldable pub found_among : List ℕ → Locality → List ℕ → Found
-found_among list a [] = Found.Nothing
-found_among list a (p ∷ places) = choose (eqb (address_at list p) a.0) (Found.At p) (found_among list a places)
+unfoldable pub found_among : List ℕ → Locality → List ℕ → Option ℕ
+found_among list a [] = None
+found_among list a (p ∷ places) = choose (eqb (address_at list p) a.0) (Some p) (found_among list a places)
 
-unfoldable pub found_in : List ℕ → Locality → Found
+unfoldable pub found_in : List ℕ → Locality → Option ℕ
 found_in list a = found_among list a (places_of list)
 
 -- ---- the name handed back
@@ -82,10 +81,10 @@ unfoldable pub no_name : Stretch
 no_name = of_office 0 0
 
 -- "the stretch of the site's list or, failing that, of the office's", "and an address in neither gets an empty stretch"
-unfoldable pub stretch_for : List ℕ → List ℕ → Found → Found → Stretch
-stretch_for site office (Found.At p) other = of_site (p + 1) (size_at site p)
-stretch_for site office Found.Nothing (Found.At p) = of_office (p + 1) (size_at office p)
-stretch_for site office Found.Nothing Found.Nothing = no_name
+unfoldable pub stretch_for : List ℕ → List ℕ → Option ℕ → Option ℕ → Stretch
+stretch_for site office (Some p) other = of_site (p + 1) (size_at site p)
+stretch_for site office None (Some p) = of_office (p + 1) (size_at office p)
+stretch_for site office None None = no_name
 
 -- where the test of the two lists gave this number: a fault "returns that empty stretch"
 unfoldable pub stretch_after : ℕ → List ℕ → List ℕ → Locality → Stretch

@@ -1,16 +1,29 @@
 // The entries of a list of names (document 02, slip 14). An entry is known by the place of its first byte.
 ghost use Rattle.std.specs.Prelude.{◌≡◌, ◌+◌, ◌<◌, length};
-ghost use Rattle.net.specs.Choice.{in_range};
-ghost use Rattle.names.specs.Names.{size_at, length_fault, cut_fault, all_letters, letter_fault, first_of, entry_fault, list_fault};
+ghost use Rattle.names.specs.Names.{size_at, length_fault, cut_fault, all_letters, letter_fault, entry_fault, list_fault};
+ghost use Rattle.names.specs.Faults.{fault_number, number_of};
 ghost use Rattle.names.specs.Lookup.{PartOf, Sought};
 
 use net::locality::Locality;
 
-// The place of the first entry for an address.
-#[derive(Clone, Copy)]
-pub enum Found {
-    At(usize),
-    Nothing,
+// What is wrong with an entry: its length is 0, the list ends before it does, or a byte of its text is out of range.
+#[derive(Clone, Copy, Debug, PartialEq, Eq)]
+pub enum NamesFault {
+    NoLength,
+    CutShort,
+    OutOfRange,
+}
+
+impl NamesFault {
+    pub fn number(self) -> u8
+        ensures { result ≡ fault_number self }
+    {
+        match self {
+            NamesFault::NoLength => 51,
+            NamesFault::CutShort => 52,
+            NamesFault::OutOfRange => 53,
+        }
+    }
 }
 
 // The place after an entry; past the list's end, where the entry is cut short.
@@ -18,8 +31,7 @@ fn end_of(list: &[u8], at: usize) -> usize
     requires { at < length list.now }
     ensures { result ≡ at + 1 + size_at list.now at }
 {
-    let size = (list[at] % 16) as usize;
-    at + 1 + size
+    at + 1 + (list[at] % 16) as usize
 }
 
 // The text of an entry, as far as the list reaches.
@@ -38,101 +50,81 @@ pub(crate) fn text_at(list: &[u8], at: usize) -> &[u8]
 
 // ---- the test of a list
 
-// 51, where the length is 0.
-fn length_fault(list: &[u8], at: usize) -> u8
+fn test_length(list: &[u8], at: usize) -> Result<(), NamesFault>
     requires { at < length list.now }
-    ensures { result ≡ length_fault list.now at }
+    ensures { number_of result ≡ length_fault list.now at }
 {
-    if list[at] % 16 == 0 { 51 } else { 0 }
+    if list[at] % 16 == 0 {
+        Err(NamesFault::NoLength)
+    } else {
+        Ok(())
+    }
 }
 
-// 52, where the list ends before the entry does.
-fn cut_fault(list: &[u8], at: usize) -> u8
+fn test_end(list: &[u8], at: usize) -> Result<(), NamesFault>
     requires { at < length list.now }
-    ensures { result ≡ cut_fault list.now at }
+    ensures { number_of result ≡ cut_fault list.now at }
 {
-    if list.len() < end_of(list, at) { 52 } else { 0 }
+    if list.len() < end_of(list, at) {
+        Err(NamesFault::CutShort)
+    } else {
+        Ok(())
+    }
 }
 
-// Whether a byte may stand in a name.
-fn is_letter(b: u8) -> bool
-    ensures { result ≡ in_range 33 b 126 }
-{
-    (33 <= b) & (b <= 126)
-}
-
-// Whether each byte of a text may.
+// Whether each byte of a text may stand in a name: 33 to 126.
 fn all_letters(text: &[u8]) -> bool
     ensures { result ≡ all_letters text.now }
 {
-    let mut ok = true;
-    let mut i = 0;
-    while i < text.len() {
-        let good = is_letter(text[i]);
-        ok = ok & good;
-        i += 1;
-    }
-    ok
+    text.iter().all(|b| 33 <= *b && *b <= 126)
 }
 
-// 53, where a byte of the text is out of range.
-fn letter_fault(list: &[u8], at: usize) -> u8
+fn test_letters(list: &[u8], at: usize) -> Result<(), NamesFault>
     requires { at < length list.now }
-    ensures { result ≡ letter_fault list.now at }
+    ensures { number_of result ≡ letter_fault list.now at }
 {
     if all_letters(text_at(list, at)) {
-        0
+        Ok(())
     } else {
-        53
+        Err(NamesFault::OutOfRange)
     }
 }
 
-// The first of two numbers that is a fault.
-pub(crate) fn first_of(n: u8, m: u8) -> u8
-    ensures { result ≡ first_of n m }
-{
-    if n == 0 { m } else { n }
-}
-
-// The fault of an entry.
-fn entry_fault(list: &[u8], at: usize) -> u8
+// The first fault of an entry.
+fn test_entry(list: &[u8], at: usize) -> Result<(), NamesFault>
     requires { at < length list.now }
-    ensures { result ≡ entry_fault list.now at }
+    ensures { number_of result ≡ entry_fault list.now at }
 {
-    let size = length_fault(list, at);
-    let cut = cut_fault(list, at);
-    let letter = letter_fault(list, at);
-    let later = first_of(cut, letter);
-    first_of(size, later)
+    let size = test_length(list, at);
+    let end = test_end(list, at);
+    let letters = test_letters(list, at);
+    size.and(end).and(letters)
 }
 
 // The first fault of a list.
-pub(crate) fn list_fault(list: &[u8]) -> u8
-    ensures { result ≡ list_fault list.now }
+// Kept: the step of this loop, and of the one in `find`, is an entry's length, so no range or iterator counts it.
+pub(crate) fn test_list(list: &[u8]) -> Result<(), NamesFault>
+    ensures { number_of result ≡ list_fault list.now }
 {
     let mut at = 0;
     while at < list.len() {
-        let number = entry_fault(list, at);
-        if number != 0 {
-            return number;
-        }
+        test_entry(list, at)?;
         at = end_of(list, at);
     }
-    0
+    Ok(())
 }
 
-// ---- the first entry for an address
+// ---- the place of the first entry for an address
 
-pub(crate) fn find(list: &[u8], address: Locality) -> Found
+pub(crate) fn find(list: &[u8], address: Locality) -> Option<usize>
     ensures { Sought list.now address result }
 {
-    let wanted = address.0;
     let mut at = 0;
     while at < list.len() {
-        if list[at] / 16 == wanted {
-            return Found::At(at);
+        if list[at] / 16 == address.0 {
+            return Some(at);
         }
         at = end_of(list, at);
     }
-    Found::Nothing
+    None
 }

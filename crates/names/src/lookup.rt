@@ -2,18 +2,18 @@
 // (document 02, slip 14).
 ghost use Rattle.std.specs.Prelude.{◌≡◌};
 ghost use Rattle.names.specs.Names.{names_fault, found_in};
+ghost use Rattle.names.specs.Faults.{number_of};
 ghost use Rattle.names.specs.Lookup.{PartOf, TextFound, Picked, NamedAfter, Named};
 
-use crate::entries::{Found, find, first_of, list_fault, text_at};
+use crate::entries::{NamesFault, find, test_list, text_at};
 use net::locality::Locality;
 
-// The number that the test of both lists gives: 0, 51, 52 or 53.
-pub fn fault(site: &[u8], office: &[u8]) -> u8
-    ensures { result ≡ names_fault site.now office.now }
+// The test of both lists: the first fault, the site's before the office's.
+pub fn test(site: &[u8], office: &[u8]) -> Result<(), NamesFault>
+    ensures { number_of result ≡ names_fault site.now office.now }
 {
-    let of_site = list_fault(site);
-    let of_office = list_fault(office);
-    first_of(of_site, of_office)
+    test_list(site)?;
+    test_list(office)
 }
 
 // No bytes of a list.
@@ -27,10 +27,9 @@ fn none_of(list: &[u8]) -> &[u8]
 fn name_in(list: &[u8], address: Locality) -> &[u8]
     ensures { TextFound list.entry (found_in list.now address) result }
 {
-    let found = find(list, address);
-    match found {
-        Found::At(at) => text_at(list, at),
-        Found::Nothing => none_of(list),
+    match find(list, address) {
+        Some(at) => text_at(list, at),
+        None => none_of(list),
     }
 }
 
@@ -38,21 +37,24 @@ fn name_in(list: &[u8], address: Locality) -> &[u8]
 fn listed_name<'a>(site: &'a [u8], office: &'a [u8], address: Locality) -> &'a [u8]
     ensures { Picked site.entry office.entry (found_in site.now address) (found_in office.now address) result }
 {
-    let found = find(site, address);
-    match found {
-        Found::At(at) => text_at(site, at),
-        Found::Nothing => name_in(office, address),
+    match find(site, address) {
+        Some(at) => text_at(site, at),
+        None => name_in(office, address),
     }
 }
 
-// The name, where the test of both lists has given this number: for callers that ask for many names.
-pub fn name_after<'a>(site: &'a [u8], office: &'a [u8], number: u8, address: Locality) -> &'a [u8]
-    ensures { NamedAfter number site.entry office.entry address result }
+// The name, where the test of both lists has answered this: for callers that ask for many names.
+pub fn name_after<'a>(
+    site: &'a [u8],
+    office: &'a [u8],
+    tested: Result<(), NamesFault>,
+    address: Locality,
+) -> &'a [u8]
+    ensures { NamedAfter (number_of tested) site.entry office.entry address result }
 {
-    if number == 0 {
-        listed_name(site, office, address)
-    } else {
-        none_of(office)
+    match tested {
+        Ok(()) => listed_name(site, office, address),
+        Err(_) => none_of(office),
     }
 }
 
@@ -60,6 +62,5 @@ pub fn name_after<'a>(site: &'a [u8], office: &'a [u8], number: u8, address: Loc
 pub fn name<'a>(site: &'a [u8], office: &'a [u8], address: Locality) -> &'a [u8]
     ensures { Named site.entry office.entry address result }
 {
-    let number = fault(site, office);
-    name_after(site, office, number, address)
+    name_after(site, office, test(site, office), address)
 }

@@ -7,7 +7,7 @@ use native.Mathlib.Omega.{arith}
 use native.Mathlib.Numerals.{add-one}
 use lib.Dec.{leb, ltb}
 use borrow.Author.Tests.{lt-ltb, le-ltb, le-leb, lt-leb}
-use Rattle.net.specs.Choice.{both, implies, all}
+use Rattle.net.specs.Choice.{choose, both, implies, all}
 
 -- ---- both
 and_is : (a b : Bool) → (a && b) ≡ both a b
@@ -17,6 +17,15 @@ and_is false b = refl
 
 pub and_both : (a b x y : Bool) → a ≡ x → b ≡ y → (a && b) ≡ both x y
 and_both a b x y p q = and_is a b ∙ ap (λ (z : Bool). both z b) p ∙ ap (both x) q
+
+-- what the code answers once the first of two tests holds
+pub then_both : (a b r : Bool) → a ≡ true → r ≡ b → r ≡ both a b
+unfolding both
+then_both a b r p e = rw p e
+
+pub then_choose : (a b c r : Bool) → a ≡ true → r ≡ b → r ≡ choose a b c
+unfolding choose
+then_choose a b c r p e = rw p e
 
 -- ---- implies: what a branch of the code knows picks the case
 pub when_true : (x y a : Bool) → a ≡ true → x ≡ y → x ≡ implies a y
@@ -53,6 +62,14 @@ more i test ok good p q = and_both ok good _ _ p q
 
 pub all_more : (i : ℕ) (test : ℕ → Bool) (ok good : Bool) → ok ≡ all i test → good ≡ test i → (ok && good) ≡ all (i + 1) test
 all_more i test ok good p q = rw add-one (more i test ok good p q)
+
+-- where the loop ends at the first number that fails
+pub all_begins : (test : ℕ → Bool) → all 0 test ≡ true
+unfolding all
+all_begins test = refl
+
+pub all_goes_on : (i : ℕ) (test : ℕ → Bool) (r : Bool) → all i test ≡ true → r ≡ true → r ≡ test i → all (i + 1) test ≡ true
+all_goes_on i test r p q e = sym (all_more i test true r (sym p) e) ∙ q
 
 pub all_end : (i n : ℕ) (test : ℕ → Bool) (ok : Bool) → ok ≡ all i test → i ≤ n → n ≤ i → ok ≡ all n test
 all_end i n test ok p l g = let e : i ≡ n = omega arith in rw e at p

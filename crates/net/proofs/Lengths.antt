@@ -45,19 +45,19 @@ module _ (R : RattleType) where
     element xs n vs h d i l = at xs h.0 h.1.1 d i (omega (arith, long xs n vs h))
 
 -- ---- type by type
-tuple_shaped : (t : Tuple) (vs : List Val) → Is tuple.the_row t vs → ShapedTuple t
+pub tuple_shaped : (t : Tuple) (vs : List Val) → Is tuple.the_row t vs → ShapedTuple t
 tuple_shaped t vs h = record { fields_are = long tuple_field.the_row t.fields 4 _ h.1.1.1.0 }
 
-process_shaped : (p : Process) (vs : List Val) → Is process.the_row p vs → ShapedProcess p
+pub process_shaped : (p : Process) (vs : List Val) → Is process.the_row p vs → ShapedProcess p
 process_shaped p vs h = record { variables_are = long variable.the_row p.variables 8 _ h.1.1.1.1.1.0 }
 
-instruction_shaped : (c : Instruction) (vs : List Val) → Is instruction.the_row c vs → ShapedInstruction c
+pub instruction_shaped : (c : Instruction) (vs : List Val) → Is instruction.the_row c vs → ShapedInstruction c
 instruction_shaped c vs h = record { template_is = long template_field.the_row c.template 4 _ h.1.1.1.1.0 }
 
-row_shaped : (r : Row) (vs : List Val) → Is row.the_row r vs → ShapedRow r
+pub row_shaped : (r : Row) (vs : List Val) → Is row.the_row r vs → ShapedRow r
 row_shaped r vs h = record { rights_are = long rights.the_row r.rights 16 _ h.1.1.1.0 }
 
-node_shaped : (x : Node) (vs : List Val) → Is node.the_row x vs → ShapedNode x
+pub node_shaped : (x : Node) (vs : List Val) → Is node.the_row x vs → ShapedNode x
 unfolding row_at process_at tuple_at
 node_shaped x vs h =
     let rows-known = h.1.1.0 in

@@ -1,4 +1,5 @@
 pub mod AllLaws
+pub mod AllOver
 pub mod Every
 pub mod FirstLaws
 pub mod FoldLaws

@@ -3,8 +3,7 @@
 #![tactic(auto)]
 
 use files::{Failure, print_first, read_file, say};
-use names::lookup::fault;
-use registers::register::Registered;
+use names::lookup::test;
 use registers::room::room;
 use std::fmt::InlineText;
 
@@ -12,10 +11,10 @@ use std::fmt::InlineText;
 const LONGEST_LIST: usize = 65536;
 
 // Prints the register that the buffer holds.
-fn print_written(rt: &HostRuntime, written: Registered, out: &[u8]) -> Result<(), Failure> {
+fn print_written(rt: &HostRuntime, written: Option<usize>, out: &[u8]) -> Result<(), Failure> {
     match written {
-        Registered::Written(n) => print_first(rt, out, n),
-        Registered::NoRoom => {
+        Some(n) => print_first(rt, out, n),
+        None => {
             say(rt, b"no room for the register\n");
             Err(Failure::Short)
         }
@@ -30,7 +29,7 @@ pub fn print_register<W>(
     write: W,
 ) -> Result<(), Failure>
 where
-    W: FnOnce(&[u8], &[u8], &[u8], &[u8], &mut [u8]) -> Registered,
+    W: FnOnce(&[u8], &[u8], &[u8], &[u8], &mut [u8]) -> Option<usize>,
     requires { W.IsAlwaysCallable write }
 {
     let mut picks = [0u8; 65536];
@@ -48,8 +47,8 @@ where
 
 // Names the fault of two lists of names, where they have one.
 fn say_names(rt: &HostRuntime, site: &[u8], office: &[u8]) {
-    let number = fault(site, office);
-    if number != 0 {
+    if let Err(fault) = test(site, office) {
+        let number = fault.number();
         let line = InlineText::<20>::of(format_args!("names refused {number}\n"));
         say(rt, line.as_str().as_bytes());
     }

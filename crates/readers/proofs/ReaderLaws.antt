@@ -103,6 +103,9 @@ past5 k a b c d e = omega arith
 pub past6 : (k : ℕ) → (k ≡ 0 → ⊥) → (k ≡ 1 → ⊥) → (k ≡ 2 → ⊥) → (k ≡ 3 → ⊥) → (k ≡ 4 → ⊥) → (k ≡ 5 → ⊥) → 6 ≤ k
 past6 k a b c d e f = omega arith
 
+pub past7 : (k : ℕ) → (k ≡ 0 → ⊥) → (k ≡ 1 → ⊥) → (k ≡ 2 → ⊥) → (k ≡ 3 → ⊥) → (k ≡ 4 → ⊥) → (k ≡ 5 → ⊥) → (k ≡ 6 → ⊥) → 7 ≤ k
+past7 k a b c d e f g = let h = past6 k a b c d e f in omega arith
+
 -- ---- a test that has to be passed
 pub not_passed : (ok : Bool) (p n at w : ℕ) (f : Fault) → ok ≡ false → f ≡ fault_at n at w
     → Step.Failed f ≡ choose ok (Step.At p) (Step.Failed (fault_at n at w))

@@ -13,8 +13,10 @@ use borrow.Author.Tests.{le-leb, lt-leb}
 use Rattle.net.specs.Choice.{choose}
 use Rattle.net.proofs.Laws.{choose_true, choose_false}
 use Rattle.text.specs.Buffer.{over}
-use Rattle.text.specs.Writing.{Wrote}
-use Rattle.text.proofs.WritingLaws.{wrote_length, joined_same}
+use Rattle.std.specs.Prelude.{Option, Some, None, if◌then◌else◌, ◌++◌}
+use Rattle.text.specs.declared.writer.Writer.{Writer}
+use Rattle.text.specs.Writer.{after, fitted}
+use Rattle.text.proofs.WritingLaws.{joined_same}
 use Rattle.image.specs.Image.{opened_of}
 use Rattle.notation.specs.Text.{read_of}
 use Rattle.plans.specs.Answer.{number_of}
@@ -30,12 +32,12 @@ use Rattle.lines.specs.Lines.{pick_lines}
 use Rattle.registers.specs.Register.{register_lines, register_in, register_as, register_of, register_text_as, register_text_of}
 use Rattle.registers.specs.Register.{named_register_of, named_register_text_of}
 use Rattle.lines.specs.Lines.{after_lines}
-use Rattle.registers.specs.Calls.{Registered, written_in, registered_of, registered_number, room_number}
+use Rattle.registers.specs.Calls.{written_in, registered_of, registered_number, room_number}
 use Rattle.lines.proofs.LineLaws.{named_none}
-use Rattle.lines.proofs.WordLaws.{printed_none, printed_both, parts_then, lines_then}
+use Rattle.lines.proofs.WordLaws.{lines_after}
 
 -- ---- a register
-chosen_number : (b : Bool) (n : ℕ) → registered_number (choose b (Registered.Written n) Registered.NoRoom) ≡ choose b 0 35
+chosen_number : (b : Bool) (n : ℕ) → registered_number (choose b (Some n) None) ≡ choose b 0 35
 unfolding choose registered_number
 chosen_number true n = refl
 chosen_number false n = refl
@@ -44,30 +46,19 @@ by_lengths : (n room : ℕ) → registered_number (written_in n room) ≡ room_n
 unfolding written_in room_number
 by_lengths n room = chosen_number (leb n room) n
 
--- what is answered at the place where it ends
-module _ (xs text ys : List ℕ) (r : ℕ) (w : Wrote xs 0 text ys r) where
-  ends_whole : length text ≤ length xs → written_in r (length xs) ≡ written_in (length text) (length xs)
-  ends_whole h = ap (λ (n : ℕ). written_in n (length xs)) (w.fits (omega arith) ∙ omega arith)
+-- what a writer gives
+pub written_as : (text : List ℕ) (room : ℕ) (x : Option ℕ) → x ≡ fitted text room → x ≡ registered_of text room
+unfolding fitted registered_of written_in choose
+written_as text room x e = e ∙ chosen (leb (length text) room)
+  where
+    chosen : (b : Bool) → (if b then Some (length text) else None) ≡ choose b (Some (length text)) None
+    chosen true = refl
+    chosen false = refl
 
-  ends_cut : length xs < length text → written_in r (length xs) ≡ written_in (length text) (length xs)
-  unfolding written_in
-  ends_cut h =
-      choose_false _ _ _ (lt-leb _ _ (w.full (omega arith))) ∙ sym (choose_false _ _ _ (lt-leb _ _ h))
-
-  ends : Dec (length text ≤ length xs) → written_in r (length xs) ≡ written_in (length text) (length xs)
-  ends (yes h) = ends_whole h
-  ends (no h) = ends_cut (omega arith)
-
-  pub written_as : (x : Registered) → x ≡ written_in r (length ys) → x ≡ registered_of text (length xs)
-  unfolding registered_of
-  written_as x e =
-      e ∙ ap (written_in r) (wrote_length xs 0 text ys r w) ∙ ends (dec_le (length text) (length xs))
-
-  -- and its number
-  pub number_as :
-      (x : Registered) → x ≡ written_in r (length ys) → registered_number x ≡ room_number (length text) (length xs)
-  unfolding registered_of
-  number_as x e = ap registered_number (written_as x e) ∙ by_lengths (length text) (length xs)
+-- and its number
+pub number_as : (text : List ℕ) (room : ℕ) (x : Option ℕ) → x ≡ registered_of text room → registered_number x ≡ room_number (length text) room
+unfolding registered_of
+number_as text room x e = ap registered_number e ∙ by_lengths (length text) room
 
 -- the answers that the buffer holds are those of the run
 over_at : (xs text : List ℕ) (i : ℕ) → length text ≤ length xs → i < length text → get_or (over xs 0 text) i 0 ≡ get_or text i 0
@@ -86,10 +77,8 @@ module _ (s : Net) (picks xs : List ℕ) (room : length picks ≤ length xs) whe
   picks_answers ys e = e ∙ choose_true _ _ _ (le-leb _ _ room)
 
 -- the line of a net
-pub start_line :
-    (s t : Net) (xs ys : List ℕ) (r : ℕ) → t ≡ s → Wrote xs 0 (printed (net_line t.addresses t.length ∷ [])) ys r
-    → Wrote xs 0 (printed (net_line s.addresses s.length ∷ [])) ys r
-start_line s t xs ys r e w = subst (λ (z : Net). Wrote xs 0 (printed (net_line z.addresses z.length ∷ [])) ys r) e w
+pub start_line : (w v : Writer ℕ) (s t : Net) → t ≡ s → v ≡ after w (printed (net_line t.addresses t.length ∷ [])) → v ≡ after w (printed (net_line s.addresses s.length ∷ []))
+start_line w v s t e h = subst (λ (z : Net). v ≡ after w (printed (net_line z.addresses z.length ∷ []))) e h
 
 module _
     (shown : Shown) (s : Net) (picks xs ys : List ℕ) (last : Net) (net_is : last ≡ (lean_ran_from s picks).net)
@@ -108,99 +97,85 @@ module _
         ∙ over_at xs _ i (omega (arith, numbers_length)) (omega (arith, numbers_length))))
 
     pub register_run :
-        (out₀ out₁ out₂ out₃ : List ℕ) (p q r : ℕ)
-        → Wrote out₀ 0 (printed (net_line s.addresses s.length ∷ [])) out₁ p
-        → Wrote out₁ p (printed (pick_lines picks ys)) out₂ q
-        → Wrote out₂ q (printed (after_lines shown last)) out₃ r
-        → Wrote out₀ 0 (register_in shown s picks (ran (lean_ran_from s picks))) out₃ r
+        (w v u z : Writer ℕ) → v ≡ after w (printed (net_line s.addresses s.length ∷ [])) → u ≡ after v (printed (pick_lines picks ys))
+        → z ≡ after u (printed (after_lines shown last)) → z ≡ after w (register_in shown s picks (ran (lean_ran_from s picks)))
     unfolding register_in register_lines
-    register_run out₀ out₁ out₂ out₃ p q r a b c =
-        lines_then _ _ _ _ _ _ _ _ a
-        (parts_then printed printed_none printed_both _ _ _ _ _ _ _ _
-        (subst (λ (t : List (List Word)). Wrote out₁ p (printed t) out₂ q) lines_same b)
-        (subst (λ (z : Net). Wrote out₂ q (printed (after_lines shown z)) out₃ r) net_is c))
+    register_run w v u z a b c =
+        lines_after w v z (net_line s.addresses s.length ∷ []) (pick_lines picks (numbers (lean_ran_from s picks)) ++ after_lines shown (lean_ran_from s picks).net) a
+        (lines_after v u z (pick_lines picks (numbers (lean_ran_from s picks))) (after_lines shown (lean_ran_from s picks).net)
+        (subst (λ (t : List (List Word)). u ≡ after v (printed t)) lines_same b)
+        (subst (λ (n : Net). z ≡ after u (printed (after_lines shown n))) net_is c))
 
 -- of the net and the outcome that the image or the text has
-register_as_law :
-    (shown : Shown) (picks xs ys : List ℕ) (r : ℕ) (s t : Net) (x y : Outcome) → s ≡ t → x ≡ y → Wrote xs 0 (register_in shown s picks x) ys r
-    → Wrote xs 0 (register_in shown t picks y) ys r
-register_as_law shown picks xs ys r s t x y d e w = rw (← d, ← e) w
+module _ (w v : Writer ℕ) (parts : Parts) (site office source picks : List ℕ) (s : Net) where
+  pub register_accepted :
+      (answer : Verdict) → answer ≡ (opened_of source).answer → s ≡ (opened_of source).net → answer ≡ Verdict.Accepted
+      → v ≡ after w (register_in (named parts site office) s (take 65536 picks) (ran (lean_ran_from s (take 65536 picks))))
+      → v ≡ after w (register_as (named parts site office) source picks)
+  unfolding register_as
+  register_accepted answer j n a h = rw (← n, ← engine_ran source answer s j n (take 65536 picks) a) h
 
-module _
-    (parts : Parts) (site office image picks : List ℕ) (answer : Verdict) (s : Net) (judged : answer ≡ (opened_of image).answer)
-    (net_is : s ≡ (opened_of image).net) (xs ys : List ℕ) (r : ℕ)
-  where
-    pub register_accepted :
-        answer ≡ Verdict.Accepted
-        → Wrote xs 0 (register_in (named parts site office) s (take 65536 picks) (ran (lean_ran_from s (take 65536 picks)))) ys r
-        → Wrote xs 0 (register_as (named parts site office) image picks) ys r
-    unfolding register_as
-    register_accepted a w =
-        register_as_law _ _ xs ys r _ _ _ _ net_is (engine_ran image answer s judged net_is (take 65536 picks) a) w
+  pub register_refused :
+      (answer : Verdict) (f : Fault) → answer ≡ (opened_of source).answer → s ≡ (opened_of source).net → answer ≡ Verdict.Refused f
+      → v ≡ after w (printed (refused_line parts f ∷ [])) → v ≡ after w (register_as (named parts site office) source picks)
+  unfolding register_as register_in register_lines named
+  register_refused answer f j n a h = rw (← engine_refused source answer s j n (take 65536 picks) f a) h
 
-    pub register_refused :
-        (f : Fault) → answer ≡ Verdict.Refused f → Wrote xs 0 (printed (refused_line parts f ∷ [])) ys r
-        → Wrote xs 0 (register_as (named parts site office) image picks) ys r
-    unfolding register_as register_in register_lines named
-    register_refused f a w =
-        register_as_law _ _ xs ys r _ _ _ _ net_is (engine_refused image answer s judged net_is (take 65536 picks) f a) w
+  pub text_accepted :
+      (answer : TextVerdict) → answer ≡ (read_of source).answer → s ≡ (read_of source).net → answer ≡ TextVerdict.Accepted
+      → v ≡ after w (register_in (named parts site office) s (take 65536 picks) (ran (lean_ran_from s (take 65536 picks))))
+      → v ≡ after w (register_text_as (named parts site office) source picks)
+  unfolding register_text_as
+  text_accepted answer j n a h = rw (← n, ← text_engine_ran source answer s j n (take 65536 picks) a) h
 
-module _
-    (parts : Parts) (site office text picks : List ℕ) (answer : TextVerdict) (s : Net) (judged : answer ≡ (read_of text).answer)
-    (net_is : s ≡ (read_of text).net) (xs ys : List ℕ) (r : ℕ)
-  where
-    pub text_accepted :
-        answer ≡ TextVerdict.Accepted
-        → Wrote xs 0 (register_in (named parts site office) s (take 65536 picks) (ran (lean_ran_from s (take 65536 picks)))) ys r
-        → Wrote xs 0 (register_text_as (named parts site office) text picks) ys r
-    unfolding register_text_as
-    text_accepted a w =
-        register_as_law _ _ xs ys r _ _ _ _ net_is (text_engine_ran text answer s judged net_is (take 65536 picks) a) w
+  pub text_refused :
+      (answer : TextVerdict) (k : ℕ) → answer ≡ (read_of source).answer → s ≡ (read_of source).net → answer ≡ TextVerdict.Refused k
+      → v ≡ after w (printed (refusal_line k ∷ [])) → v ≡ after w (register_text_as (named parts site office) source picks)
+  unfolding register_text_as register_in register_lines
+  text_refused answer k j n a h = rw (← text_engine_refused source answer s j n (take 65536 picks) k a) h
 
-    pub text_refused :
-        (n : ℕ) → answer ≡ TextVerdict.Refused n → Wrote xs 0 (printed (refusal_line n ∷ [])) ys r
-        → Wrote xs 0 (register_text_as (named parts site office) text picks) ys r
-    unfolding register_text_as register_in register_lines
-    text_refused n a w =
-        register_as_law _ _ xs ys r _ _ _ _ net_is (text_engine_refused text answer s judged net_is (take 65536 picks) n a) w
-
--- ---- without names
-module _ (parts : Parts) (source picks xs ys : List ℕ) (r : ℕ) where
-  pub unnamed_as : Wrote xs 0 (register_as (named parts [] []) source picks) ys r → Wrote xs 0 (register_as (unnamed parts) source picks) ys r
-  unnamed_as w = subst (λ (shown : Shown). Wrote xs 0 (register_as shown source picks) ys r) (named_none parts) w
-
-  pub unnamed_text_as :
-      Wrote xs 0 (register_text_as (named parts [] []) source picks) ys r
-      → Wrote xs 0 (register_text_as (unnamed parts) source picks) ys r
-  unnamed_text_as w = subst (λ (shown : Shown). Wrote xs 0 (register_text_as shown source picks) ys r) (named_none parts) w
-
--- ---- all that there is to show
-module _ (parts : Parts) (all : parts ≡ all_parts) (source picks xs ys : List ℕ) (r : ℕ) where
-  pub current_as : Wrote xs 0 (register_as (unnamed parts) source picks) ys r → Wrote xs 0 (register_of source picks) ys r
-  unfolding register_of current
-  current_as w = subst (λ (p : Parts). Wrote xs 0 (register_as (unnamed p) source picks) ys r) all w
-
-  pub current_text_as :
-      Wrote xs 0 (register_text_as (unnamed parts) source picks) ys r → Wrote xs 0 (register_text_of source picks) ys r
-  unfolding register_text_of current
-  current_text_as w = subst (λ (p : Parts). Wrote xs 0 (register_text_as (unnamed p) source picks) ys r) all w
-
-  pub named_as :
-      (site office : List ℕ) → Wrote xs 0 (register_as (named parts site office) source picks) ys r
-      → Wrote xs 0 (named_register_of site office source picks) ys r
-  unfolding named_register_of
-  named_as site office w = subst (λ (p : Parts). Wrote xs 0 (register_as (named p site office) source picks) ys r) all w
-
-  pub named_text_as :
-      (site office : List ℕ) → Wrote xs 0 (register_text_as (named parts site office) source picks) ys r
-      → Wrote xs 0 (named_register_text_of site office source picks) ys r
-  unfolding named_register_text_of
-  named_text_as site office w = subst (λ (p : Parts). Wrote xs 0 (register_text_as (named p site office) source picks) ys r) all w
-
--- ---- the picks that count
+-- the picks that count
 pub register_first :
-    (picks : List ℕ) (n : ℕ) (shown : Shown) (s : Net) (xs ys : List ℕ) (r : ℕ) → take n picks ≡ take 65536 picks
-    → Wrote xs 0 (register_in shown s (take n picks) (ran (lean_ran_from s (take n picks)))) ys r
-    → Wrote xs 0 (register_in shown s (take 65536 picks) (ran (lean_ran_from s (take 65536 picks)))) ys r
-register_first picks n shown s xs ys r e w =
-    subst (λ (p : List ℕ). Wrote xs 0 (register_in shown s p (ran (lean_ran_from s p))) ys r) e w
+    (w v : Writer ℕ) (picks : List ℕ) (n : ℕ) (shown : Shown) (s : Net) → take n picks ≡ take 65536 picks
+    → v ≡ after w (register_in shown s (take n picks) (ran (lean_ran_from s (take n picks))))
+    → v ≡ after w (register_in shown s (take 65536 picks) (ran (lean_ran_from s (take 65536 picks))))
+register_first w v picks n shown s e h = subst (λ (p : List ℕ). v ≡ after w (register_in shown s p (ran (lean_ran_from s p)))) e h
+
+-- ---- what is shown
+module _ (source picks : List ℕ) where
+  pub unnamed_is :
+      (parts given : Parts) (site office : List ℕ) → given ≡ parts → site ≡ [] → office ≡ []
+      → register_as (named given site office) source picks ≡ register_as (unnamed parts) source picks
+  unnamed_is parts given site office p s o = rw (p, s, o) (ap (λ (shown : Shown). register_as shown source picks) (named_none parts))
+
+  pub current_is : (parts : Parts) → parts ≡ all_parts → register_as (unnamed parts) source picks ≡ register_of source picks
+  unfolding register_of current
+  current_is parts p = ap (λ (shown : Parts). register_as (unnamed shown) source picks) p
+
+  pub current_text_is :
+      (parts given : Parts) (site office : List ℕ) → parts ≡ all_parts → given ≡ parts → site ≡ [] → office ≡ []
+      → register_text_as (named given site office) source picks ≡ register_text_of source picks
+  unfolding register_text_of current
+  current_text_is parts given site office q p s o =
+      rw (p, s, o)
+      (ap (λ (shown : Shown). register_text_as shown source picks) (named_none parts)
+      ∙ ap (λ (shown : Parts). register_text_as (unnamed shown) source picks) q)
+
+  module _ (parts : Parts) (site office : List ℕ) (p : parts ≡ all_parts) where
+    pub named_is : register_as (named parts site office) source picks ≡ named_register_of site office source picks
+    unfolding named_register_of
+    named_is = ap (λ (shown : Parts). register_as (named shown site office) source picks) p
+
+    pub named_text_is : register_text_as (named parts site office) source picks ≡ named_register_text_of site office source picks
+    unfolding named_register_text_of
+    named_text_is = ap (λ (shown : Parts). register_text_as (named shown site office) source picks) p
+
+module _ (text other : List ℕ) (e : text ≡ other) where
+  pub same_value : (room : ℕ) (x : Option ℕ) → x ≡ registered_of text room → x ≡ registered_of other room
+  same_value room x h = h ∙ ap (λ (t : List ℕ). registered_of t room) e
+
+  pub same_number : (room : ℕ) (x : Option ℕ) → x ≡ registered_of text room → registered_number x ≡ room_number (length other) room
+  same_number room x h = number_as other room x (same_value room x h)
+
+  pub same_out : (xs ys : List ℕ) → ys ≡ over xs 0 text → ys ≡ over xs 0 other
+  same_out xs ys h = h ∙ ap (over xs 0) e

@@ -7,3 +7,4 @@ pub mod NetFacts
 pub mod NodeChanges
 pub mod NodeFacts
 pub mod ZeroClaims
+pub mod ZeroTests

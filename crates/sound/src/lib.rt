@@ -4,3 +4,4 @@
 pub mod groups;
 mod rows;
 pub mod soundness;
+mod zeros;

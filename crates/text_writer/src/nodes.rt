@@ -20,6 +20,9 @@ use net::tuple::{Item, Tuple};
 use text::decimal::{put_decimal, put_signed};
 use text::writing::{put, put_bytes};
 
+// Kept: a loop of each kind of part, here and in policies and code: three lines each; one function that takes a closure,
+// with a clause of what the closure writes, is no plainer.
+
 // A tuple's field, behind a comma where others stand before it.
 fn put_item(out: &mut [u8], at: usize, some: bool, item: Item) -> usize
     ensures { Wrote out.old at (given some (bytes ",") ++ item_text item) out.new result }

@@ -9,14 +9,19 @@ use lines::lines::put_refused;
 use lines::shown::all_parts;
 use net::network::Net;
 use readers::fault::Fault;
+use text::writer::Writer;
 use text_writer::whole::{LONGEST_WRITTEN, write_text};
 use writer::pack::Unwritten;
 
 // Prints the line of a refusal.
 fn print_refused(rt: &HostRuntime, fault: Fault) -> Result<(), Failure> {
     let mut line = [0u8; 48];
-    let n = put_refused(&mut line, 0, all_parts(), fault);
-    print_first(rt, &line, n)
+    let mut out = Writer::new(&mut line);
+    put_refused(&mut out, all_parts(), fault);
+    match out.written() {
+        Some(n) => print_first(rt, &line, n),
+        None => Err(Failure::Short),
+    }
 }
 
 // Prints the text of a net. That of an accepted image has one, which is no longer than the buffer.
