@@ -1,16 +1,13 @@
 -- The logic of readers (`specs/Reader.antt`): what holds of every value that a reader gives, and of the number of every
 -- fault. One law for each way to make a reader. Assumes nothing.
 use Prim.Native.Nat.{ℕ, zero, suc, ◌+◌, ◌<◌}
-use mathlib.Core.Path.{◌≡◌, refl, sym, subst}
+use mathlib.Core.Path.{◌≡◌, refl, subst}
 use mathlib.Core.Bool.{Bool, true, false}
 use mathlib.Core.List.{List, [], ◌∷◌}
 use native.Mathlib.Omega.{arith}
 use Rattle.net.specs.Choice.{choose}
 use Rattle.readers.specs.Reader.{Fault, Parsed, got, fault, Reader, pure, and_then, ◌>>=◌, ◌>>◌, turns, each}
 use Rattle.readers.specs.Reader.{alternative, fault_at, require_in, require, tested}
-use Rattle.readers.specs.Progress.{Step, reached, outcome, run_from, Went}
-use Rattle.net.proofs.ReadingLaws.{never}
-use Rattle.readers.proofs.ReaderLaws.{no_fault, same_value, no_outcome}
 
 -- an outcome is good: P holds of the value, or N of the fault's number
 pub data Fine {A : Type 0} (N : ℕ → Type 0) (P : A → Type 0) : Parsed A → Type 0 where
@@ -129,17 +126,3 @@ fine_any (fault f) = stopped tt
 
 pub any : {A : Type 0} (m : Reader A) → Gives Any m (λ _. Unit {0})
 any m = record { run = λ s p. fine_any (m s p) }
-
--- ---- what a reader gives holds of what was read
-module _ {N : ℕ → Type 0} {A : Type 0} where
-  pub fine_at : (P : A → Type 0) (q : Step) (a : A) (o : Parsed A) → outcome q a ≡ o → Fine N P o → reached q ≡ true → P a
-  unfolding outcome reached
-  fine_at P (Step.At q) a (got b r) e (value h) z = subst P (sym (same_value e)) h
-  fine_at P (Step.At q) a (fault f) e g z = no_fault (sym e)
-  fine_at P (Step.Failed f) a o e g z = never z
-
-  pub went_gives :
-      (s : List ℕ) (p q : Step) (m : Reader A) (P : A → Type 0) (a : A) → Gives N m P → Went s p m q a → reached q ≡ true → P a
-  unfolding run_from
-  went_gives s (Step.At p) q m P a g w h = fine_at P q a (m s p) w.went (g.run s p) h
-  went_gives s (Step.Failed f) q m P a g w h = absurd (no_outcome q a f w.went h)
