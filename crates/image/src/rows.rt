@@ -71,6 +71,8 @@ fn read_node_rows(r: &mut BitReader, format: usize, n: usize, node: &mut Node) -
 }
 
 // The rows of each address.
+// Kept: this loop over addresses and those of starts.rt and stores.rt stand apart: each calls
+// another reader with other parameters, so one function that takes the reader as a closure is no plainer.
 pub(crate) fn read_rows(r: &mut BitReader, net: &mut Net) -> Result<(), Fault>
     requires { Sized net.now }
     ensures reads { Reads r.old (rows net.old) (filled result net.new) r.new }
