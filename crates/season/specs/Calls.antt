@@ -1,22 +1,26 @@
 -- What asking for the figures gives, and what it leaves in the lent buffer, at every input.
-pub use Rattle.season.specs.declared.figures.Figured.{Figured}
-use Rattle.std.specs.Prelude.{ℕ, List, length, leb}
+pub use Rattle.season.specs.declared.figures.Unfigured.{Unfigured}
+use Rattle.std.specs.Prelude.{ℕ, List, length, leb, Result, Ok, Err}
 use Rattle.net.specs.Choice.{choose}
 use Rattle.text.specs.Buffer.{over}
 use Rattle.season.specs.Season.{Season, no_runs, too_many, figures}
 
+-- the length of the figures, or why they were not written
+abbrev pub Figured : Type 0
+Figured = Result ℕ Unfigured
+
 -- the paper's number of an answer: 35 for a buffer that is too short
 unfoldable pub figured_number : Figured → ℕ
-figured_number (Figured.Written n) = 0
-figured_number Figured.NoRuns = 44
-figured_number Figured.TooMany = 45
-figured_number Figured.NoRoom = 35
+figured_number (Ok n) = 0
+figured_number (Err Unfigured.NoRuns) = 44
+figured_number (Err Unfigured.TooMany) = 45
+figured_number (Err Unfigured.NoRoom) = 35
 
 -- the length of the figures where they were written: 44 and 45 come before 35
 unfoldable pub figured_of : Season → ℕ → Figured
-figured_of no_runs room = Figured.NoRuns
-figured_of too_many room = Figured.TooMany
-figured_of (figures text) room = choose (leb (length text) room) (Figured.Written (length text)) Figured.NoRoom
+figured_of no_runs room = Err Unfigured.NoRuns
+figured_of too_many room = Err Unfigured.TooMany
+figured_of (figures text) room = choose (leb (length text) room) (Ok (length text)) (Err Unfigured.NoRoom)
 
 -- and the paper's number of that
 unfoldable pub season_number : Season → ℕ → ℕ

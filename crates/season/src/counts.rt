@@ -54,10 +54,8 @@ pub(crate) fn count(picks: &[u8], answers: &[u8]) -> Counts
 {
     let mut performed = [0u32; 16];
     let mut named = [0u32; 16];
-    let mut i = 0;
-    while i < picks.len() {
+    for i in 0..picks.len() {
         count_pick(&mut performed, &mut named, picks[i], answers[i]);
-        i += 1;
     }
     Counts {
         performed,

@@ -1,9 +1,12 @@
 // The figures over a season, written into a lent buffer.
-ghost use Rattle.std.specs.Prelude.{◌≡◌, [], ◌∷◌, length};
+#![tactic(auto, using(text::proofs::WriterLaws::writing))]
+
+ghost use Rattle.std.specs.Prelude.{◌≡◌, ◌≤◌, [], ◌∷◌, length};
 ghost use Rattle.net.specs.Records.{address_of};
+ghost use Rattle.text.specs.Buffer.{over};
 ghost use Rattle.text.specs.Bytes.{bytes};
-ghost use Rattle.text.specs.Writing.{Wrote};
-ghost use Rattle.lines.specs.Words.{name, spaced, printed};
+ghost use Rattle.text.specs.Writer.{after, fitted};
+ghost use Rattle.lines.specs.Words.{name, number, spaced, printed};
 ghost use Rattle.season.specs.Fractions.{lowest};
 ghost use Rattle.season.specs.Season.{figures, fraction_word, share_word, best_word};
 ghost use Rattle.season.specs.Sums.{tally_words, tally_line, figures_from, season_from};
@@ -12,106 +15,110 @@ ghost use Rattle.season.specs.Giving.{Gave};
 
 use crate::fraction::{Best, Fraction};
 use crate::sums::{Sums, Tally};
-use text::decimal::put_marked;
-use text::writing::{put, put_bytes};
+use text::writer::Writer;
 
-// The figures were written, with their length, or were not: for no runs at all, for more than 1,000, or for want of room.
-#[derive(Clone, Copy)]
-pub enum Figured {
-    Written(usize),
+// Why the figures were not written: for no runs at all, for more than 1,000, or for want of room.
+#[derive(Clone, Copy, PartialEq, Eq, Debug)]
+pub enum Unfigured {
     NoRuns,
     TooMany,
     NoRoom,
 }
 
 // The word for what there is not.
-fn put_none(out: &mut [u8], at: usize) -> usize
-    ensures { Wrote out.old at (spaced (name (bytes "none") ∷ [])) out.new result }
+fn put_none(out: &mut Writer<'_, u8>)
+    ensures { out.new ≡ after out.old (spaced (name (bytes "none") ∷ [])) }
 {
-    put_bytes(out, at, b" none")
+    out.put_all(b" none");
 }
 
-fn put_fraction(out: &mut [u8], at: usize, x: Fraction) -> usize
-    ensures { Wrote out.old at (spaced (fraction_word x ∷ [])) out.new result }
+fn put_number(out: &mut Writer<'_, u8>, n: usize)
+    ensures { out.new ≡ after out.old (spaced (number n ∷ [])) }
 {
-    let next = put_marked(out, at, 32, x.numerator as usize);
-    put_marked(out, next, 47, x.denominator as usize)
+    out.put(b' ');
+    out.decimal(n);
 }
 
-// A fraction in lowest terms.
-fn put_lowest(out: &mut [u8], at: usize, n: u32, d: u32) -> usize
-    ensures { Wrote out.old at (spaced (fraction_word (lowest n d) ∷ [])) out.new result }
+// A fraction, with its slash.
+fn put_fraction(out: &mut Writer<'_, u8>, x: Fraction)
+    ensures { out.new ≡ after out.old (spaced (fraction_word x ∷ [])) }
 {
-    let x = Fraction::lowest(n, d);
-    put_fraction(out, at, x)
+    out.put(b' ');
+    out.decimal(x.numerator as usize);
+    out.put(b'/');
+    out.decimal(x.denominator as usize);
 }
 
 // A share, where there are picks.
-fn put_share(out: &mut [u8], at: usize, performed: u32, picks: u32) -> usize
-    ensures { Wrote out.old at (spaced (share_word picks (lowest performed picks) ∷ [])) out.new result }
+fn put_share(out: &mut Writer<'_, u8>, performed: u32, picks: u32)
+    ensures { out.new ≡ after out.old (spaced (share_word picks (lowest performed picks) ∷ [])) }
 {
     if picks == 0 {
-        put_none(out, at)
+        put_none(out);
     } else {
-        put_lowest(out, at, performed, picks)
+        put_fraction(out, Fraction::lowest(performed, picks));
     }
 }
 
 // The best run by its number.
-fn put_best(out: &mut [u8], at: usize, best: Best) -> usize
-    ensures { Wrote out.old at (spaced (best_word best ∷ [])) out.new result }
+fn put_best(out: &mut Writer<'_, u8>, best: Best)
+    ensures { out.new ≡ after out.old (spaced (best_word best ∷ [])) }
 {
     match best {
-        Best::Nobody => put_none(out, at),
-        Best::Leader(i, _) => put_marked(out, at, 32, i as usize),
+        Best::Nobody => put_none(out),
+        Best::Leader(i, _) => put_number(out, i as usize),
     }
 }
 
 // Share, mean and best run of an address.
-fn put_tally(out: &mut [u8], at: usize, made: u16, t: Tally) -> usize
-    ensures { Wrote out.old at (spaced (tally_words made t)) out.new result }
+fn put_tally(out: &mut Writer<'_, u8>, made: u16, t: Tally)
+    ensures { out.new ≡ after out.old (spaced (tally_words made t)) }
 {
-    let best = t.best;
-    let first = put_share(out, at, t.performed, t.picks);
-    let second = put_lowest(out, first, t.left, made as u32);
-    put_best(out, second, best)
+    put_share(out, t.performed, t.picks);
+    put_fraction(out, Fraction::lowest(t.left, made as u32));
+    put_best(out, t.best);
 }
 
 // The line of an address.
-fn put_line(out: &mut [u8], at: usize, made: u16, a: usize, t: Tally) -> usize
-    ensures { Wrote out.old at (printed (tally_line made (address_of a) t ∷ [])) out.new result }
+fn put_line(out: &mut Writer<'_, u8>, made: u16, a: usize, t: Tally)
+    ensures { out.new ≡ after out.old (printed (tally_line made (address_of a) t ∷ [])) }
 {
-    let first = put_bytes(out, at, b"share");
-    let second = put_marked(out, first, 32, a);
-    let third = put_tally(out, second, made, t);
-    put(out, third, 10)
+    out.put_all(b"share");
+    put_number(out, a);
+    put_tally(out, made, t);
+    out.put(b'\n');
 }
 
 // A line for each address.
-fn put_figures(out: &mut [u8], sums: Sums) -> usize
-    ensures { Wrote out.old 0 (figures_from sums.runs sums.tallies) out.new result }
+fn put_figures(out: &mut Writer<'_, u8>, sums: Sums)
+    ensures { out.new ≡ after out.old (figures_from sums.runs sums.tallies) }
 {
-    let mut next = 0;
-    let mut i = 0;
-    while i < 16 {
-        let t = sums.tallies[i];
-        next = put_line(out, next, sums.runs, i, t);
-        i += 1;
+    for a in 0..16 {
+        put_line(out, sums.runs, a, sums.tallies[a]);
     }
-    next
+}
+
+// The figures, from a buffer's start: how long they are, where all of them fit.
+#[tactic(auto, using(text::proofs::WriterLaws::started_written), unfolding(text::specs::Writer::after))]
+fn figures_in_full(sums: Sums, out: &mut [u8]) -> Option<usize>
+    ensures value { result ≡ fitted (figures_from sums.runs sums.tallies) (length out.old) }
+    ensures out_after { out.new ≡ over out.old 0 (figures_from sums.runs sums.tallies) }
+{
+    let mut writer = Writer::new(out);
+    put_figures(&mut writer, sums);
+    writer.written()
 }
 
 // The figures, copied where there is room for them.
-fn copy_figures(text: &[u8], out: &mut [u8]) -> Figured
+fn copy_figures(text: &[u8], out: &mut [u8]) -> Result<usize, Unfigured>
     ensures { Gave (figures text.now) out.old out.new result }
 {
     let n = text.len();
-    if n <= out.len() {
-        put_bytes(out, 0, text);
-        Figured::Written(n)
-    } else {
-        Figured::NoRoom
+    if n > out.len() {
+        return Err(Unfigured::NoRoom);
     }
+    Writer::new(out).put_all(text);
+    Ok(n)
 }
 
 // Room for all figures (proved: `LongestFigures`).
@@ -122,31 +129,31 @@ pub fn room() -> [u8; 2112]
 }
 
 // The figures of at most 1,000 runs, from a buffer of our own.
-fn write_figures(sums: Sums, out: &mut [u8]) -> Figured
+fn write_figures(sums: Sums, out: &mut [u8]) -> Result<usize, Unfigured>
     ensures { Gave (figures (figures_from sums.runs sums.tallies)) out.old out.new result }
 {
     let mut text = room();
-    let n = put_figures(&mut text, sums);
+    let n = figures_in_full(sums, &mut text).unwrap();
     copy_figures(&text[..n], out)
 }
 
 // The figures, where there are any.
-fn give_figures(sums: Sums, out: &mut [u8]) -> Figured
+fn give_figures(sums: Sums, out: &mut [u8]) -> Result<usize, Unfigured>
     ensures { Gave (season_from sums) out.old out.new result }
 {
     if sums.runs == 0 {
-        Figured::NoRuns
+        Err(Unfigured::NoRuns)
     } else if sums.runs > 1000 {
-        Figured::TooMany
+        Err(Unfigured::TooMany)
     } else {
         write_figures(sums, out)
     }
 }
 
 impl Sums {
-    // Writes the figures over the runs added into the buffer. Of sums begun empty and changed by `add` alone they are those
-    // of the runs (proved: `SumsGiveSeason`).
-    pub fn figures(self, out: &mut [u8]) -> Figured
+    // Writes the figures over the runs added into the buffer, and gives their length. Of sums begun empty and changed by
+    // `add` alone they are those of the runs (proved: `SumsGiveSeason`).
+    pub fn figures(self, out: &mut [u8]) -> Result<usize, Unfigured>
         ensures value { result ≡ figured_of (season_from self) (length out.old) }
         ensures result_value { figured_number result ≡ season_number (season_from self) (length out.old) }
         ensures out_after { out.new ≡ figures_in (season_from self) out.old }

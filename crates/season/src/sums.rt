@@ -85,13 +85,14 @@ impl Sums {
         ensures { result ≡ with_counted self counts net }
     {
         let i = self.runs + 1;
-        let mut a = 0;
-        while a < 16 {
-            let node = net.nodes[a];
-            let left = left_in(a, net.addresses, node.stored);
-            let tally = self.tallies[a];
-            self.tallies[a] = tally.with_counts(i, counts.performed[a], counts.picks[a], left);
-            a += 1;
+        for a in 0..16 {
+            let left = left_in(a, net.addresses, net.nodes[a].stored);
+            self.tallies[a] = self.tallies[a].with_counts(
+                i,
+                counts.performed[a],
+                counts.picks[a],
+                left,
+            );
         }
         self.runs = i;
         self

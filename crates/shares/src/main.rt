@@ -9,7 +9,7 @@ ghost use Rattle.std.specs.Prelude.{◌≤◌, length};
 
 use files::{Failure, argument, is_given, print, print_first, read_file, say};
 use image::reader::LONGEST_IMAGE;
-use season::figures::{Figured, room};
+use season::figures::{Unfigured, room};
 use season::sums::Sums;
 
 // No folder is taken by a longer name: the system takes no longer path.
@@ -72,10 +72,10 @@ fn add_arguments(rt: &HostRuntime) -> Result<Sums, Failure> {
 fn print_figures(rt: &HostRuntime, sums: Sums) -> Result<(), Failure> {
     let mut out = room();
     match sums.figures(&mut out) {
-        Figured::Written(n) => print_first(rt, &out, n),
-        Figured::NoRuns => print(rt, b"refused 44\n"),
-        Figured::TooMany => print(rt, b"refused 45\n"),
-        Figured::NoRoom => {
+        Ok(n) => print_first(rt, &out, n),
+        Err(Unfigured::NoRuns) => print(rt, b"refused 44\n"),
+        Err(Unfigured::TooMany) => print(rt, b"refused 45\n"),
+        Err(Unfigured::NoRoom) => {
             say(rt, b"no room for the figures\n");
             Err(Failure::Short)
         }

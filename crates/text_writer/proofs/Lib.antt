@@ -1,4 +1,5 @@
 pub mod Lengths
 pub mod ListLaws
+pub mod LoopLaws
 pub mod PartLaws
 pub mod TextLaws

@@ -1,7 +1,7 @@
 -- Lists as the code goes through them, by index: parts with commas between them, the members of a set, and parts that are
 -- numbered from 0 up (`Printed.antt` of `sources`). Assumes nothing.
-use Prim.Native.Nat.{ℕ, zero, suc, ◌+◌, ◌<◌, ◌≤◌}
-use mathlib.Core.Path.{◌≡◌, refl, sym, ap, subst, ◌∙◌}
+use Prim.Native.Nat.{ℕ, zero, suc, ◌+◌, ◌<◌}
+use mathlib.Core.Path.{◌≡◌, refl, sym, ap, ◌∙◌}
 use mathlib.Core.Bool.{Bool, true, false, ◌||◌, or-true, or-false}
 use mathlib.Core.List.{List, [], ◌∷◌, ◌++◌, map, append-nil, append_assoc, map-append}
 use native.Mathlib.Omega.{arith}
@@ -20,8 +20,10 @@ use Rattle.read_back.proofs.Listed.{listed_length, listed_take}
 use Rattle.sources.specs.Printed.{given, separated, address_text}
 use Rattle.text.specs.Decimal.{decimal}
 use Rattle.text.specs.Joined.{joined}
-use Rattle.text.specs.Writing.{Wrote}
-use Rattle.text.proofs.WritingLaws.{wrote_nothing, wrote_then, joined_end, joined_same}
+use Rattle.text.specs.Writer.{after}
+use Rattle.text.specs.declared.writer.Writer.{Writer}
+use Rattle.text.proofs.WriterLaws.{after_none, after_then}
+use Rattle.text.proofs.WritingLaws.{joined_same}
 use Rattle.text_writer.specs.Types.{Locality, Group}
 
 -- ---- parts with commas between them
@@ -43,7 +45,7 @@ separated_both (x ∷ ts) t =
 
 -- what f prints of each of the first elements
 module _ {A : Type 0} (f : A → List ℕ) (ts : List A) where
-  separated_next :
+  pub separated_next :
       (d : A) (i : ℕ) → i < length ts
       → separated (map f (take (i + 1) ts)) ≡ separated (map f (take i ts)) ++ (given (ltb 0 i) (44 ∷ []) ++ f (get_or ts i d))
   separated_next d i h =
@@ -52,25 +54,6 @@ module _ {A : Type 0} (f : A → List ℕ) (ts : List A) where
       ∙ separated_both (map f (take i ts)) (f (get_or ts i d))
       ∙ ap (λ (n : ℕ). separated (map f (take i ts)) ++ (given (ltb 0 n) (44 ∷ []) ++ f (get_or ts i d)))
       (length-map (take i ts) f ∙ length-take-le i ts (omega arith))
-
-  module _ (xs : List ℕ) (at : ℕ) where
-    pub separated_none : Wrote xs at (separated (map f (take 0 ts))) xs at
-    unfolding separated
-    separated_none = wrote_nothing xs at
-
-    pub separated_more :
-        (d : A) (i n size : ℕ) (ys zs : List ℕ) (r q : ℕ) → Wrote xs at (separated (map f (take i ts))) ys r
-        → Wrote ys r (given (ltb 0 i) (44 ∷ []) ++ f (get_or ts i d)) zs q → i < n → n ≤ size → length ts ≡ size
-        → Wrote xs at (separated (map f (take (i + 1) ts))) zs q
-    separated_more d i n size ys zs r q w v h l e =
-        subst (λ (t : List ℕ). Wrote xs at t zs q) (sym (separated_next d i (omega arith))) (wrote_then xs at _ _ ys zs r q w v)
-
-    pub separated_end :
-        (i n : ℕ) (ys : List ℕ) (r : ℕ) → Wrote xs at (separated (map f (take i ts))) ys r → i ≤ n → n ≤ i
-        → Wrote xs at (separated (map f (take n ts))) ys r
-    separated_end i n ys r w h l =
-        let e : i ≡ n = omega arith in
-        subst (λ (j : ℕ). Wrote xs at (separated (map f (take j ts))) ys r) e w
 
 -- ---- the members of a set
 module _ (g : Group) where
@@ -114,25 +97,20 @@ module _ (g : Group) where
   some_more i has some e d =
       ap (λ (b : Bool). b || has) d ∙ some_next i has e ∙ ap (λ (j : ℕ). ltb 0 (length (members_below j g))) (sym (add-one i))
 
-  module _ (xs : List ℕ) (at : ℕ) where
-    pub members_none : Wrote xs at (members 0) xs at
-    unfolding separated members_below
-    members_none = wrote_nothing xs at
+  pub members_start : (w : Writer ℕ) → w ≡ after w (members 0)
+  unfolding separated members_below
+  members_start w = sym (after_none w)
 
-    pub members_more :
-        (i : ℕ) (has some : Bool) (ys zs : List ℕ) (r q : ℕ) → has ≡ member g (address_of i) → some ≡ ltb 0 (length (members_below i g))
-        → Wrote xs at (members i) ys r → Wrote ys r (given has (given some (44 ∷ []) ++ decimal i)) zs q
-        → Wrote xs at (members (i + 1)) zs q
-    members_more i has some ys zs r q e d w v =
-        subst (λ (t : List ℕ). Wrote xs at t zs q) (sym (ap members (add-one i) ∙ member_next i has e))
-        (wrote_then xs at _ _ ys zs r q w
-        (subst (λ (b : Bool). Wrote ys r (given has (given b (44 ∷ []) ++ decimal i)) zs q) d v))
+  pub members_step :
+      (w v u : Writer ℕ) (i : ℕ) (has some : Bool) → has ≡ member g (address_of i) → some ≡ ltb 0 (length (members_below i g))
+      → v ≡ after w (members i) → u ≡ after v (given has (given some (44 ∷ []) ++ decimal i)) → u ≡ after w (members (i + 1))
+  members_step w v u i has some e d p q =
+      after_then w v u _ _ p (q ∙ ap (λ (b : Bool). after v (given has (given b (44 ∷ []) ++ decimal i))) d)
+      ∙ ap (after w) (sym (ap members (add-one i) ∙ member_next i has e))
 
-    pub members_end : (i : ℕ) (ys : List ℕ) (r : ℕ) → Wrote xs at (members i) ys r → i ≤ 16 → 16 ≤ i → Wrote xs at (separated (map address_text (members_of g))) ys r
-    unfolding members_of
-    members_end i ys r w h l =
-        let e : i ≡ 16 = omega arith in
-        subst (λ (j : ℕ). Wrote xs at (members j) ys r) e w
+  pub members_end : (w v : Writer ℕ) (i : ℕ) → v ≡ after w (members i) → i ≡ 16 → v ≡ after w (separated (map address_text (members_of g)))
+  unfolding members_of
+  members_end w v i p e = p ∙ ap (λ (j : ℕ). after w (members j)) e
 
 -- ---- parts that are numbered: g prints of each element what f prints of it and its number
 pub record Numbered {A : Type 0} (f : ℕ → A → List ℕ) (g : ℕ → List A → List ℕ) : Type 0 where
@@ -168,15 +146,15 @@ module _ {A : Type 0} {f : ℕ → A → List ℕ} {g : ℕ → List A → List 
   from_start : (h : ℕ → A) (n : ℕ) → joined n (λ j. f j (h j)) ≡ g 0 (listed n h)
   from_start h n = joined_same n _ _ (λ j l. ap (λ (k : ℕ). f k (h j)) (sym (zero-add j))) ∙ sym (each h n 0)
 
+  -- n of them, one after another
   pub numbered_end :
-      (xs : List ℕ) (at : ℕ) (h : ℕ → A) (i n : ℕ) (ys : List ℕ) (r : ℕ) → Wrote xs at (joined i (λ j. f j (h j))) ys r → i ≤ n → n ≤ i
-      → Wrote xs at (g 0 (listed n h)) ys r
-  numbered_end xs at h i n ys r w l m =
-      subst (λ (t : List ℕ). Wrote xs at t ys r) (from_start h n) (joined_end xs at _ i n ys r w l m)
+      (w v : Writer ℕ) (h : ℕ → A) (i n : ℕ) → v ≡ after w (joined i (λ j. f j (h j))) → i ≡ n → v ≡ after w (g 0 (listed n h))
+  numbered_end w v h i n p e =
+      p ∙ ap (after w) (ap (λ (k : ℕ). joined k (λ j. f j (h j))) e ∙ from_start h n)
 
   -- of a whole list
   pub numbered_all :
-      (d : A) (xs : List ℕ) (at : ℕ) (ts : List A) (i n : ℕ) (ys : List ℕ) (r : ℕ) → Wrote xs at (joined i (λ j. f j (get_or ts j d))) ys r
-      → i ≤ n → n ≤ i → length ts ≡ n → Wrote xs at (g 0 ts) ys r
-  numbered_all d xs at ts i n ys r w l m e =
-      subst (λ (us : List A). Wrote xs at (g 0 us) ys r) (listed_whole d ts n e) (numbered_end xs at (λ j. get_or ts j d) i n ys r w l m)
+      (d : A) (w v : Writer ℕ) (ts : List A) (i n : ℕ) → v ≡ after w (joined i (λ j. f j (get_or ts j d))) → i ≡ n
+      → length ts ≡ n → v ≡ after w (g 0 ts)
+  numbered_all d w v ts i n p e l =
+      numbered_end w v (λ j. get_or ts j d) i n p e ∙ ap (λ (us : List A). after w (g 0 us)) (listed_whole d ts n l)

@@ -1,5 +1,7 @@
 // The lines of an address: its processes, and after them its tuples (document 02, slip 13).
-ghost use Rattle.std.specs.Prelude.{◌≤◌, [], ◌∷◌, ◌++◌, map, take};
+#![tactic(auto, using(text::proofs::WriterLaws::writing), unfolding(read_back::specs::NetSource::named, sources::specs::Printed::address_text, sources::specs::Printed::item_text, sources::specs::Printed::tuple_text, sources::specs::Printed::process_text, sources::specs::Printed::line_text, sources::specs::Printed::lines_text, sources::specs::Printed::newline, text::specs::Bytes::bytes))]
+
+ghost use Rattle.std.specs.Prelude.{◌≤◌, ◌≡◌, [], ◌∷◌, ◌++◌, map, take};
 ghost use Rattle.net.specs.Choice.{choose};
 ghost use Rattle.net.specs.Records.{address_of};
 ghost use Rattle.layout.specs.Counts.{NodeCounts, Counts};
@@ -8,7 +10,7 @@ ghost use Rattle.read_back.specs.NetSource.{named, process_lines, tuple_lines, l
 ghost use Rattle.sources.specs.Printed.{given, separated, item_text, tuple_text, lines_text};
 ghost use Rattle.text.specs.Bytes.{bytes};
 ghost use Rattle.text.specs.Joined.{joined};
-ghost use Rattle.text.specs.Writing.{Wrote};
+ghost use Rattle.text.specs.Writer.{after};
 
 use crate::code::put_named;
 use crate::parts::{put_given, put_numbered};
@@ -17,102 +19,87 @@ use net::network::Net;
 use net::node::Node;
 use net::process::Process;
 use net::tuple::{Item, Tuple};
-use text::decimal::{put_decimal, put_signed};
-use text::writing::{put, put_bytes};
-
-// Kept: a loop of each kind of part, here and in policies and code: three lines each; one function that takes a closure,
-// with a clause of what the closure writes, is no plainer.
+use text::writer::Writer;
 
 // A tuple's field, behind a comma where others stand before it.
-fn put_item(out: &mut [u8], at: usize, some: bool, item: Item) -> usize
-    ensures { Wrote out.old at (given some (bytes ",") ++ item_text item) out.new result }
+fn put_item(out: &mut Writer<'_, u8>, some: bool, item: Item)
+    ensures { out.new ≡ after out.old (given some (bytes ",") ++ item_text item) }
 {
-    let next = put_given(out, at, some, b',');
+    put_given(out, some, b',');
     match item {
-        Item::Reading(x) => put_signed(out, next, x),
-        Item::Address(l) => put_numbered(out, next, b"@", l.0 as usize),
+        Item::Reading(x) => out.signed_decimal(x),
+        Item::Address(l) => put_numbered(out, b"@", usize::from(l.0)),
     }
 }
 
 // The fields of a tuple, with commas between them.
-fn put_items(out: &mut [u8], at: usize, t: Tuple) -> usize
-    requires { t.count ≤ 4 }
-    ensures { Wrote out.old at (separated (map (λ f. item_text f.item) (take t.count t.fields))) out.new result }
+fn put_items(out: &mut Writer<'_, u8>, t: &Tuple)
+    requires { t.now.count ≤ 4 }
+    ensures { out.new ≡ after out.old (separated (map (λ f. item_text f.item) (take t.now.count t.now.fields))) }
 {
-    let mut next = at;
-    for i in 0..t.count {
-        next = put_item(out, next, 0 < i, t.fields[i].item);
+    for (i, field) in t.fields[..t.count].iter().enumerate() {
+        put_item(out, 0 < i, field.item);
     }
-    next
 }
 
 // A tuple.
-fn put_tuple(out: &mut [u8], at: usize, t: Tuple) -> usize
-    requires { t.count ≤ 4 }
-    ensures { Wrote out.old at (tuple_text t) out.new result }
+fn put_tuple(out: &mut Writer<'_, u8>, t: &Tuple)
+    requires { t.now.count ≤ 4 }
+    ensures { out.new ≡ after out.old (tuple_text t.now) }
 {
-    let first = put(out, at, b'<');
-    let second = put_items(out, first, t);
-    put(out, second, b'>')
+    out.put(b'<');
+    put_items(out, t);
+    out.put(b'>');
 }
 
 // The line of a tuple.
-fn put_tuple_line(out: &mut [u8], at: usize, a: Locality, t: Tuple) -> usize
-    requires { t.count ≤ 4 }
-    ensures { Wrote out.old at (lines_text (tuple a t ∷ [])) out.new result }
+fn put_tuple_line(out: &mut Writer<'_, u8>, a: Locality, t: &Tuple)
+    requires { t.now.count ≤ 4 }
+    ensures { out.new ≡ after out.old (lines_text (tuple a t.now ∷ [])) }
 {
-    let first = put_decimal(out, at, a.0 as usize);
-    let second = put_bytes(out, first, b" :: ");
-    let third = put_tuple(out, second, t);
-    put(out, third, b'\n')
+    out.decimal(usize::from(a.0));
+    out.put_all(b" :: ");
+    put_tuple(out, t);
+    out.put(b'\n');
 }
 
 // The line of a process, where its slot is busy.
-fn put_process(out: &mut [u8], at: usize, a: Locality, p: Process) -> usize
-    ensures { Wrote out.old at (lines_text (choose p.busy (process a (named p.at) ∷ []) [])) out.new result }
+fn put_process(out: &mut Writer<'_, u8>, a: Locality, p: &Process)
+    ensures { out.new ≡ after out.old (lines_text (choose p.now.busy (process a (named p.now.at) ∷ []) [])) }
 {
     if p.busy {
-        let first = put_decimal(out, at, a.0 as usize);
-        let second = put_named(out, first, b" :: ", p.at);
-        put(out, second, b'\n')
-    } else {
-        at
+        out.decimal(usize::from(a.0));
+        put_named(out, b" :: ", p.at);
+        out.put(b'\n');
     }
 }
 
 // The processes of the node x at address a.
-fn put_processes(out: &mut [u8], at: usize, a: Locality, x: Node) -> usize
-    ensures { Wrote out.old at (lines_text (process_lines a x)) out.new result }
+fn put_processes(out: &mut Writer<'_, u8>, a: Locality, x: &Node)
+    ensures { out.new ≡ after out.old (lines_text (process_lines a x.now)) }
 {
-    let mut next = at;
-    for i in 0..4 {
-        next = put_process(out, next, a, x.processes[i]);
+    for p in &x.processes {
+        put_process(out, a, p);
     }
-    next
 }
 
 // Its tuples.
-fn put_tuples(out: &mut [u8], at: usize, a: Locality, x: Node) -> usize
-    requires { NodeCounts x }
-    ensures { Wrote out.old at (lines_text (tuple_lines a x)) out.new result }
+fn put_tuples(out: &mut Writer<'_, u8>, a: Locality, x: &Node)
+    requires { NodeCounts x.now }
+    ensures { out.new ≡ after out.old (lines_text (tuple_lines a x.now)) }
 {
-    let mut next = at;
-    for i in 0..x.stored {
-        next = put_tuple_line(out, next, a, x.tuples[i]);
+    for t in &x.tuples[..x.stored] {
+        put_tuple_line(out, a, t);
     }
-    next
 }
 
 // The lines of each address in use.
-pub(crate) fn put_nodes(out: &mut [u8], at: usize, net: Net) -> usize
-    requires { Counts net }
-    ensures { Wrote out.old at (lines_text (joined net.addresses (λ a. lines_at net (address_of a)))) out.new result }
+pub(crate) fn put_nodes(out: &mut Writer<'_, u8>, net: &Net)
+    requires { Counts net.now }
+    ensures { out.new ≡ after out.old (lines_text (joined net.now.addresses (λ a. lines_at net.now (address_of a)))) }
 {
-    let mut next = at;
-    for i in 0..net.addresses {
-        let a = Locality(i as u8);
-        next = put_processes(out, next, a, net.nodes[i]);
-        next = put_tuples(out, next, a, net.nodes[i]);
+    for (i, x) in net.nodes[..net.addresses].iter().enumerate() {
+        put_processes(out, Locality(i as u8), x);
+        put_tuples(out, Locality(i as u8), x);
     }
-    next
 }

@@ -1,23 +1,26 @@
 // Parts that stand in several places of a text.
-ghost use Rattle.std.specs.Prelude.{[], ◌∷◌, ◌++◌};
+#![tactic(auto, using(text::proofs::WriterLaws::writing))]
+
+ghost use Rattle.std.specs.Prelude.{◌≡◌, [], ◌∷◌, ◌++◌};
 ghost use Rattle.sources.specs.Printed.{given};
 ghost use Rattle.text.specs.Decimal.{decimal};
-ghost use Rattle.text.specs.Writing.{Wrote};
+ghost use Rattle.text.specs.Writer.{after};
 
-use text::decimal::put_decimal;
-use text::writing::{put, put_bytes};
+use text::writer::Writer;
 
 // A byte that is left away where it is not shown.
-pub fn put_given(out: &mut [u8], at: usize, shown: bool, b: u8) -> usize
-    ensures { Wrote out.old at (given shown (b ∷ [])) out.new result }
+pub fn put_given(out: &mut Writer<'_, u8>, shown: bool, b: u8)
+    ensures { out.new ≡ after out.old (given shown (b ∷ [])) }
 {
-    if shown { put(out, at, b) } else { at }
+    if shown {
+        out.put(b);
+    }
 }
 
 // A word, and a number right behind it.
-pub fn put_numbered(out: &mut [u8], at: usize, word: &[u8], n: usize) -> usize
-    ensures { Wrote out.old at (word.now ++ decimal n) out.new result }
+pub fn put_numbered(out: &mut Writer<'_, u8>, word: &[u8], n: usize)
+    ensures { out.new ≡ after out.old (word.now ++ decimal n) }
 {
-    let next = put_bytes(out, at, word);
-    put_decimal(out, next, n)
+    out.put_all(word);
+    out.decimal(n);
 }

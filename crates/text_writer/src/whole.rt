@@ -3,7 +3,8 @@ ghost use Rattle.std.specs.Prelude.{true, ◌≡◌, length};
 ghost use Rattle.fresh.specs.Fresh.{fresh_of};
 ghost use Rattle.layout.specs.Counts.{Counts};
 ghost use Rattle.read_back.specs.NetSource.{text_of};
-ghost use Rattle.text.specs.Writing.{Wrote};
+ghost use Rattle.text.specs.Buffer.{over};
+ghost use Rattle.text.specs.Writer.{after, fitted};
 ghost use Rattle.text_writer.specs.Calls.{texted_of, text_in};
 ghost use Rattle.writer.specs.Calls.{placed_of, placed_in};
 
@@ -12,20 +13,33 @@ use crate::nodes::put_nodes;
 use crate::policies::put_policy;
 use fresh::freshness::is_fresh;
 use net::network::Net;
-use text::writing::put_bytes;
+use text::writer::Writer;
 use writer::pack::Unwritten;
 
 // No text of a net is longer (proved: `WrittenInBounds` of the crate `read_back_law`).
 pub const LONGEST_WRITTEN: usize = 105920;
 
 // The text of a net.
-fn put_text(out: &mut [u8], at: usize, net: Net) -> usize
-    requires { Counts net }
-    ensures { Wrote out.old at (text_of net) out.new result }
+#[tactic(auto, using(text::proofs::WriterLaws::writing))]
+fn put_text(out: &mut Writer<'_, u8>, net: &Net)
+    requires { Counts net.now }
+    ensures { out.new ≡ after out.old (text_of net.now) }
 {
-    let first = put_policy(out, at, net);
-    let second = put_definitions(out, first, net);
-    put_nodes(out, second, net)
+    put_policy(out, net);
+    put_definitions(out, net);
+    put_nodes(out, net);
+}
+
+// The text of a net, from a buffer's start: how long it is, where all of it fits.
+#[tactic(auto, using(text::proofs::WriterLaws::started_written), unfolding(text::specs::Writer::after))]
+fn text_in_full(net: &Net, out: &mut [u8]) -> Option<usize>
+    requires { Counts net.now }
+    ensures value { result ≡ fitted (text_of net.now) (length out.old) }
+    ensures out_after { out.new ≡ over out.old 0 (text_of net.now) }
+{
+    let mut writer = Writer::new(out);
+    put_text(&mut writer, net);
+    writer.written()
 }
 
 // A text, copied where there is room for it.
@@ -34,12 +48,11 @@ fn copy_text(text: &[u8], out: &mut [u8]) -> Result<usize, Unwritten>
     ensures out_after { out.new ≡ placed_in text.now out.old }
 {
     let n = text.len();
-    if n <= out.len() {
-        put_bytes(out, 0, text);
-        Ok(n)
-    } else {
-        Err(Unwritten::NoRoom)
+    if n > out.len() {
+        return Err(Unwritten::NoRoom);
     }
+    Writer::new(out).put_all(text);
+    Ok(n)
 }
 
 // Room for every text.
@@ -51,13 +64,13 @@ fn room() -> [u8; LONGEST_WRITTEN]
 
 // The text of a net that some image gives, from a buffer of our own: its length is known before a byte is written to the
 // lent one.
-fn write_fresh(net: Net, out: &mut [u8]) -> Result<usize, Unwritten>
-    requires { fresh_of net ≡ true }
-    ensures value { result ≡ placed_of (length (text_of net)) (length out.old) }
-    ensures out_after { out.new ≡ placed_in (text_of net) out.old }
+fn write_fresh(net: &Net, out: &mut [u8]) -> Result<usize, Unwritten>
+    requires { fresh_of net.now ≡ true }
+    ensures value { result ≡ placed_of (length (text_of net.now)) (length out.old) }
+    ensures out_after { out.new ≡ placed_in (text_of net.now) out.old }
 {
     let mut text = room();
-    let n = put_text(&mut text, 0, net);
+    let n = text_in_full(net, &mut text).unwrap();
     copy_text(&text[..n], out)
 }
 
@@ -67,7 +80,7 @@ pub fn write_text(net: Net, out: &mut [u8]) -> Result<usize, Unwritten>
     ensures out_after { out.new ≡ text_in net out.old }
 {
     if is_fresh(net) {
-        write_fresh(net, out)
+        write_fresh(&net, out)
     } else {
         Err(Unwritten::NotFresh)
     }

@@ -1,16 +1,18 @@
-use Rattle.std.proofs.Common.{rules, arith}
-use Rattle.text_writer.proofs.ListLaws.{members_none, members_more, members_end, some_none, some_more}
+use Rattle.std.proofs.Common.{arith}
+use Rattle.text_writer.proofs.ListLaws.{some_none, some_more, members_start, members_step, members_end}
 use Rattle.text.specs.Bytes.{bytes}
 use Rattle.text_writer.proofs.code.put_members.Goals as goal
 
-pub loop-i-init : goal.loop-i-init
-unfolding bytes
-loop-i-init c = search (rules, members_none, some_none)
+pub loop-l-init : goal.loop-l-init
+loop-l-init c =
+    (some_none c.args.g, members_start c.args.g _)
 
-pub loop-i-preserved : goal.loop-i-preserved
+pub loop-l-preserved : goal.loop-l-preserved
 unfolding bytes
-loop-i-preserved c = (search (rules, members_more), (search (rules, some_more), omega arith))
+loop-l-preserved c = (
+  some_more c.args.g _ _ _ c.has-has.ensures c.loop-l.invariant.0,
+  members_step c.args.g _ _ _ c.loop-l.l _ _ c.has-has.ensures c.loop-l.invariant.0 c.loop-l.invariant.1 (rw c.from.ensures at c.put_member.ensures),
+)
 
 pub returns : goal.returns
-unfolding bytes
-returns c = search (rules, members_end)
+returns c = members_end c.args.g _ _ c.loop-l.l c.loop-l.invariant.1 (omega (arith, c.loop-l-test.false, c.loop-l.auto.l-end))

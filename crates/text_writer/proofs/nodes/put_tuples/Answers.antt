@@ -1,24 +1,23 @@
-use Rattle.std.proofs.Common.{rules}
-use Rattle.layout.proofs.CountLaws.{few_fields}
-use Rattle.lines.proofs.WordLaws.{parts_none, parts_more, parts_end}
-use Rattle.text_writer.proofs.PartLaws.{lines_none, lines_both, unmarked}
-use Rattle.net.specs.Records.{tuple_at}
-use Rattle.read_back.specs.NetSource.{listed, tuple_lines}
-use Rattle.sources.specs.Printed.{lines_text}
+use Rattle.std.proofs.Common.{rules, ℕ, [], ◌∷◌}
+use Rattle.text_writer.proofs.LoopLaws.{part_next, lines_end}
+use Rattle.layout.proofs.CountLaws.{first_fields}
+use Rattle.linking.specs.Source.{tuple}
+use Rattle.net.specs.Records.{tuple_at, marked, zero_tuple}
+use Rattle.net.specs.declared.tuple.Tuple.{Tuple}
+use Rattle.read_back.specs.NetSource.{tuple_lines, listed}
+use Rattle.sources.specs.Printed.{lines_text, line_text, tuple_text}
 use Rattle.text_writer.proofs.nodes.put_tuples.Goals as goal
 
-pub loop-i-init : goal.loop-i-init
-unfolding tuple_lines listed tuple_at
-loop-i-init c = search (rules, parts_none lines_text lines_none lines_both)
+pub put_tuple_line-requires : goal.put_tuple_line-requires
+put_tuple_line-requires c =
+    first_fields c.args.x.now c.loop-t.t-index _ c.requires c.loop-t-test.true
 
-pub loop-i-preserved : goal.loop-i-preserved
-unfolding tuple_lines listed tuple_at
-loop-i-preserved c = (search (rules, parts_more lines_text lines_none lines_both, unmarked), search rules)
+pub loop-t-preserved : goal.loop-t-preserved
+unfolding tuple_at marked lines_text line_text tuple_text
+loop-t-preserved c =
+    part_next c.args.x.now.tuples c.loop-t.t-index c.args.x.now.stored c.loop-t-test.true (λ (j : ℕ) (x : Tuple). lines_text (tuple c.args.a (marked zero_tuple.mark x) ∷ [])) _ _ _ _ _ c.loop-t.invariant c.put_tuple_line.ensures
 
 pub returns : goal.returns
-unfolding tuple_lines listed tuple_at
-returns c = search (rules, parts_end lines_text lines_none lines_both)
-
-pub put_tuple_line-next-requires : goal.put_tuple_line-next-requires
-unfolding tuple_lines listed tuple_at
-put_tuple_line-next-requires c = search (rules, few_fields)
+unfolding tuple_lines listed
+returns c =
+    lines_end _ _ _ _ _ c.loop-t.invariant (search rules)

@@ -1,10 +1,10 @@
-use Rattle.std.proofs.Common.{◌≤◌}
+use Rattle.std.proofs.Common.{◌≡◌}
+use Rattle.sources.specs.Printed.{node_text}
 use Rattle.net.specs.Records.{node_at, address_of}
 use Rattle.read_back.specs.NetSource.{origin_rows_of}
-use Rattle.sources.specs.Printed.{node_text}
 use Rattle.text.specs.Joined.{joined}
-use Rattle.text.specs.Writing.{Wrote}
+use Rattle.text.specs.Writer.{after}
 use Rattle.text_writer.proofs.policies.put_all_origins.Given as goal
 
 abbrev pub invariant-loop-i : goal.invariant-loop-i
-invariant-loop-i l = Wrote l.fn.out l.fn.at (joined l.i (λ j. node_text j 0 (origin_rows_of l.net.addresses (node_at l.net (address_of j))))) l.out l.next × ((l.i ≤ l.net.addresses) × (l.net.addresses ≤ 16))
+invariant-loop-i l = (l.out ≡ after l.fn.out (joined l.i (λ j. node_text j 0 (origin_rows_of l.net.addresses (node_at l.net (address_of j))))))
