@@ -4,12 +4,13 @@ use Prim.Native.Nat.{ℕ, ◌+◌, ◌-◌, ◌<◌, ◌≤◌, ◌%◌}
 use mathlib.Core.Path.{◌≡◌, refl, sym, ap, ◌∙◌}
 use mathlib.Core.Bool.{Bool, true, false, not, ◌&&◌, ◌||◌}
 use mathlib.Core.List.{List, []}
+use native.Mathlib.Omega.{arith}
 use lib.Dec.{ltb}
 use lib.ListN.{get_or, set}
 use borrow.Author.Tests.{lt-ltb, le-ltb, le-leb, lt-leb}
-use Rattle.net.specs.Choice.{both, implies}
-use Rattle.net.proofs.Laws.{choose_true, choose_false}
-use Rattle.net.proofs.AllLaws.{and_both}
+use Rattle.net.specs.Choice.{both, implies, all}
+use Rattle.net.proofs.Laws.{choose_true, choose_false, all_fails}
+use Rattle.net.proofs.AllLaws.{and_both, all_goes_on, all_end}
 use Rattle.net.proofs.FoldLaws.{fold_none, fold_more, fold_end}
 use Rattle.lean_words.specs.Stores.{oldest_in, put_words, closed_up}
 use Rattle.lean_words.specs.Rights.{grants_flags}
@@ -143,9 +144,12 @@ module _
       unfolding out_of
       at_target_law = ap (λ (y : ℕ). out_at y slots stored tuples h f a k) (target_is slots stored tuples rows h f a k l 2 aim)
 
-      pub out_refused : 16 ≤ l → moved_with (l - 16) slots stored tuples ≡ out_of slots stored tuples rows h f a k
+      pub out_refused : (x : ℕ) → l ≡ 16 + x → moved_with x slots stored tuples ≡ out_of slots stored tuples rows h f a k
       unfolding out_at
-      out_refused u = sym (at_target_law ∙ choose_true _ _ _ (le-leb 16 l u))
+      out_refused x p =
+          let u : 16 ≤ l = omega (arith, p) in
+          let q : l - 16 ≡ x = omega (arith, p) in
+          sym (at_target_law ∙ choose_true _ _ _ (le-leb 16 l u) ∙ ap (λ (y : ℕ). moved_with y slots stored tuples) q)
 
       pub out_reached : (m : Moved) → l < 16 → m ≡ out_to l slots stored tuples h f a k → m ≡ out_of slots stored tuples rows h f a k
       unfolding out_at
@@ -153,11 +157,14 @@ module _
 
     -- an in
     module _ (aim : l ≡ aim_of (get_or (get_or slots (a % 16) []) (k % 4) []) a h f (get_or rows (a % 16) []) 0) where
-      pub take_refused : 16 ≤ l → moved_with (l - 16) slots stored tuples ≡ take_of slots stored tuples rows h f a k
+      pub take_refused : (x : ℕ) → l ≡ 16 + x → moved_with x slots stored tuples ≡ take_of slots stored tuples rows h f a k
       unfolding take_of take_place_at
-      take_refused u =
+      take_refused x p =
+          let u : 16 ≤ l = omega (arith, p) in
+          let q : l - 16 ≡ x = omega (arith, p) in
           sym (ap (λ (y : ℕ). take_place_at y slots stored tuples h f a k) (target_is slots stored tuples rows h f a k l 0 aim)
-          ∙ choose_true _ _ _ (le-leb 16 l u))
+          ∙ choose_true _ _ _ (le-leb 16 l u)
+          ∙ ap (λ (y : ℕ). moved_with y slots stored tuples) q)
 
       module _ (u : l < 16) (i : ℕ) (slots' : List (List (List ℕ))) (met : met_with i slots' ≡ meet_of slots stored tuples h f a k l) where
         take_met_law : take_of slots stored tuples rows h f a k ≡ take_met l stored tuples (met_with i slots')
@@ -180,11 +187,14 @@ module _
 
     -- a read
     module _ (aim : l ≡ aim_of (get_or (get_or slots (a % 16) []) (k % 4) []) a h f (get_or rows (a % 16) []) 1) where
-      pub read_refused : 16 ≤ l → acted_with (l - 16) slots ≡ read_of slots stored tuples rows h f a k
+      pub read_refused : (x : ℕ) → l ≡ 16 + x → acted_with x slots ≡ read_of slots stored tuples rows h f a k
       unfolding read_of read_at
-      read_refused u =
+      read_refused x p =
+          let u : 16 ≤ l = omega (arith, p) in
+          let q : l - 16 ≡ x = omega (arith, p) in
           sym (ap (λ (y : ℕ). read_at y slots stored tuples h f a k) (target_is slots stored tuples rows h f a k l 1 aim)
-          ∙ choose_true _ _ _ (le-leb 16 l u))
+          ∙ choose_true _ _ _ (le-leb 16 l u)
+          ∙ ap (λ (y : ℕ). acted_with y slots) q)
 
       module _ (u : l < 16) (i : ℕ) (slots' : List (List (List ℕ))) (met : met_with i slots' ≡ meet_of slots stored tuples h f a k l) where
         read_met_law : read_of slots stored tuples rows h f a k ≡ read_met (met_with i slots')
@@ -207,6 +217,23 @@ pub or_implies : (a b : Bool) → (not a || b) ≡ implies a b
 unfolding implies
 or_implies true b = refl
 or_implies false b = refl
+
+-- members that have room, and one that lacks it
+module _ (stored : List ℕ) (set : List Bool) (l : ℕ) where
+  pub room_more :
+      all l (λ i. implies (get_or set i false) (ltb (get_or stored i 0) 16)) ≡ true
+      → (not (get_or set l false) || ltb (get_or stored l 0) 16) ≡ true
+      → all (l + 1) (λ i. implies (get_or set i false) (ltb (get_or stored i 0) 16)) ≡ true
+  room_more e p = all_goes_on l _ _ e p (or_implies (get_or set l false) (ltb (get_or stored l 0) 16))
+
+  pub room_lacks : l < 16 → (not (get_or set l false) || ltb (get_or stored l 0) 16) ≡ false → false ≡ room_in stored set
+  unfolding room_in
+  room_lacks h p = all_fails 16 _ l h (sym (or_implies (get_or set l false) (ltb (get_or stored l 0) 16)) ∙ p)
+
+  pub room_whole :
+      all l (λ i. implies (get_or set i false) (ltb (get_or stored i 0) 16)) ≡ true → l ≤ 16 → 16 ≤ l → true ≡ room_in stored set
+  unfolding room_in
+  room_whole e h g = all_end l 16 _ true (sym e) h g
 
 module _ (stored : List ℕ) (tuples : List (List (List ℕ))) where
   pub put_member :

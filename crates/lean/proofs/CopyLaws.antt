@@ -1,8 +1,9 @@
--- Arrays of words filled from records, and records from words (`specs/Loading.antt`, `specs/Words.antt`): how the loops begin, and the
--- net while its nodes are put in.
+-- Arrays of words filled from records, and records from words (`specs/Loading.antt`, `specs/Words.antt`), and the net while its nodes
+-- are put in.
 -- Assumes nothing.
 use Prim.Native.Nat.{ℕ, ◌+◌, ◌<◌, ◌≤◌}
-use mathlib.Core.Path.{◌≡◌, refl, ap}
+use mathlib.Core.Path.{◌≡◌, refl, ap, ◌∙◌}
+use mathlib.Core.List.{List}
 use native.Mathlib.Omega.{arith}
 use lib.ListN.{set, replicate}
 use Rattle.lean_words.specs.Filled.{filled}
@@ -10,13 +11,13 @@ use Rattle.lean_words.proofs.FilledLaws.{filled_none, filled_more, filled_end}
 use Rattle.lean.specs.Types.{Node, Net}
 use Rattle.lean.specs.Words.{Words, node_in, net_in}
 
--- ---- an array of one value, before the first turn
-module _ {A : Type 0} (f : ℕ → A) (x y : A) (e : x ≡ y) where
-  pub four_alike : replicate 4 x ≡ filled 0 f (replicate 4 y)
-  four_alike = filled_none f _ _ (ap (replicate 4) e)
+-- ---- an array of one value that is filled whole, where that value is known
+module _ {A : Type 0} (f : ℕ → A) (x y : A) (e : x ≡ y) (xs : List A) where
+  pub four_filled : xs ≡ filled 4 f (replicate 4 x) → xs ≡ filled 4 f (replicate 4 y)
+  four_filled p = p ∙ ap (λ (z : A). filled 4 f (replicate 4 z)) e
 
-  pub sixteen_alike : replicate 16 x ≡ filled 0 f (replicate 16 y)
-  sixteen_alike = filled_none f _ _ (ap (replicate 16) e)
+  pub sixteen_filled : xs ≡ filled 16 f (replicate 16 x) → xs ≡ filled 16 f (replicate 16 y)
+  sixteen_filled p = p ∙ ap (λ (z : A). filled 16 f (replicate 16 z)) e
 
 -- ---- the net: the nodes below a are those of the words
 pub record Decoding (start : Net) (w : Words) (net : Net) (a : ℕ) : Type 0 where
@@ -28,11 +29,20 @@ pub record Decoding (start : Net) (w : Words) (net : Net) (a : ℕ) : Type 0 whe
   pub code_is : net.code ≡ start.code
 
 module _ (start : Net) (w : Words) where
-  pub decoding_none : start.addresses ≡ w.count → Decoding start w start 0
-  decoding_none e = record {
+  pub decoding_none :
+      Decoding start w
+      (record {
+        format = start.format;
+        addresses = w.count;
+        length = start.length;
+        nodes = start.nodes;
+        code = start.code;
+      })
+      0
+  decoding_none = record {
     low = omega arith;
     format_is = refl;
-    addresses_are = e;
+    addresses_are = refl;
     length_is = refl;
     nodes_are = filled_none (node_in w) start.nodes _ refl;
     code_is = refl;

@@ -253,7 +253,7 @@ module _
           net_is = two_anew start (nodes_are start w seat.stands) w w' a n _ _ apart host room others creator_is opened-is;
           ranged = record {
             slots_in = slot_ranged w.slots a k us seat.stands.ranged.slots_in words_ranged;
-            tuples_in_law = seat.stands.ranged.tuples_in_law;
+            tuples_ranged = seat.stands.ranged.tuples_ranged;
           };
         })
 

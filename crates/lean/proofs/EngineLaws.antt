@@ -1,29 +1,27 @@
 -- Laws by which the engine's calls meet their definitions (`specs/Calls.antt`), from what is shown of loading (`LoadTypes.antt`) and of
 -- each action (`ActionTypes.antt`). Assumes nothing.
-use Prim.Native.Nat.{ℕ, zero, suc, ◌+◌, ◌-◌, ◌<◌, ◌≤◌}
+use Prim.Native.Nat.{ℕ, suc, ◌+◌, ◌-◌, ◌<◌, ◌≤◌}
 use mathlib.Core.Path.{◌≡◌, refl, sym, ap, subst, ◌∙◌}
 use mathlib.Core.Bool.{Bool, true, false}
 use mathlib.Core.List.{List, [], ◌∷◌}
 use native.Mathlib.Omega.{arith}
 use native.Mathlib.Numerals.{add-one}
-use lib.Dec.{leb}
 use lib.ListN.{length, set, replicate, length-set}
-use borrow.Author.Tests.{le-leb, lt-leb, leb-true, leb-false}
-use Rattle.net.specs.Choice.{choose}
+use borrow.Author.Tests.{le-leb, lt-leb}
 use Rattle.net.specs.Shape.{Shaped}
 use Rattle.net.proofs.Laws.{choose_true, choose_false}
 use Rattle.sound.specs.Soundness.{sound_of}
 use Rattle.sound.proofs.NetFacts.{sound_apart}
 use Rattle.plans.specs.Answer.{number_of}
 use Rattle.step.specs.Pick.{unchanged}
-use Rattle.step.specs.Ran.{Ran, numbers, answered}
+use Rattle.step.specs.Ran.{numbers, answered}
 use Rattle.text.specs.Buffer.{over}
 use Rattle.lean_step.specs.LeanStep.{lean_pick_of, lean_ran_from}
 use Rattle.lean.specs.Types.{Instruction, Net, Answer, Picked}
 use Rattle.lean.specs.Words.{Words, words_with, net_in}
 use Rattle.lean.specs.Loading.{words_of, tables_of, loaded_slots, loaded_counts, loaded_tuples, loaded_rows, loaded_heads, loaded_fields}
 use Rattle.lean.specs.Loading.{loaded_sets, loaded_needs}
-use Rattle.lean.specs.Rounds.{Tables, RanWords, tables_with, ran_words}
+use Rattle.lean.specs.Rounds.{tables_with, ran_words}
 use Rattle.lean.specs.Standing.{Stands, Tabled, MadeEach}
 use Rattle.lean.specs.Calls.{room_for, net_after, answers_after}
 use Rattle.lean.proofs.LoadTypes.{Fits, LoadAgrees, HeadsAgree, FieldsAgree, SetsAgree, NeedsAgree}
@@ -156,19 +154,8 @@ module _ (picks xs₀ : List ℕ) where
       ap (λ (n : ℕ). over xs i (replicate n 10)) (sym none) ∙ m.left_is
 
 -- ---- what a call gives and leaves
-pub judged_sound : (s : Net) (r : Bool) → r ≡ sound_of s → r ≡ true → sound_of s ≡ true
-judged_sound s r p q = sym p ∙ q
-
 pub judged_unsound : (s : Net) (r : Bool) → r ≡ sound_of s → r ≡ false → sound_of s ≡ false
 judged_unsound s r p q = sym p ∙ q
-
--- what the test of the room says
-module _ (picks xs₀ : List ℕ) (room : Bool) (is : room ≡ leb (length picks) (length xs₀)) where
-  pub has_room : room ≡ true → length picks ≤ length xs₀
-  has_room h = leb-true _ _ (sym is ∙ h)
-
-  pub has_none : room ≡ false → length xs₀ < length picks
-  has_none h = leb-false _ _ (sym is ∙ h)
 
 module _ (s : Net) (picks xs₀ : List ℕ) where
   room_is : length picks ≤ length xs₀ → room_for picks xs₀ ≡ true

@@ -5,20 +5,19 @@ use mathlib.Core.Logic.{◌≢◌}
 use mathlib.Core.Bool.{Bool}
 use mathlib.Core.List.{List, []}
 use native.Mathlib.Omega.{arith}
-use lib.ListN.{length, get_or, set, replicate, get_or-replicate, length-replicate, length-set}
+use lib.ListN.{length, get_or, set, length-replicate}
 use lib.Seq.{get_or-set_same, get_or-set_other}
 use Rattle.net.specs.Records.{address_of, node_at, process_at, tuple_at, row_at, with_node, with_process, with_rows, with_counts}
 use Rattle.net.specs.Records.{free_process, zero_tuple, zero_row}
 use Rattle.net.specs.Shape.{Shaped}
 use Rattle.net.proofs.Past.{past_node, past_process, past_tuple, past_row}
 use Rattle.step.specs.Pick.{with_host}
-use Rattle.lean_words.specs.Filled.{filled}
 use Rattle.lean_words.specs.Processes.{process_in}
 use Rattle.lean_words.specs.Stores.{tuple_in}
 use Rattle.lean_words.specs.Rights.{row_in}
-use Rattle.lean_words.proofs.FilledLaws.{length_filled, filled_at, filled_set, filled_same}
-use Rattle.lean.specs.Types.{Process, Tuple, Row, Node, Net}
-use Rattle.lean.specs.Words.{Words, Grid, Sized, processes_in, tuples_in, rows_in, node_with, node_in, net_in, slot_at, with_slot}
+use Rattle.lean_words.proofs.FilledLaws.{length_filled, filled_at, filled_set}
+use Rattle.lean.specs.Types.{Process, Tuple, Node, Net}
+use Rattle.lean.specs.Words.{Words, Sized, processes_in, tuples_in, rows_in, node_with, node_in, net_in, slot_at, with_slot}
 
 -- ---- the words with one part replaced
 abbrev pub with_slots : Words → List (List (List ℕ)) → Words

@@ -93,7 +93,7 @@ module _ (s : Net) (shape : Shaped s) (sound : sound_of s ≡ true) (fits : Fits
           (slots_ranged s.format s.addresses s.length ok.addresses_most ok.length_most (at a) (node_ok a h)
           (λ k v l. fits.values_fit a k v h l) (λ j i l. fits.items_fit a j i h l) k l);
     };
-    tuples_in_law = record {
+    tuples_ranged = record {
       each = λ a j h l.
           subst (λ (xs : List (List ℕ)). RangedTuple (get_or xs j [])) (sym (tuples_at a h))
           (store_ranged s.format s.addresses s.length ok.addresses_most ok.length_most (at a) (node_ok a h)

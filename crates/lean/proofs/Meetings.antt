@@ -6,7 +6,7 @@ use mathlib.Core.Bool.{Bool, true, false}
 use mathlib.Core.List.{List, []}
 use native.Mathlib.Omega.{arith}
 use lib.Dec.{ltb}
-use lib.ListN.{length, get_or}
+use lib.ListN.{get_or}
 use borrow.Author.Tests.{ltb-true, ltb-false}
 use Rattle.std.specs.Prelude.{Option, Some, None}
 use Rattle.net.specs.Choice.{choose}
@@ -78,14 +78,14 @@ module _
         stored_is
         (oldest_in_law w.count a ws p (seat_few start w a k ws p c seat) seat.used (seat_ranged start w a k ws p c seat)
         (seat_values start w a k ws p c seat) c (seat_fields start w a k ws p c seat) there x store each
-        (λ j h. seat.stands.ranged.tuples_in_law.each l j low h) tuples_ok)
+        (λ j h. seat.stands.ranged.tuples_ranged.each l j low h) tuples_ok)
 
     met_stored : met < 16 → met < get_or w.stored l 0
     met_stored =
         subst (λ (n : ℕ). oldest_of_first n < 16 → oldest_of_first n < n) stored_is
         (oldest_stored w.count a ws p (seat_few start w a k ws p c seat) seat.used (seat_ranged start w a k ws p c seat)
         (seat_values start w a k ws p c seat) c (seat_fields start w a k ws p c seat) there x store each
-        (λ j h. seat.stands.ranged.tuples_in_law.each l j low h) tuples_ok)
+        (λ j h. seat.stands.ranged.tuples_ranged.each l j low h) tuples_ok)
 
     -- ---- the process bound to the tuple at place j, moved on
     abbrev pub bound_to : ℕ → List ℕ
@@ -98,14 +98,14 @@ module _
         host_anew start w a k ws p c seat (bound_to j)
         ∙ ap (with_host s (address_of a) k)
         (bound_in w.count a p c (seat_fields start w a k ws p c seat) (get_or store j [])
-        (seat.stands.ranged.tuples_in_law.each l j low h) ws (seat_ranged start w a k ws p c seat) seat.busy seat.decoded q.0
+        (seat.stands.ranged.tuples_ranged.each l j low h) ws (seat_ranged start w a k ws p c seat) seat.busy seat.decoded q.0
         (omega (arith, code_below start w seat.stands))
         ∙ ap (λ (t : Tuple). moved_to (bound_of p t e) q) (sym (each j h)))
 
     pub bound_slot : (j : ℕ) → j < 16 → RangedSlot (bound_to j)
     bound_slot j h =
         bound_ranged w.count a p c (seat_fields start w a k ws p c seat) (get_or store j [])
-        (seat.stands.ranged.tuples_in_law.each l j low h) ws (seat_ranged start w a k ws p c seat) seat.busy seat.decoded q.0
+        (seat.stands.ranged.tuples_ranged.each l j low h) ws (seat_ranged start w a k ws p c seat) seat.busy seat.decoded q.0
 
     -- ---- what is met
     module _

@@ -20,7 +20,6 @@ use Rattle.net.proofs.Lengths.{element}
 use Rattle.net.specs.contracts.instruction.Instruction as instruction
 use Rattle.net.specs.contracts.instruction.TemplateField as templateField
 use Rattle.net.specs.contracts.instruction.Pattern as pattern
-use Rattle.net.specs.contracts.network.Net as net
 use Rattle.net.specs.contracts.node.Node as node
 use Rattle.net.specs.contracts.process.Process as process
 use Rattle.net.specs.contracts.tuple.Field as tupleField

@@ -54,7 +54,7 @@ module _ (start : Net) (size : length start.nodes ≡ 16) (w : Words) (t : List 
   record Storing (r : Given) (s : Net) : Type 0 where
     sized : Sized (with_stores w r.stored r.tuples)
     net_is : net_in start (with_stores w r.stored r.tuples) ≡ s
-    tuples_in_law : RangedTuples r.tuples
+    tuples_ranged : RangedTuples r.tuples
 
   module _ (r : Given) (s : Net) (b : Storing r s) (l : ℕ) (h : l < 16) where
     abbrev here : Words
@@ -76,7 +76,7 @@ module _ (start : Net) (size : length start.nodes ≡ 16) (w : Words) (t : List 
         each_row = b.sized.each_row;
       };
       net_is = put_anew start size here b.sized l h t room ∙ ap (λ (s' : Net). added s' (address_of l) (tuple_in t)) b.net_is;
-      tuples_in_law = put_ranged r.tuples l n t h b.tuples_in_law ranged;
+      tuples_ranged = put_ranged r.tuples l n t h b.tuples_ranged ranged;
     }
 
     full_stored : 16 ≤ n → Storing r (added s (address_of l) (tuple_in t))
@@ -84,7 +84,7 @@ module _ (start : Net) (size : length start.nodes ≡ 16) (w : Words) (t : List 
       sized = b.sized;
       net_is =
           sym (put_full start size here b.sized l h (tuple_in t) full) ∙ ap (λ (s' : Net). added s' (address_of l) (tuple_in t)) b.net_is;
-      tuples_in_law = b.tuples_in_law;
+      tuples_ranged = b.tuples_ranged;
     }
 
     put_stored : Storing (given_by (put_of r.stored r.tuples l t)) (added s (address_of l) (tuple_in t))
@@ -156,7 +156,7 @@ module _
           (record {
             sized = host_sized start w a k ws p c seat _;
             net_is = host_moved start w a k ws p c seat q known.2;
-            tuples_in_law = seat.stands.ranged.tuples_in_law;
+            tuples_ranged = seat.stands.ranged.tuples_ranged;
           }) in
           rw (head_is 3) (record {
             answer_is = refl;
@@ -165,7 +165,7 @@ module _
                 ∙ ap (added_all (with_host s (address_of a) k (moved_to p q)) g) (tuple_is start w a k ws p c seat known.3.each there);
             ranged = record {
               slots_in = slot_ranged w.slots a k _ seat.stands.ranged.slots_in (moved_ranged start w a k ws p c seat q.0);
-              tuples_in_law = stored.tuples_in_law;
+              tuples_ranged = stored.tuples_ranged;
             };
           })
 

@@ -89,8 +89,8 @@ module _
                 (tuple_is start w a k ws p c seat known.2.each there);
             ranged = record {
               slots_in = slot_ranged w.slots a k _ seat.stands.ranged.slots_in (moved_ranged start w a k ws p c seat q.0);
-              tuples_in_law =
-                  put_ranged w.tuples l n tuple low seat.stands.ranged.tuples_in_law
+              tuples_ranged =
+                  put_ranged w.tuples l n tuple low seat.stands.ranged.tuples_ranged
                   (tuple_ranged start w a k ws p c seat known.2.each there);
             };
           })

@@ -11,7 +11,7 @@ use Rattle.net.specs.Choice.{choose}
 use Rattle.net.proofs.Laws.{if_ne}
 use Rattle.text.specs.Buffer.{over}
 use Rattle.lean.specs.Words.{Words, words_with}
-use Rattle.lean.specs.Actions.{Acted, Moved, Created, acted_with, moved_with, created_with, stop_of, out_of, take_of, read_of, eval_of}
+use Rattle.lean.specs.Actions.{acted_with, moved_with, created_with, stop_of, out_of, take_of, read_of, eval_of}
 use Rattle.lean.specs.Actions.{create_of, fork_of, out_all_of}
 use Rattle.lean.specs.Rounds.{Tables, Stepped, RanWords, tables_with, stepped_with, after_acted, after_moved, after_created, stop_words}
 use Rattle.lean.specs.Rounds.{out_words, take_words, read_words, eval_words, create_words, fork_words, out_all_words, act_by, act_with, act_of}

@@ -1,18 +1,17 @@
 -- Every pick keeps the lengths of the arrays of words. Assumes nothing.
-use Prim.Native.Nat.{ℕ, zero, suc, ◌<◌, ◌%◌, ◌/◌}
-use mathlib.Core.Path.{◌≡◌, refl, sym, ap, ◌∙◌}
+use Prim.Native.Nat.{ℕ, zero, suc, ◌<◌, ◌%◌}
+use mathlib.Core.Path.{◌≡◌, ap, ◌∙◌}
 use mathlib.Core.Bool.{Bool}
 use mathlib.Core.List.{List, []}
 use native.Mathlib.Omega.{arith}
 use lib.ListN.{length, get_or, set, replicate, length-set, length-replicate, get_or-replicate}
-use Rattle.net.specs.Choice.{choose, fold}
-use Rattle.net.proofs.Every.{chosen, chosen_lt}
-use Rattle.net.proofs.FoldLaws.{fold_keeps}
+use Rattle.net.specs.Choice.{fold}
+use Rattle.net.proofs.Every.{chosen}
 use Rattle.lean_step.proofs.Covering.{at_set}
 use Rattle.lean_words.specs.Stores.{closed_up}
 use Rattle.lean_words.specs.Rights.{with_flags, gained_flags}
 use Rattle.lean_words.proofs.FilledLaws.{length_filled}
-use Rattle.lean.specs.Words.{Words, Grid, Sized, slot_at, with_slot, with_word}
+use Rattle.lean.specs.Words.{Words, Grid, Sized, with_slot, with_word}
 use Rattle.lean.specs.Actions.{Acted, Moved, Created, Put, Met, Given, stop_of, put_of, out_put, out_to, out_at, out_of, met_at, meet_of, fewer, removed_of}
 use Rattle.lean.specs.Actions.{take_met, take_place_at, take_of, read_met, read_at, read_of, start_in, start_at, start_of, fork_of, eval_at, eval_of}
 use Rattle.lean.specs.Actions.{open_alike, opened_policy, gained_at, open_by_origin, open_of, create_of, given_by, given_at, put_below, out_all_put, out_to_all, out_all_of}

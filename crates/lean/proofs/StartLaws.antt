@@ -1,9 +1,10 @@
 -- What the code of a stop, a fork and an eval leaves is what `specs/Actions.antt` says, way out by way out. In what follows slots are the
 -- words of all slots, j the lowest free slot of l, x the target. Assumes nothing.
-use Prim.Native.Nat.{ℕ, ◌-◌, ◌%◌, ◌<◌, ◌≤◌}
+use Prim.Native.Nat.{ℕ, ◌+◌, ◌-◌, ◌%◌, ◌<◌, ◌≤◌}
 use mathlib.Core.Path.{◌≡◌, ap, ◌∙◌}
 use mathlib.Core.Bool.{Bool, true, false}
 use mathlib.Core.List.{List, []}
+use native.Mathlib.Omega.{arith}
 use lib.ListN.{get_or}
 use borrow.Author.Tests.{lt-ltb, le-ltb, le-leb, lt-leb}
 use Rattle.net.specs.Choice.{choose}
@@ -39,9 +40,12 @@ module _ (slots : List (List (List ℕ))) where
     unfolding eval_of
     at_target_law r e = e ∙ ap (λ (i : ℕ). eval_at i slots rows need h a k) is
 
-    pub eval_refused : 16 ≤ x → acted_with (x - 16) slots ≡ eval_of slots rows need h f a k
+    pub eval_refused : (y : ℕ) → x ≡ 16 + y → acted_with y slots ≡ eval_of slots rows need h f a k
     unfolding eval_at choose
-    eval_refused far = at_target_law _ (rw (le-leb 16 x far))
+    eval_refused y p =
+        let far : 16 ≤ x = omega (arith, p) in
+        let q : y ≡ x - 16 = omega (arith, p) in
+        at_target_law _ (rw (le-leb 16 x far) (ap (λ (z : ℕ). acted_with z slots) q))
 
     module _ (near : x < 16) (within : Bool) (judged : within ≡ admits_words need (get_or (get_or rows (x % 16) []) (a % 16) []) x) where
       pub eval_admitted : within ≡ true → (r : Acted) → r ≡ start_of slots h a k x a → r ≡ eval_of slots rows need h f a k

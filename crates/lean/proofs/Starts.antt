@@ -7,7 +7,7 @@ use mathlib.Core.List.{List, []}
 use native.Mathlib.Omega.{arith}
 use native.Mathlib.Decide.{dec_le}
 use lib.Dec.{ltb, leb}
-use lib.ListN.{length, get_or, set, length-set}
+use lib.ListN.{get_or, set, length-set}
 use lib.Seq.{get_or-set_same, get_or-set_other}
 use borrow.Author.Tests.{le-leb, lt-leb}
 use Rattle.std.specs.Prelude.{Option, Some, None}
@@ -111,7 +111,7 @@ module _ (start : Net) (w : Words) (a k : ℕ) (ws : List ℕ) (p : Process) (c 
                   (slot_ranged w.slots a k moved seat.stands.ranged.slots_in (moved_ranged start w a k ws p c seat q.0)).each l j _ low
                   (subst RangedSlot (sym same) ranged);
             };
-            tuples_in_law = seat.stands.ranged.tuples_in_law;
+            tuples_ranged = seat.stands.ranged.tuples_ranged;
           };
         })
 
@@ -144,7 +144,7 @@ stop_agrees start w a k ws p c seat act =
       net_is = host_anew start w a k ws p c seat free_words ∙ ap (with_host (net_in start w) (address_of a) k) free_back;
       ranged = record {
         slots_in = slot_ranged w.slots a k free_words seat.stands.ranged.slots_in free_ranged;
-        tuples_in_law = seat.stands.ranged.tuples_in_law;
+        tuples_ranged = seat.stands.ranged.tuples_ranged;
       };
     })
 

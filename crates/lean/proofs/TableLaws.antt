@@ -4,7 +4,7 @@ use mathlib.Core.Path.{◌≡◌}
 use mathlib.Core.Bool.{true, false}
 use mathlib.Core.List.{List, []}
 use native.Mathlib.Omega.{arith}
-use lib.ListN.{length, get_or, replicate, length-replicate}
+use lib.ListN.{get_or, replicate, length-replicate}
 use Rattle.net.specs.Records.{place_of, instruction_at}
 use Rattle.net.specs.Shape.{Shaped}
 use Rattle.sound.specs.Soundness.{sound_of}

@@ -73,7 +73,7 @@ module _
               ∙ ap (λ (s' : Net). taken s' (address_of l) j) (bound_host start w a k ws p c seat there q next l used j g);
           ranged = record {
             slots_in = slot_ranged w.slots a k (bound j) seat.stands.ranged.slots_in (bound_slot start w a k ws p c seat there q next l used j g);
-            tuples_in_law = taken_ranged w.tuples l j low seat.stands.sized.tuples_are seat.stands.ranged.tuples_in_law;
+            tuples_ranged = taken_ranged w.tuples l j low seat.stands.sized.tuples_are seat.stands.ranged.tuples_ranged;
           };
         })
 
@@ -106,7 +106,7 @@ module _
           net_is = bound_host start w a k ws p c seat there q next l used j g;
           ranged = record {
             slots_in = slot_ranged w.slots a k (bound j) seat.stands.ranged.slots_in (bound_slot start w a k ws p c seat there q next l used j g);
-            tuples_in_law = seat.stands.ranged.tuples_in_law;
+            tuples_ranged = seat.stands.ranged.tuples_ranged;
           };
         })
 

@@ -1,6 +1,6 @@
 -- Describes the code, and is no part of what a reader has to believe: what each action does to the words. In what follows slots, stored,
 -- tuples and rows are the arrays of `Words.antt`, h and f the head and the fields of an instruction, a the host, k the slot, l a target.
-use Rattle.std.specs.Prelude.{ℕ, ◌+◌, ◌-◌, ◌%◌, Bool, true, false, List, [], eqb, ltb, leb, get_or, set, replicate}
+use Rattle.std.specs.Prelude.{ℕ, ◌+◌, ◌-◌, ◌%◌, Bool, true, false, List, [], Result, Ok, Err, eqb, ltb, leb, get_or, set, replicate}
 use Rattle.net.specs.Choice.{choose, both, implies, all, fold}
 use Rattle.lean_words.specs.Processes.{free_words, free_slot_in}
 use Rattle.lean_words.specs.Stores.{oldest_in, put_words, closed_up}
@@ -35,6 +35,10 @@ abbrev pub created_with : ℕ → ℕ → List (List (List ℕ)) → List (List 
 created_with answer n slots rows = record { answer = answer; count = n; slots = slots; rows = rows }
 
 -- ---- the target: an address, or 16 and the answer above that
+abbrev pub aimed : Result ℕ ℕ → ℕ
+aimed (Ok l) = l
+aimed (Err answer) = 16 + answer
+
 unfoldable pub aim_at : ℕ → Bool → List ℕ → List ℕ → List (List Bool) → ℕ → ℕ
 aim_at x known p h policy right =
     choose (both known (ltb x 256))

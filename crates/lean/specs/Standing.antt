@@ -1,6 +1,6 @@
 -- Describes the code, and is no part of what a reader has to believe: what is known of the words before and after each pick. In what
 -- follows `start` is the net that they were loaded from, and `net_in start w` the one that they stand for now.
-use Rattle.std.specs.Prelude.{ℕ, ◌<◌, ◌≤◌, ◌≡◌, Bool, true, List, [], length, get_or, drop}
+use Rattle.std.specs.Prelude.{ℕ, ◌<◌, ◌≤◌, ◌≡◌, true, List, [], length, get_or, drop}
 use Rattle.net.specs.Records.{address_of, place_of, node_at, process_at, instruction_at}
 use Rattle.net.specs.Shape.{Shaped}
 use Rattle.sound.specs.Soundness.{sound_of}

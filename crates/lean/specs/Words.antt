@@ -78,4 +78,4 @@ pub record RangedTuples (tuples : List (List (List ℕ))) : Type 0 where
 
 pub record Ranged (w : Words) : Type 0 where
   pub slots_in : RangedSlots w.slots
-  pub tuples_in_law : RangedTuples w.tuples
+  pub tuples_ranged : RangedTuples w.tuples

@@ -1,7 +1,9 @@
 // What each action does to the words: a is the host, k the slot, at the place of the instruction.
-ghost use Rattle.std.specs.Prelude.{◌≡◌};
+// Kept: no struct of the arrays: an action is lent those that it may change, so its contract is silent of the others.
+// Kept: an answer is a number here and in rounds.rt, as in `Acted`, `Moved`, `Created`, `Stepped` and the buffer.
+ghost use Rattle.std.specs.Prelude.{◌<◌, ◌≡◌, IfOk};
 ghost use Rattle.lean.specs.Words.{with_word};
-ghost use Rattle.lean.specs.Actions.{acted_with, moved_with, created_with, put_with, met_with, given_with, aim_of, removed_of, stop_of, put_of, out_to, out_of, meet_of, take_of};
+ghost use Rattle.lean.specs.Actions.{acted_with, moved_with, created_with, put_with, met_with, given_with, aimed, aim_of, removed_of, stop_of, put_of, out_to, out_of, meet_of, take_of};
 ghost use Rattle.lean.specs.Actions.{read_of, start_of, fork_of, eval_of, open_alike, open_by_origin, open_of, create_of, room_in, given_at, put_below, out_to_all, out_all_of};
 
 use lean_code::fields::{WRITTEN, bind, defined, made, met, word_from};
@@ -10,8 +12,8 @@ use lean_words::rights::{admits, gain, grants};
 use lean_words::stores::close_up;
 use lean_words::words::UNSET;
 
-// The address that an action of the process with the words p concerns, or 16 and its answer above that: 6 where a variable lacks,
-// 4 where the address is in a variable and the row has not the right there.
+// The address that an action of the process with the words p concerns, or the action's answer: 6 where a variable
+// lacks, 4 where the address is in a variable and the row has not the right there.
 fn aim(
     p: &[usize; 16],
     a: usize,
@@ -19,21 +21,22 @@ fn aim(
     f: &[[usize; 4]; 4],
     rows: &[[bool; 65]; 16],
     right: usize,
-) -> usize
-    ensures { result ≡ aim_of p.now a h.now f.now rows.now right }
+) -> Result<usize, usize>
+    ensures low { IfOk result (λ l. l < 16) }
+    ensures value { aimed result ≡ aim_of p.now a h.now f.now rows.now right }
 {
     let w = word_from(p, a, h[2], h[1]);
     let l = w % 16;
     if defined(p, f) & (w < UNSET) {
         if WRITTEN <= h[2] {
-            l
+            Ok(l)
         } else if grants(&rows[p[9] % 16], l, right) {
-            l
+            Ok(l)
         } else {
-            20
+            Err(4)
         }
     } else {
-        22
+        Err(6)
     }
 }
 
@@ -104,14 +107,14 @@ pub(crate) fn out(
 ) -> usize
     ensures { moved_with result procs.new stored.new tuples.new ≡ out_of procs.old stored.old tuples.old rows.now h.now f.now a k }
 {
-    let l = aim(&procs[a % 16][k % 4], a, h, f, &rows[a % 16], 2);
-    if 16 <= l {
-        return l - 16;
+    match aim(&procs[a % 16][k % 4], a, h, f, &rows[a % 16], 2) {
+        Ok(l) => out_to(procs, stored, tuples, h, f, a, k, l),
+        Err(answer) => answer,
     }
-    out_to(procs, stored, tuples, h, f, a, k, l)
 }
 
 // The tuple that a read or an in meets, to which its process is bound: its place, 16 where none fits.
+// Kept: no `Option`: `meet_of` has the place from `oldest_in` of `lean_words`, where 16 is none; so `start` its slot.
 fn meet(
     procs: &mut [[[usize; 16]; 4]; 16],
     stored: &[usize; 16],
@@ -161,10 +164,10 @@ pub(crate) fn take(
 ) -> usize
     ensures { moved_with result procs.new stored.new tuples.new ≡ take_of procs.old stored.old tuples.old rows.now h.now f.now a k }
 {
-    let l = aim(&procs[a % 16][k % 4], a, h, f, &rows[a % 16], 0);
-    if 16 <= l {
-        return l - 16;
-    }
+    let l = match aim(&procs[a % 16][k % 4], a, h, f, &rows[a % 16], 0) {
+        Ok(l) => l,
+        Err(answer) => return answer,
+    };
     let i = meet(procs, stored, tuples, h, f, a, k, l);
     if i < 16 {
         remove(stored, tuples, l, i);
@@ -186,10 +189,10 @@ pub(crate) fn read(
 ) -> usize
     ensures { acted_with result procs.new ≡ read_of procs.old stored.now tuples.now rows.now h.now f.now a k }
 {
-    let l = aim(&procs[a % 16][k % 4], a, h, f, &rows[a % 16], 1);
-    if 16 <= l {
-        return l - 16;
-    }
+    let l = match aim(&procs[a % 16][k % 4], a, h, f, &rows[a % 16], 1) {
+        Ok(l) => l,
+        Err(answer) => return answer,
+    };
     let i = meet(procs, stored, tuples, h, f, a, k, l);
     if i < 16 { 0 } else { 2 }
 }
@@ -236,14 +239,10 @@ pub(crate) fn eval(
 ) -> usize
     ensures { acted_with result procs.new ≡ eval_of procs.old rows.now need.now h.now f.now a k }
 {
-    let l = aim(&procs[a % 16][k % 4], a, h, f, &rows[a % 16], 3);
-    if 16 <= l {
-        return l - 16;
-    }
-    if admits(need, &rows[l % 16][a % 16], l) {
-        start(procs, h, a, k, l, a)
-    } else {
-        5
+    match aim(&procs[a % 16][k % 4], a, h, f, &rows[a % 16], 3) {
+        Ok(l) if admits(need, &rows[l % 16][a % 16], l) => start(procs, h, a, k, l, a),
+        Ok(_) => 5,
+        Err(answer) => answer,
     }
 }
 
@@ -308,13 +307,13 @@ pub(crate) fn create(
 fn room_at_all(stored: &[usize; 16], set: &[bool; 16]) -> bool
     ensures { result ≡ room_in stored.now set.now }
 {
-    let mut ok = true;
-    let mut l = 0;
-    while l < 16 {
-        ok = ok & (!set[l] | (stored[l] < 16));
-        l += 1;
+    for l in 0..16 {
+        let fits = !set[l] | (stored[l] < 16);
+        if !fits {
+            return false;
+        }
     }
-    ok
+    true
 }
 
 // The tuple put at l, where that is a member.
@@ -341,10 +340,8 @@ fn put_at_all(
 )
     ensures { given_with stored.new tuples.new ≡ put_below 16 stored.old tuples.old set.now t }
 {
-    let mut l = 0;
-    while l < 16 {
+    for l in 0..16 {
         put_at(stored, tuples, set[l], l, t);
-        l += 1;
     }
 }
 

@@ -1,7 +1,8 @@
 // A net from its arrays of words.
 ghost use Rattle.std.specs.Prelude.{◌≡◌};
-ghost use Rattle.lean.specs.Words.{words_with, processes_in, tuples_in, rows_in, node_with, net_in};
+ghost use Rattle.lean.specs.Words.{words_with, node_with, net_in};
 
+use crate::filling::fill;
 use lean_words::processes::process_of;
 use lean_words::rights::row_of;
 use lean_words::stores::tuple_of;
@@ -11,56 +12,20 @@ use net::policy::Row;
 use net::process::Process;
 use net::tuple::Tuple;
 
-fn processes_of(slots: [[usize; 16]; 4]) -> [Process; 4]
-    ensures { result ≡ processes_in slots }
-{
-    let free = Process::free();
-    let mut all = [free; 4];
-    let mut k = 0;
-    while k < 4 {
-        all[k] = process_of(slots[k]);
-        k += 1;
-    }
-    all
-}
-
-fn tuples_of(store: [[usize; 6]; 16]) -> [Tuple; 16]
-    ensures { result ≡ tuples_in store }
-{
-    let zero = Tuple::zero();
-    let mut all = [zero; 16];
-    let mut i = 0;
-    while i < 16 {
-        all[i] = tuple_of(store[i]);
-        i += 1;
-    }
-    all
-}
-
-fn rows_of(policy: [[bool; 65]; 16]) -> [Row; 16]
-    ensures { result ≡ rows_in policy }
-{
-    let zero = Row::zero();
-    let mut all = [zero; 16];
-    let mut o = 0;
-    while o < 16 {
-        all[o] = row_of(policy[o]);
-        o += 1;
-    }
-    all
-}
-
 fn node_of(
-    slots: [[usize; 16]; 4],
+    slots: &[[usize; 16]; 4],
     stored: usize,
-    store: [[usize; 6]; 16],
-    policy: [[bool; 65]; 16],
+    store: &[[usize; 6]; 16],
+    policy: &[[bool; 65]; 16],
 ) -> Node
-    ensures { result ≡ node_with slots stored store policy }
+    ensures { result ≡ node_with slots.now stored store.now policy.now }
 {
-    let rows = rows_of(policy);
-    let processes = processes_of(slots);
-    let tuples = tuples_of(store);
+    let mut rows = [Row::zero(); 16];
+    let mut processes = [Process::free(); 4];
+    let mut tuples = [Tuple::zero(); 16];
+    fill(policy, 16, &mut rows, row_of);
+    fill(slots, 4, &mut processes, process_of);
+    fill(store, 16, &mut tuples, tuple_of);
     Node {
         rows,
         processes,
@@ -83,11 +48,8 @@ pub(crate) fn decode(
 {
     let mut net = start;
     net.addresses = n;
-    let mut a = 0;
-    while a < 16 {
-        let node = node_of(procs[a], stored[a], tuples[a], rows[a]);
-        net.nodes[a] = node;
-        a += 1;
+    for a in 0..16 {
+        net.nodes[a] = node_of(&procs[a], stored[a], &tuples[a], &rows[a]);
     }
     net
 }

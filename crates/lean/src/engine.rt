@@ -12,9 +12,12 @@ ghost use Rattle.lean.specs.Words.{words_with};
 ghost use Rattle.lean.specs.Standing.{MadeEach};
 
 use crate::decoding::decode;
-use crate::loading::{load, load_fields, load_heads, load_needs, load_sets};
-use crate::rounds::make_each;
+use crate::filling::fill;
+use crate::loading::{load, load_needs};
+use crate::rounds::{Tables, make_each};
 use image::reader::{Verdict, read_image};
+use lean_code::fields::template_words;
+use lean_code::heads::{head_words, set_flags};
 use net::network::Net;
 use notation::reading::{Verdict as TextVerdict, read_text};
 use sound::soundness::sound;
@@ -25,24 +28,11 @@ pub struct Engine {
     net: Net,
 }
 
-// What opening an image gives: the verdict, and the engine, that of the empty net where the image is refused.
+// What opening a source gives: the verdict on it, and the engine, that of the empty net where it is refused.
+// Kept: no `Result`, as `net_value` of both openers speaks of a refused source too: `poll` drives its engine.
 #[derive(Clone, Copy)]
-pub struct Started {
-    pub answer: Verdict,
-    pub engine: Engine,
-}
-
-// The same of a text.
-#[derive(Clone, Copy)]
-pub struct StartedText {
-    pub answer: TextVerdict,
-    pub engine: Engine,
-}
-
-// The engine after a list of picks, and whether there was room for their answers.
-#[derive(Clone, Copy)]
-pub struct Made {
-    pub room: bool,
+pub struct Started<V> {
+    pub answer: V,
     pub engine: Engine,
 }
 
@@ -60,19 +50,22 @@ fn make_with(
     requires { (net.length ≤ 512) × (length picks.now ≤ length answers.old) }
     ensures { MadeEach (tables_of net.code net.length net.format) (words_with n.old procs.old stored.old tuples.old rows.old) picks.now answers.old (words_with n.new procs.new stored.new tuples.new rows.new) answers.new }
 {
-    let code = net.code;
-    let size = net.length;
     let mut heads = [[0usize; 6]; 512];
     let mut fields = [[[0usize; 4]; 4]; 512];
     let mut sets = [[false; 16]; 512];
     let mut needs = [[false; 69]; 512];
-    load_heads(code, size, &mut heads);
-    load_fields(code, size, &mut fields);
-    load_sets(code, size, &mut sets);
-    load_needs(code, size, &mut needs);
-    make_each(
-        n, procs, stored, tuples, rows, &heads, &fields, &sets, &needs, net.format, picks, answers,
-    );
+    fill(&net.code, net.length, &mut heads, head_words);
+    fill(&net.code, net.length, &mut fields, template_words);
+    fill(&net.code, net.length, &mut sets, set_flags);
+    load_needs(net.code, net.length, &mut needs);
+    let tables = Tables {
+        heads: &heads,
+        fields: &fields,
+        sets: &sets,
+        needs: &needs,
+        format: net.format,
+    };
+    make_each(n, procs, stored, tuples, rows, &tables, picks, answers);
 }
 
 // The net after picks on a sound net.
@@ -105,55 +98,52 @@ fn refuse_each(picks: &[u8], answers: &mut [u8])
     requires { length picks.now ≤ length answers.old }
     ensures { answers.new ≡ over answers.old 0 (replicate (length picks.now) 10) }
 {
-    let mut i = 0;
-    while i < picks.len() {
+    for i in 0..picks.len() {
         answers[i] = 10;
-        i += 1;
     }
 }
 
 impl Engine {
     // The engine of an image's net.
-    pub fn open(image: &[u8]) -> Started
+    pub fn open(image: &[u8]) -> Started<Verdict>
         ensures answer_value { result.answer ≡ (opened_of image.now).answer }
         ensures net_value { result.engine.net ≡ (opened_of image.now).net }
     {
         let opened = read_image(image);
-        let answer = opened.answer;
-        let net = opened.net;
-        let engine = Engine { net };
-        Started { answer, engine }
+        Started {
+            answer: opened.answer,
+            engine: Engine { net: opened.net },
+        }
     }
 
     // The engine of a text's net.
-    pub fn open_text(text: &[u8]) -> StartedText
+    pub fn open_text(text: &[u8]) -> Started<TextVerdict>
         ensures answer_value { result.answer ≡ (read_of text.now).answer }
         ensures net_value { result.engine.net ≡ (read_of text.now).net }
     {
         let opened = read_text(text);
-        let answer = opened.answer;
-        let net = opened.net;
-        let engine = Engine { net };
-        StartedText { answer, engine }
+        Started {
+            answer: opened.answer,
+            engine: Engine { net: opened.net },
+        }
     }
 
-    // The picks made one after another, their answers in the buffer. Without room for them nothing changes; on a net that is not
-    // sound, as the empty one is not, each is answered 10.
-    pub fn make(self, picks: &[u8], answers: &mut [u8]) -> Made
-        ensures room_value { result.room ≡ room_for picks.now answers.old }
-        ensures net_value { result.engine.net ≡ net_after self.net picks.now answers.old }
-        ensures answers_after { answers.new ≡ answers_after self.net picks.now answers.old }
+    // Makes the picks one after another, their answers in the buffer, and says whether there was room for them.
+    // Without room nothing changes; on a net that is not sound, as the empty one is not, each is answered 10.
+    pub fn make(&mut self, picks: &[u8], answers: &mut [u8]) -> bool
+        ensures room_value { result ≡ room_for picks.now answers.old }
+        ensures net_value { self.new.net ≡ net_after self.old.net picks.now answers.old }
+        ensures answers_after { answers.new ≡ answers_after self.old.net picks.now answers.old }
     {
         let room = picks.len() <= answers.len();
-        let mut engine = self;
         if room {
-            if sound(engine.net) {
-                engine.net = ran(engine.net, picks, answers);
+            if sound(self.net) {
+                self.net = ran(self.net, picks, answers);
             } else {
                 refuse_each(picks, answers);
             }
         }
-        Made { room, engine }
+        room
     }
 
     // The net that the engine holds.

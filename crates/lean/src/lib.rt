@@ -5,5 +5,6 @@
 mod actions;
 mod decoding;
 pub mod engine;
+mod filling;
 mod loading;
 mod rounds;

@@ -6,76 +6,42 @@ ghost use Rattle.lean.specs.Standing.{MadeEach};
 
 use crate::actions::{create, eval, fork, out, out_all, read, stop, take};
 
+// The tables of a code, by place, and its net's format.
+#[derive(Clone, Copy, Drop)]
+pub(crate) struct Tables<'a> {
+    pub(crate) heads: &'a [[usize; 6]; 512],
+    pub(crate) fields: &'a [[[usize; 4]; 4]; 512],
+    pub(crate) sets: &'a [[bool; 16]; 512],
+    pub(crate) needs: &'a [[bool; 69]; 512],
+    pub(crate) format: usize,
+}
+
+// What the instruction at a place does, by the number of its action.
+// Kept: a rule of the project (fixed memory): the number of an action is the first word of its packed head.
 fn act(
     n: &mut usize,
     procs: &mut [[[usize; 16]; 4]; 16],
     stored: &mut [usize; 16],
     tuples: &mut [[[usize; 6]; 16]; 16],
     rows: &mut [[[bool; 65]; 16]; 16],
-    heads: &[[usize; 6]; 512],
-    fields: &[[[usize; 4]; 4]; 512],
-    sets: &[[bool; 16]; 512],
-    needs: &[[bool; 69]; 512],
-    format: usize,
+    tables: &Tables<'_>,
     a: usize,
     k: usize,
     at: usize,
 ) -> usize
-    ensures { stepped_with result (words_with n.new procs.new stored.new tuples.new rows.new) ≡ act_of (tables_with heads.now fields.now sets.now needs.now format) (words_with n.old procs.old stored.old tuples.old rows.old) a k at }
+    ensures { stepped_with result (words_with n.new procs.new stored.new tuples.new rows.new) ≡ act_of (tables_with tables.now.heads.now tables.now.fields.now tables.now.sets.now tables.now.needs.now tables.now.format) (words_with n.old procs.old stored.old tuples.old rows.old) a k at }
 {
-    match heads[at % 512][0] {
+    let h = &tables.heads[at % 512];
+    let f = &tables.fields[at % 512];
+    match h[0] {
         0 => stop(procs, a, k),
-        1 => out(
-            procs,
-            stored,
-            tuples,
-            rows,
-            &heads[at % 512],
-            &fields[at % 512],
-            a,
-            k,
-        ),
-        2 => take(
-            procs,
-            stored,
-            tuples,
-            rows,
-            &heads[at % 512],
-            &fields[at % 512],
-            a,
-            k,
-        ),
-        3 => read(
-            procs,
-            stored,
-            tuples,
-            rows,
-            &heads[at % 512],
-            &fields[at % 512],
-            a,
-            k,
-        ),
-        4 => eval(
-            procs,
-            rows,
-            &needs[at % 512],
-            &heads[at % 512],
-            &fields[at % 512],
-            a,
-            k,
-        ),
-        5 => create(n, procs, rows, format, &heads[at % 512], a, k),
-        6 => fork(procs, &heads[at % 512], a, k),
-        _ => out_all(
-            procs,
-            stored,
-            tuples,
-            &sets[at % 512],
-            &heads[at % 512],
-            &fields[at % 512],
-            a,
-            k,
-        ),
+        1 => out(procs, stored, tuples, rows, h, f, a, k),
+        2 => take(procs, stored, tuples, rows, h, f, a, k),
+        3 => read(procs, stored, tuples, rows, h, f, a, k),
+        4 => eval(procs, rows, &tables.needs[at % 512], h, f, a, k),
+        5 => create(n, procs, rows, tables.format, h, a, k),
+        6 => fork(procs, h, a, k),
+        _ => out_all(procs, stored, tuples, &tables.sets[at % 512], h, f, a, k),
     }
 }
 
@@ -85,14 +51,10 @@ fn step(
     stored: &mut [usize; 16],
     tuples: &mut [[[usize; 6]; 16]; 16],
     rows: &mut [[[bool; 65]; 16]; 16],
-    heads: &[[usize; 6]; 512],
-    fields: &[[[usize; 4]; 4]; 512],
-    sets: &[[bool; 16]; 512],
-    needs: &[[bool; 69]; 512],
-    format: usize,
+    tables: &Tables<'_>,
     b: u8,
 ) -> usize
-    ensures { stepped_with result (words_with n.new procs.new stored.new tuples.new rows.new) ≡ step_words (tables_with heads.now fields.now sets.now needs.now format) (words_with n.old procs.old stored.old tuples.old rows.old) b }
+    ensures { stepped_with result (words_with n.new procs.new stored.new tuples.new rows.new) ≡ step_words (tables_with tables.now.heads.now tables.now.fields.now tables.now.sets.now tables.now.needs.now tables.now.format) (words_with n.old procs.old stored.old tuples.old rows.old) b }
 {
     let a = (b / 16) as usize;
     let k = (b / 4 % 4) as usize;
@@ -105,9 +67,7 @@ fn step(
         if 512 <= at {
             7
         } else {
-            act(
-                n, procs, stored, tuples, rows, heads, fields, sets, needs, format, a, k, at,
-            )
+            act(n, procs, stored, tuples, rows, tables, a, k, at)
         }
     }
 }
@@ -118,24 +78,15 @@ pub(crate) fn make_each(
     stored: &mut [usize; 16],
     tuples: &mut [[[usize; 6]; 16]; 16],
     rows: &mut [[[bool; 65]; 16]; 16],
-    heads: &[[usize; 6]; 512],
-    fields: &[[[usize; 4]; 4]; 512],
-    sets: &[[bool; 16]; 512],
-    needs: &[[bool; 69]; 512],
-    format: usize,
+    tables: &Tables<'_>,
     picks: &[u8],
     answers: &mut [u8],
 )
     requires { length picks.now ≤ length answers.old }
-    ensures { MadeEach (tables_with heads.now fields.now sets.now needs.now format) (words_with n.old procs.old stored.old tuples.old rows.old) picks.now answers.old (words_with n.new procs.new stored.new tuples.new rows.new) answers.new }
+    ensures { MadeEach (tables_with tables.now.heads.now tables.now.fields.now tables.now.sets.now tables.now.needs.now tables.now.format) (words_with n.old procs.old stored.old tuples.old rows.old) picks.now answers.old (words_with n.new procs.new stored.new tuples.new rows.new) answers.new }
 {
-    let mut i = 0;
-    while i < picks.len() {
-        let b = picks[i];
-        let answer = step(
-            n, procs, stored, tuples, rows, heads, fields, sets, needs, format, b,
-        );
+    for (i, b) in picks.iter().enumerate() {
+        let answer = step(n, procs, stored, tuples, rows, tables, *b);
         answers[i] = (answer % 256) as u8;
-        i += 1;
     }
 }

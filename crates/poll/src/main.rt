@@ -12,7 +12,7 @@ use dump::digest::put_digest;
 use dump::put_net;
 use files::{Failure, print, read_exact, read_next, take_turns};
 use image::reader::{number_of, place_of};
-use lean::engine::{Engine, StartedText};
+use lean::engine::{Engine, Started};
 use net::network::Net;
 use notation::reading::Verdict as TextVerdict;
 
@@ -41,16 +41,15 @@ fn write_net(rt: &HostRuntime, net: &Net) -> Result<(), Failure> {
     print(rt, &out)
 }
 
-// One call, written; gives the engine after it.
+// One call, written.
 fn call(
     rt: &HostRuntime,
-    engine: Engine,
+    engine: &mut Engine,
     picks: &[u8],
     answers: &mut [u8],
-) -> Result<Engine, Failure> {
-    let made = engine.make(picks, answers);
-    write_call(rt, made.room, answers, &made.engine.net())?;
-    Ok(made.engine)
+) -> Result<(), Failure> {
+    let room = engine.make(picks, answers);
+    write_call(rt, room, answers, &engine.net())
 }
 
 // A number of two bytes from standard input.
@@ -61,7 +60,7 @@ fn read_number(rt: &HostRuntime) -> Result<u16, Failure> {
 }
 
 // Reads a call, the length of its buffer and its picks, and makes it.
-fn take_call(rt: &HostRuntime, engine: Engine) -> Result<Engine, Failure> {
+fn take_call(rt: &HostRuntime, engine: &mut Engine) -> Result<(), Failure> {
     let length = read_number(rt)?;
     let mut buffer = [0u8; 65535];
     let mut answers = [238u8; 65535];
@@ -73,7 +72,7 @@ fn take_call(rt: &HostRuntime, engine: Engine) -> Result<Engine, Failure> {
 fn drive(rt: &HostRuntime, mut engine: Engine) -> Result<(), Failure> {
     let count = read_number(rt)?;
     for _ in 0..count {
-        engine = take_call(rt, engine)?;
+        take_call(rt, &mut engine)?;
     }
     write_net(rt, &engine.net())
 }
@@ -100,7 +99,7 @@ fn text_number(answer: TextVerdict) -> u8 {
 
 // Opens a text in a frame of its own, which is gone when calls are made.
 #[inline(never)]
-fn open_text(text: &[u8]) -> StartedText {
+fn open_text(text: &[u8]) -> Started<TextVerdict> {
     Engine::open_text(text)
 }
 

@@ -20,13 +20,13 @@ use run::picks::first_picks;
 use text::writer::Writer;
 
 // Makes the picks, and gives the net after them.
-fn make_picks(engine: Engine, picks: &[u8], answers: &mut [u8]) -> Net
+fn make_picks(mut engine: Engine, picks: &[u8], answers: &mut [u8]) -> Net
     requires { length picks.now ≤ length answers.old }
     ensures value { result ≡ (lean_ran_from engine.net picks.now).net }
     ensures answers_after { answers.new ≡ over answers.old 0 (numbers (lean_ran_from engine.net picks.now)) }
 {
-    let made = engine.make(picks, answers);
-    made.engine.net()
+    engine.make(picks, answers);
+    engine.net()
 }
 
 // The line of an engine's net.

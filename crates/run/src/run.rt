@@ -37,16 +37,15 @@ fn not_made(finish: Finish) -> Finished
 }
 
 // The run of an engine's net, where there is room for its answers.
-fn run_engine(engine: Engine, picks: &[u8], answers: &mut [u8]) -> Finished
+fn run_engine(mut engine: Engine, picks: &[u8], answers: &mut [u8]) -> Finished
     ensures value { result ≡ finished_of (ran (lean_ran_from engine.net picks.now)) (length answers.old) }
     ensures answers_after { answers.new ≡ answers_in (ran (lean_ran_from engine.net picks.now)) answers.old }
 {
-    let made = engine.make(picks, answers);
-    if made.room {
-        let after = made.engine;
-        let net = after.net();
-        let finish = Finish::Complete;
-        Finished { finish, net }
+    if engine.make(picks, answers) {
+        Finished {
+            finish: Finish::Complete,
+            net: engine.net(),
+        }
     } else {
         not_made(Finish::NoRoom)
     }
