@@ -78,6 +78,8 @@ fn read_field(
 }
 
 // The fields of an out, an in or a read, at most four, a comma between two.
+// Kept: this loop, that of tuples.rt and that of sets.rt each follow a definition; one that takes a closure is no
+// plainer.
 pub fn read_template(r: &mut TextReader, formals: bool, n: usize) -> Result<Instruction, Fault>
     ensures { Reads r.old (template formals n) result r.new }
 {

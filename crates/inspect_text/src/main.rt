@@ -11,7 +11,6 @@ use dump::put_net;
 use files::{Failure, print, read_next, take_turns};
 use notation::reading::{Verdict, read_text};
 
-// Kept, here and in `poll`: a number is what a test tool writes of a refusal.
 // The answer's number in document 01, "The planners' notation".
 #[tactic(auto, unfolding(notation::specs::Text::number_of))]
 fn number_of(answer: Verdict) -> u8

@@ -51,7 +51,7 @@ fn follow(action: Action, p: Place) -> Onward
 }
 
 // How many places wait more once a place with this mark is met.
-pub fn waiting_more(marked: bool) -> usize
+fn waiting_more(marked: bool) -> usize
     ensures { result ≡ choose marked 0 1 }
 {
     if marked { 0 } else { 1 }
@@ -60,7 +60,7 @@ pub fn waiting_more(marked: bool) -> usize
 // Visits the place on top of the `count` that wait, at which that action stands: it waits no longer, and each place that
 // follows is marked, and waits where it had no mark. Gives how many wait then. A place that follows is written on top in
 // either case, and counts there where it had no mark.
-pub fn visit(marks: &mut [bool], waiting: &mut [u16], count: usize, action: Action) -> usize
+fn visit(marks: &mut [bool], waiting: &mut [u16], count: usize, action: Action) -> usize
     requires { OnTop marks.old waiting.old count }
     ensures { Visited marks.old waiting.old count action marks.new waiting.new result }
 {
@@ -82,6 +82,7 @@ pub fn visit(marks: &mut [bool], waiting: &mut [u16], count: usize, action: Acti
 
 // The places reached from a place. Each is marked and put to wait when it is first met, so it waits once at most and
 // 512 places are room enough.
+// Kept: a `while`: places are put to wait in the midst of the loop, so nothing is there to go over.
 pub fn reached(code: &[Instruction; 512], p: Place) -> [bool; 512]
     ensures { result ≡ reached_of code.now p }
 {

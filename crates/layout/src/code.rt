@@ -52,7 +52,8 @@ fn put_template(out: &mut Writer<'_, bool>, c: &Instruction)
     }
 }
 
-// Kept: the kinds of targets, fields and actions as numbers: an image writes these numbers (document 01, "The image", 5).
+// Kept: the kinds of targets, fields and actions as numbers: each is written in one place, beside the variant that it
+// stands for, so an enum of kinds would be a second table and no plainer.
 
 // An out, an in or a read, by its kind: target, template and next place.
 fn put_access(out: &mut Writer<'_, bool>, kind: usize, t: Target, c: &Instruction, p: Place)

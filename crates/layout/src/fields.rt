@@ -10,7 +10,8 @@ use net::locality::{Locality, Place};
 use text::signed::complement;
 use text::writer::Writer;
 
-// Kept: an address, a place and a variable in a function each: one call with its width; a width as parameter is no plainer.
+// Kept: an address, a place and a variable in a function each: one call with its width; a width as a parameter is no
+// plainer.
 
 // An address.
 pub fn put_address(out: &mut Writer<'_, bool>, l: Locality)

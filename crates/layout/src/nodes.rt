@@ -13,8 +13,8 @@ use net::node::Node;
 use net::tuple::{Item, Tuple};
 use text::writer::Writer;
 
-// Kept: a loop of each kind of part, here and in rows and code: two lines each; one function that takes a closure, with a
-// clause of what the closure writes, is no plainer.
+// Kept: a loop of each kind of part, here and in rows and code: two lines each; one function that takes a closure, with
+// a clause of what the closure writes, is no plainer.
 
 // The processes of a node: their number, then the first place of each.
 fn put_processes(out: &mut Writer<'_, bool>, x: &Node)

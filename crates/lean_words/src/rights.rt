@@ -45,8 +45,8 @@ pub fn gain(row: &mut [bool; 65], l: usize)
     row[at + 48] = true;
 }
 
-// Kept: a rule of the project (fixed memory): the number of a right says where its 16 flags stand in the packed row; so too in
-// `add_right` of `lean_code` and `aim` of `lean`.
+// Kept: the number of a right, here, in `add_right` of `lean_code` and in `aim` of `lean`: what may not change (an enum
+// would take fewer numbers than this parameter does).
 // Whether a row grants a right at an address: 0 is i, 1 is r, which i includes, 2 is o, 3 is e.
 pub fn grants(row: &[bool; 65], l: usize, right: usize) -> bool
     ensures { result ≡ grants_flags row.now l right }

@@ -14,7 +14,7 @@ ghost use Rattle.lines.specs.Lines.{tuple_count, closing_lines, after_lines};
 use crate::shown::{Parts, Shown};
 use crate::words::{put_item, put_line, put_name, put_number, put_start};
 use names::entries::NamesFault;
-use names::lookup::{name_after, test};
+use names::lookup::{name_tested, test};
 use net::locality::Locality;
 use net::network::Net;
 use net::node::Node;
@@ -155,7 +155,7 @@ fn put_address(
 )
     ensures { out.new ≡ after out.old (printed (node_lines shown.entry.parts (name_after (number_of tested) shown.entry.site.now shown.entry.office.now a) a x.now)) }
 {
-    let station = name_after(shown.site, shown.office, tested, a);
+    let station = name_tested(shown.site, shown.office, tested, a);
     put_node_lines(out, shown.parts, station, a, x);
 }
 

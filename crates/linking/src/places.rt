@@ -51,6 +51,7 @@ fn place_code(net: &mut Net, n: usize, table: &[usize], bodies: &[usize])
 }
 
 // The processes of the node of address a moved to the places of their starts; free slots stay.
+// Kept: an index: it says which process and which word of the table of starts.
 fn move_node(node: &mut Node, a: usize, bodies: &[usize], starts: &[usize])
     requires { a < 16 }
     ensures { node.new ≡ moved_node (place_at bodies.now) starts.now a node.old }

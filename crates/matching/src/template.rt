@@ -149,6 +149,7 @@ fn fits_field(x: Item, w: Want) -> bool
 }
 
 // The tuple fits: as many fields, and each as the template asks for.
+// Kept: a loop of the shape of `all_defined`: each has its own test in it, and a closure with its clause is no plainer.
 fn fits(t: Tuple, e: Evaluated) -> bool
     ensures { result ≡ fits_of t e }
 {

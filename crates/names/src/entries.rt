@@ -102,7 +102,7 @@ fn test_entry(list: &[u8], at: usize) -> Result<(), NamesFault>
 }
 
 // The first fault of a list.
-// Kept: the step of this loop, and of the one in `find`, is an entry's length, so no range or iterator counts it.
+// Kept: a `while`, here and in `find`: the step is an entry's length, so no range or iterator counts it.
 pub(crate) fn test_list(list: &[u8]) -> Result<(), NamesFault>
     ensures { number_of result ≡ list_fault list.now }
 {

@@ -44,7 +44,7 @@ fn listed_name<'a>(site: &'a [u8], office: &'a [u8], address: Locality) -> &'a [
 }
 
 // The name, where the test of both lists has answered this: for callers that ask for many names.
-pub fn name_after<'a>(
+pub fn name_tested<'a>(
     site: &'a [u8],
     office: &'a [u8],
     tested: Result<(), NamesFault>,
@@ -58,9 +58,21 @@ pub fn name_after<'a>(
     }
 }
 
+// The name, where the test of both lists has given this number.
+// Kept: what may not change (`NamedAfter` of any number, which docs/CLAIMS.md names).
+pub fn name_after<'a>(site: &'a [u8], office: &'a [u8], number: u8, address: Locality) -> &'a [u8]
+    ensures { NamedAfter number site.entry office.entry address result }
+{
+    if number == 0 {
+        listed_name(site, office, address)
+    } else {
+        none_of(office)
+    }
+}
+
 // The name.
 pub fn name<'a>(site: &'a [u8], office: &'a [u8], address: Locality) -> &'a [u8]
     ensures { Named site.entry office.entry address result }
 {
-    name_after(site, office, test(site, office), address)
+    name_tested(site, office, test(site, office), address)
 }

@@ -32,8 +32,8 @@ use terms::table::put;
 // What lines are read into: the code, the bodies of names, which are defined and whether one is twice, the starts of
 // processes, and the net.
 #[derive(Drop)]
-pub(crate) struct Lines<'a> {
-    pub(crate) code: Code<'a>,
+pub(crate) struct Lines<'c, 'a> {
+    pub(crate) code: Code<'c>,
     pub(crate) bodies: &'a mut [usize],
     pub(crate) defs: &'a mut [bool],
     pub(crate) twice: bool,
@@ -41,7 +41,7 @@ pub(crate) struct Lines<'a> {
     pub(crate) net: &'a mut Net,
 }
 
-impl<'a> Lines<'a> {
+impl<'c, 'a> Lines<'c, 'a> {
     // Whether name k is defined.
     fn is_defined(&self, k: usize) -> bool
         ensures { result ≡ get_or self.now.defs.now k false }
@@ -115,7 +115,6 @@ impl<'a> Lines<'a> {
 
 // A3 = P.
 fn read_definition(r: &mut TextReader, scope: Scope, lines: &mut Lines) -> Result<(), Fault>
-    requires { lines.old.code.count ≤ room }
     ensures { Keeps r.old (definition_line scope) (Lined lines.old lines.new) result r.new }
 {
     let k = read_name(r)?;
@@ -134,7 +133,6 @@ fn read_process_line(
     lines: &mut Lines,
     a: Locality,
 ) -> Result<(), Fault>
-    requires small { lines.old.code.count ≤ room }
     requires below { a.0 < 16 }
     ensures { (ls : List Line) → Counts ls lines.old.net.now → Keeps r.old (process_line scope ls a) (Lined lines.old lines.new) result r.new }
 {
@@ -153,7 +151,6 @@ fn read_tuple_line(
     lines: &mut Lines,
     a: Locality,
 ) -> Result<(), Fault>
-    requires small { lines.old.code.count ≤ room }
     requires below { a.0 < 16 }
     ensures { (ls : List Line) → Counts ls lines.old.net.now → Keeps r.old (tuple_line scope ls a) (Lined lines.old lines.new) result r.new }
 {
@@ -166,7 +163,6 @@ fn read_tuple_line(
 
 // An address, and the tuple or the process that stands there.
 fn read_located(r: &mut TextReader, scope: Scope, lines: &mut Lines) -> Result<(), Fault>
-    requires { lines.old.code.count ≤ room }
     ensures { (ls : List Line) → Counts ls lines.old.net.now → Keeps r.old (located_line scope ls) (Lined lines.old lines.new) result r.new }
 {
     let a = read_address(r, scope.addresses)?;
@@ -180,7 +176,6 @@ fn read_located(r: &mut TextReader, scope: Scope, lines: &mut Lines) -> Result<(
 
 // A line.
 fn read_line(r: &mut TextReader, scope: Scope, lines: &mut Lines) -> Result<(), Fault>
-    requires { lines.old.code.count ≤ room }
     ensures { (ls : List Line) → Counts ls lines.old.net.now → Keeps r.old (line scope ls) (Lined lines.old lines.new) result r.new }
 {
     if r.peek() == b'A' {

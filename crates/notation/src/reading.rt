@@ -118,12 +118,13 @@ fn read_into(
         Ok(net) => net,
         Err(fault) => return refuse(fault.number),
     };
+    let code = Code {
+        table,
+        used,
+        count: 0,
+    };
     let mut lines = Lines {
-        code: Code {
-            table,
-            used,
-            count: 0,
-        },
+        code,
         bodies,
         defs,
         twice: false,

@@ -72,6 +72,7 @@ fn read_in(r: &mut TextReader, scope: Scope) -> Result<Entry, Fault>
 }
 
 // A read.
+// Kept: a twin of `read_in`: they differ in the word, the kind and the definition that the clause names.
 #[tactic(auto, using(crate::proofs::ActionLaws::singles), unfolding(crate::specs::Reading::communication, text::specs::Bytes::bytes))]
 fn read_read(r: &mut TextReader, scope: Scope) -> Result<Entry, Fault>
     ensures { Keeps r.old (communication (bytes "read(") read scope) Alone result r.new }

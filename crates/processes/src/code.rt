@@ -15,13 +15,13 @@ pub struct Code<'a> {
     pub table: &'a mut [usize],
     pub used: &'a mut [bool],
     pub count: usize,
+    ghost small: { count ≤ room },
 }
 
 impl<'a> Code<'a> {
     // The number of the next instruction, which is counted.
     #[tactic(auto, unfolding(crate::specs::Room::room))]
     pub(crate) fn number(&mut self) -> usize
-        requires { self.old.count ≤ room }
         ensures number { result ≡ self.old.count }
         ensures counted { self.new.count ≡ min (self.old.count + 1) room }
         ensures table { self.new.table ≡ self.old.table }

@@ -19,7 +19,6 @@ use terms::table::{Entry, Kind, target_word};
 
 // A name, which makes no instruction.
 fn read_call(r: &mut TextReader, code: &mut Code) -> Result<(), Fault>
-    requires { code.old.count ≤ room }
     ensures { Keeps r.old called (Stored code.old code.new) result r.new }
 {
     let k = read_name(r)?;
@@ -29,7 +28,6 @@ fn read_call(r: &mut TextReader, code: &mut Code) -> Result<(), Fault>
 
 // A nil.
 fn read_nil(r: &mut TextReader, code: &mut Code) -> Result<(), Fault>
-    requires { code.old.count ≤ room }
     ensures { Keeps r.old stopped (Stored code.old code.new) result r.new }
 {
     r.word(b"nil")?;
@@ -41,7 +39,6 @@ fn read_nil(r: &mut TextReader, code: &mut Code) -> Result<(), Fault>
 // A process, and the word of what it starts with.
 #[cycle(process_text)]
 fn read_started(r: &mut TextReader, d: usize, scope: Scope, code: &mut Code) -> Result<usize, Fault>
-    requires { code.old.count ≤ room }
     ensures { Keeps r.old (process_at d scope) (Started code.old code.new) result r.new }
 {
     let start = start_here(r, code.count);
@@ -55,7 +52,6 @@ fn read_started(r: &mut TextReader, d: usize, scope: Scope, code: &mut Code) -> 
 // A fork.
 #[cycle(process_text)]
 fn read_fork(r: &mut TextReader, d: usize, scope: Scope, code: &mut Code) -> Result<(), Fault>
-    requires { code.old.count ≤ room }
     ensures { Keeps r.old (forked (process_at d scope)) (Stored code.old code.new) result r.new }
 {
     let n = code.number();
@@ -76,7 +72,6 @@ fn read_fork(r: &mut TextReader, d: usize, scope: Scope, code: &mut Code) -> Res
 // What ends a chain of actions.
 #[cycle(process_text)]
 fn read_end(r: &mut TextReader, d: usize, scope: Scope, code: &mut Code) -> Result<(), Fault>
-    requires { code.old.count ≤ room }
     ensures { Keeps r.old (ended (process_at d scope)) (Stored code.old code.new) result r.new }
 {
     match r.peek() {
@@ -95,7 +90,6 @@ fn read_eval(
     code: &mut Code,
     n: usize,
 ) -> Result<Entry, Fault>
-    requires { code.old.count ≤ room }
     ensures { Keeps r.old (evaluation (process_at d scope) scope) (Held n code.old code.new) result r.new }
 {
     r.word(b"eval(")?;
@@ -117,7 +111,6 @@ fn read_act(
     code: &mut Code,
     n: usize,
 ) -> Result<Entry, Fault>
-    requires { code.old.count ≤ room }
     ensures { Keeps r.old (action (process_at d scope) scope) (Held n code.old code.new) result r.new }
 {
     if r.peek() == b'e' {
@@ -130,7 +123,6 @@ fn read_act(
 // An action and its dot.
 #[cycle(process_text)]
 fn read_action(r: &mut TextReader, d: usize, scope: Scope, code: &mut Code) -> Result<(), Fault>
-    requires { code.old.count ≤ room }
     ensures { Keeps r.old (dotted (action (process_at d scope) scope)) (Acted code.old code.new r.new) result r.new }
 {
     let n = code.number();
@@ -144,7 +136,6 @@ fn read_action(r: &mut TextReader, d: usize, scope: Scope, code: &mut Code) -> R
 // A chain of actions and its end; no chain has more actions than the text has bytes.
 #[cycle(process_text)]
 fn read_chain(r: &mut TextReader, d: usize, scope: Scope, code: &mut Code) -> Result<(), Fault>
-    requires { code.old.count ≤ room }
     ensures { Keeps r.old (chain (length r.old.text.now) (process_at d scope) scope) (Stored code.old code.new) result r.new }
 {
     for i in 0..r.text.len() {
@@ -159,7 +150,6 @@ fn read_chain(r: &mut TextReader, d: usize, scope: Scope, code: &mut Code) -> Re
 // P, and the word of what it starts with.
 #[tactic(auto, using(crate::proofs::ProcessLaws::processing), unfolding(crate::specs::Reading::process))]
 pub fn read_process(r: &mut TextReader, scope: Scope, code: &mut Code) -> Result<usize, Fault>
-    requires { code.old.count ≤ room }
     ensures { Keeps r.old (process scope) (Started code.old code.new) result r.new }
 {
     read_started(r, 33, scope, code)

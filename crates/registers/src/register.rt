@@ -68,7 +68,6 @@ fn put_register(out: &mut Writer<'_, u8>, image: &[u8], picks: &[u8], shown: Sho
 }
 
 // The register of a text and its picks.
-// Kept: this and `put_register` differ in opener, verdict and refusal, so one function over both is no plainer.
 fn put_text_register(out: &mut Writer<'_, u8>, text: &[u8], picks: &[u8], shown: Shown<'_>)
     ensures { out.new ≡ after out.old (register_text_as (named shown.entry.parts shown.entry.site.now shown.entry.office.now) text.now picks.now) }
 {

@@ -16,6 +16,7 @@ use net::policy::Row;
 use readers::fault::Fault;
 
 // Node 0's rows, and how many there are.
+// Kept: an array and its count, for want of a heap (a rule of the project: fixed memory).
 #[derive(Clone, Copy)]
 pub(crate) struct FirstRows {
     pub(crate) count: usize,

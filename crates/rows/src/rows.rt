@@ -22,6 +22,7 @@ fn after_digits(r: &TextReader) -> usize
     ensures { result ≡ r.now.at + digits_from (length r.now.text.now) r.now.text.now r.now.at }
 {
     let mut ahead = *r;
+    // Kept: a scan, which counts nothing: `for` or a chain over the rest of the text is no plainer.
     while is_digit(ahead.peek()) {
         ahead.at += 1;
     }

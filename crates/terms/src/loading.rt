@@ -52,6 +52,7 @@ fn field_at(table: &[usize], at: usize) -> TemplateField
 }
 
 // An action, by its number.
+// Kept: a kind by its number: the table is lent memory, whose words are numbers.
 #[tactic(auto, unfolding(crate::specs::Loading::action_of, crate::specs::Loading::group_in, net::specs::Choice::choose))]
 fn action_of(kind: usize, w: usize, next: Place, second: Place) -> Action
     ensures { result ≡ action_of kind w next second }

@@ -29,5 +29,5 @@ returns c ls h =
     (keeps_then _ _ _ _ _ _ _ _ c.in_ok-tuple.ensures
     (keeps_next _ _ _ _ _ _ _ _ c.in_ok-byte.ensures
     (keeps_pure _ _ _ _
-    (tuple_lined c.args.lines.now c.add.new.self c.args.a c.in_ok-tuple.tuple c.requires.small c.add.ensures.net c.add.ensures.starts c.add.ensures.code
+    (tuple_lined c.args.lines.now c.add.new.self c.args.a c.in_ok-tuple.tuple c.args.lines.now.code.small c.add.ensures.net c.add.ensures.starts c.add.ensures.code
     c.add.ensures.bodies c.add.ensures.defs c.add.ensures.twice))))

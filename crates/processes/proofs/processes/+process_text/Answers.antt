@@ -36,7 +36,7 @@ read_fork-returns t c =
     (λ y s. keeps_next _ _ _ _ _ _ _ _ c.in_ok-byte-2.ensures
     (keeps_pure _ _ _ _
     (fork_stored x y c.number-n.result c.in_ok-first.first c.in_ok-second.second c.args.code.now c.number-n.new.self c.read_started.new.code
-    c.read_started-2.new.code c.store.new.self _ c.requires c.number-n.ensures.number c.number-n.ensures.counted c.number-n.ensures.table
+    c.read_started-2.new.code c.store.new.self _ c.args.code.now.small c.number-n.ensures.number c.number-n.ensures.counted c.number-n.ensures.table
     c.number-n.ensures.used f s (rw c.of.ensures refl) c.store.ensures.table c.store.ensures.count c.store.ensures.used))))))
 
 pub read_eval-returns : goal.read_eval-returns
@@ -54,7 +54,7 @@ unfolding action
 read_act-returns-else-peek-eq101 t c =
     keeps_look _ _ _ _ _ _ c.peek.ensures
     (keeps_false _ _ _ (eqb c.peek.result 101) _ _ _ (ne_eqb _ _ c.if-peek-eq101.false)
-    (keeps_map _ _ _ _ _ _ (alone_held c.args.n c.args.code.now c.requires) c.read_simple.ensures))
+    (keeps_map _ _ _ _ _ _ (alone_held c.args.n c.args.code.now c.args.code.now.small) c.read_simple.ensures))
 
 pub read_action-returns : goal.read_action-returns
 unfolding dotted
@@ -63,7 +63,7 @@ read_action-returns t c =
     (λ a h. keeps_next _ _ _ _ _ _ _ _ c.in_ok-byte.ensures
     (keeps_pure _ _ _ _
     (act_kept a c.number-n.result c.start_here-next.result c.args.code.now c.number-n.new.self c.read_act.new.code c.store.new.self c.in_ok-entry.entry _
-    c.byte.new.self c.requires c.number-n.ensures.number c.number-n.ensures.counted c.number-n.ensures.table c.number-n.ensures.used h
+    c.byte.new.self c.args.code.now.small c.number-n.ensures.number c.number-n.ensures.counted c.number-n.ensures.table c.number-n.ensures.used h
     c.start_here-next.ensures refl c.store.ensures.table c.store.ensures.count c.store.ensures.used)))
 
 pub read_chain-returns-then-chain_ends : goal.read_chain-returns-then-chain_ends

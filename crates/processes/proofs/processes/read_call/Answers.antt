@@ -7,4 +7,4 @@ pub returns : goal.returns
 unfolding called
 returns c =
     keeps_then _ _ _ _ _ _ _ _ c.in_ok-k.ensures.read
-    (keeps_pure _ _ _ _ (called_stored c.args.code.now c.mark.new.self _ c.requires c.mark.ensures.used c.mark.ensures.count c.mark.ensures.table))
+    (keeps_pure _ _ _ _ (called_stored c.args.code.now c.mark.new.self _ c.args.code.now.small c.mark.ensures.used c.mark.ensures.count c.mark.ensures.table))
