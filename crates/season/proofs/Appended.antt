@@ -5,6 +5,7 @@ use mathlib.Core.List.{List, [], ◌∷◌, ◌++◌, map}
 use native.Mathlib.Omega.{arith}
 use lib.ListN.{length, length-map, get_or-append}
 use lib.Seq.{get_or-append_seam}
+use Rattle.std.specs.Prelude.{Some, None}
 use Rattle.net.specs.Choice.{fold}
 use Rattle.season.specs.Types.{Locality}
 use Rattle.season.specs.Fractions.{Fraction, fraction, Best, considered, fraction_at, best_of}
@@ -51,10 +52,10 @@ module _ (xs : List Fraction) (x : Fraction) where
   best_more : best_of longer ≡ considered (length xs + 1) x (best_of xs)
   unfolding best_of fold
   best_more =
-      ap (λ (n : ℕ). fold n (turn longer) Best.Nobody) (length_more xs x)
-      ∙ ap (λ (y : Fraction). considered (length xs + 1) y (fold (length xs) (turn longer) Best.Nobody)) last
+      ap (λ (n : ℕ). fold n (turn longer) None) (length_more xs x)
+      ∙ ap (λ (y : Fraction). considered (length xs + 1) y (fold (length xs) (turn longer) None)) last
       ∙ ap (considered (length xs + 1) x)
-      (fold_same (length xs) (turn longer) (turn xs) Best.Nobody (λ i l best. ap (λ (y : Fraction). considered (i + 1) y best) (earlier i l)))
+      (fold_same (length xs) (turn longer) (turn xs) None (λ i l best. ap (λ (y : Fraction). considered (i + 1) y best) (earlier i l)))
 
 pub best_at_more :
     (l : Locality) (ms : List MadeRun) (m : MadeRun)

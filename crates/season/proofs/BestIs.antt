@@ -8,6 +8,7 @@ use native.Mathlib.Nat.{mul_right_comm, mul-le-mul_right, mul-lt-mul_of_pos_righ
 use native.Mathlib.Decide.{dec_le}
 use lib.ListN.{length, get_or-eq_default}
 use borrow.Author.Tests.{eqb-true, eqb-false, ltb-true, ltb-false}
+use Rattle.std.specs.Prelude.{Some, None}
 use Rattle.net.specs.Choice.{fold}
 use Rattle.net.proofs.Laws.{split}
 use Rattle.net.proofs.Every.{chosen}
@@ -40,8 +41,8 @@ module _ (f : ℕ → Fraction) where
     pub none_earlier : (j : ℕ) → j < i → 0 < (f j).denominator → Below (f j) (f i)
 
   pub data BestBelow (n : ℕ) : Best → Type 0 where
-    none_below : ((j : ℕ) → j < n → (f j).denominator ≡ 0) → BestBelow n Best.Nobody
-    largest_below : (i : ℕ) → LargestBelow n i → BestBelow n (Best.Leader (i + 1) (f i))
+    none_below : ((j : ℕ) → j < n → (f j).denominator ≡ 0) → BestBelow n None
+    largest_below : (i : ℕ) → LargestBelow n i → BestBelow n (Some (i + 1, f i))
 
   -- a fact of those below n, and of n, at each below n + 1
   each_below : (P : ℕ → Type 0) (n : ℕ) → ((j : ℕ) → j < n → P j) → P n → (j : ℕ) → j < suc n → P j
@@ -98,7 +99,7 @@ module _ (f : ℕ → Fraction) where
       chosen (BestBelow (suc n)) _ _ _ (λ e. largest_below n (overtaken n i positive h (ltb-true _ _ e)))
       (λ e. largest_below i (stays n i h (ltb-false _ _ e)))
 
-  pub best_below : (n : ℕ) → BestBelow n (fold n (λ i best. considered (i + 1) (f i) best) Best.Nobody)
+  pub best_below : (n : ℕ) → BestBelow n (fold n (λ i best. considered (i + 1) (f i) best) None)
   unfolding fold considered
   best_below zero = none_below (λ j l. absurd (omega arith))
   best_below (suc n) =

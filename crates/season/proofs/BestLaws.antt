@@ -5,6 +5,7 @@ use native.Mathlib.Omega.{arith}
 use native.Mathlib.Nat.{mul-le-mul}
 use mir.Syntax.{w32, w64}
 use mir.Val.{Fits}
+use Rattle.std.specs.Prelude.{Some, None}
 use Rattle.season.specs.Fractions.{Fraction, Best, against}
 
 -- a product of numbers of 32 bits fits 64
@@ -17,9 +18,9 @@ product_fits a b h g =
 
 -- what a match on the best so far finds
 module _ (i : ℕ) (x : Fraction) (best r : Best) where
-  pub against_nobody : best ≡ Best.Nobody → Best.Leader i x ≡ against i x best
+  pub against_nobody : best ≡ None → Some (i, x) ≡ against i x best
   unfolding against
   against_nobody e = sym (ap (against i x) e)
 
-  pub against_leader : (j : ℕ) (y : Fraction) → best ≡ Best.Leader j y → r ≡ against i x (Best.Leader j y) → r ≡ against i x best
+  pub against_leader : (j : ℕ) (y : Fraction) → best ≡ Some (j, y) → r ≡ against i x (Some (j, y)) → r ≡ against i x best
   against_leader j y e d = d ∙ sym (ap (against i x) e)

@@ -5,6 +5,7 @@ use mathlib.Core.List.{List, [], ◌∷◌, ◌++◌}
 use native.Mathlib.Omega.{arith}
 use native.Mathlib.Nat.{suc-mul}
 use lib.ListN.{length, length-append}
+use Rattle.std.specs.Prelude.{Some, None}
 use Rattle.net.specs.Records.{address_of}
 use Rattle.net.proofs.Every.{chosen}
 use Rattle.text.specs.Bytes.{bytes}
@@ -34,8 +35,8 @@ share_short n x = chosen (λ (w : Word). length (word_text w) ≤ 41) _ _ _ (λ 
 
 best_short : (best : Best) → length (word_text (best_word best)) ≤ 20
 unfolding best_word word_text bytes
-best_short Best.Nobody = omega arith
-best_short (Best.Leader i x) = decimal_short i
+best_short None = omega arith
+best_short (Some (i, x)) = decimal_short i
 
 -- ---- lines: words have a space before each, and a newline stands for that of the first
 spaced_longer : (w : Word) (ws : List Word) → length (spaced (w ∷ ws)) ≡ suc (length (word_text w) + length (spaced ws))

@@ -3,6 +3,7 @@ use Prim.Native.Nat.{ℕ, zero, suc, ◌≤◌}
 use mathlib.Core.Path.{◌≡◌, refl}
 use mathlib.Core.List.{List, [], ◌∷◌}
 use native.Mathlib.Omega.{arith}
+use Rattle.std.specs.Prelude.{Some, None}
 use Rattle.season.specs.Types.{Locality}
 use Rattle.season.specs.Fractions.{Best, fraction, fraction_at}
 use Rattle.season.specs.Season.{MadeRun, share_at, summed, all_picks, shares_at, best_at, share_over, mean_over}
@@ -35,11 +36,11 @@ module _ (l : Locality) where
       omega (arith, first, rest)
 
   module _ (ms : List MadeRun) where
-    nobody_best : (best : Best) → BestIs (shares_at l ms) best → all_picks l ms ≡ 0 → best ≡ Best.Nobody
+    nobody_best : (best : Best) → BestIs (shares_at l ms) best → all_picks l ms ≡ 0 → best ≡ None
     nobody_best best (none_there h) e = refl
     nobody_best best (largest i h) e = let most = some_most ms i in absurd (omega (arith, most, h.counted))
 
-    best_nobody : (best : Best) → BestIs (shares_at l ms) best → best ≡ Best.Nobody → all_picks l ms ≡ 0
+    best_nobody : (best : Best) → BestIs (shares_at l ms) best → best ≡ None → all_picks l ms ≡ 0
     best_nobody best (none_there h) e = none_none ms h
     best_nobody best (largest i h) e = let z : ◌≡◌ {A = ℕ} 0 1 = cc in absurd (omega arith)
 

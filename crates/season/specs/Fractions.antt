@@ -1,8 +1,11 @@
 -- Fractions, in lowest terms and compared unrounded (document 02, slip 7).
 pub use Rattle.season.specs.declared.fraction.Fraction.{Fraction}
-pub use Rattle.season.specs.declared.fraction.Best.{Best}
-use Rattle.std.specs.Prelude.{ℕ, zero, suc, ◌+◌, ◌*◌, ◌/◌, ◌%◌, Bool, List, get_or, length, eqb, ltb}
+use Rattle.std.specs.Prelude.{Option, Some, None, ℕ, zero, suc, ◌+◌, ◌*◌, ◌/◌, ◌%◌, Bool, List, get_or, length, eqb, ltb}
 use Rattle.net.specs.Choice.{choose, fold}
+
+-- the best of several: none of them, or one's number with its fraction
+abbrev pub Best : Type 0
+Best = Option (ℕ × Fraction)
 
 unfoldable pub fraction : ℕ → ℕ → Fraction
 fraction n d = record { numerator = n; denominator = d }
@@ -33,8 +36,8 @@ larger x y = ltb (y.numerator * x.denominator) (x.numerator * y.denominator)
 
 -- the best so far is none, or a number with its fraction: a later one takes its place if it is larger: "earliest on a tie"
 unfoldable pub against : ℕ → Fraction → Best → Best
-against i x Best.Nobody = Best.Leader i x
-against i x (Best.Leader j y) = choose (larger x y) (Best.Leader i x) (Best.Leader j y)
+against i x None = Some (i, x)
+against i x (Some (j, y)) = choose (larger x y) (Some (i, x)) (Some (j, y))
 
 -- nothing over nothing "is passed over"
 unfoldable pub considered : ℕ → Fraction → Best → Best
@@ -45,4 +48,4 @@ unfoldable pub fraction_at : List Fraction → ℕ → Fraction
 fraction_at xs i = get_or xs i (fraction 0 0)
 
 unfoldable pub best_of : List Fraction → Best
-best_of xs = fold (length xs) (λ i best. considered (i + 1) (fraction_at xs i) best) Best.Nobody
+best_of xs = fold (length xs) (λ i best. considered (i + 1) (fraction_at xs i) best) None

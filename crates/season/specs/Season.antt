@@ -1,5 +1,5 @@
 -- Shares over a season (document 02, slip 7): the runs handed in, and the figures over those that were made.
-use Rattle.std.specs.Prelude.{ℕ, ◌+◌, Bool, not, List, [], ◌∷◌, ◌++◌, map, length, take, eqb, ltb}
+use Rattle.std.specs.Prelude.{Some, None, ℕ, ◌+◌, Bool, not, List, [], ◌∷◌, ◌++◌, map, length, take, eqb, ltb}
 use Rattle.net.specs.Choice.{choose, both}
 use Rattle.net.specs.Records.{node_at, address_of}
 use Rattle.text.specs.Bytes.{bytes}
@@ -107,8 +107,8 @@ unfoldable pub share_word : ℕ → Fraction → Word
 share_word picks x = choose (eqb picks 0) (name (bytes "none")) (fraction_word x)
 
 unfoldable pub best_word : Best → Word
-best_word Best.Nobody = name (bytes "none")
-best_word (Best.Leader i x) = number i
+best_word None = name (bytes "none")
+best_word (Some (i, x)) = number i
 
 unfoldable pub share_line : Locality → List MadeRun → List Word
 share_line l ms =

@@ -1,5 +1,5 @@
 -- What holds of the figures over a season (document 02, slip 7).
-use Rattle.std.specs.Prelude.{ℕ, ◌+◌, ◌*◌, ◌≤◌, ◌<◌, ◌≡◌, ◌↔◌, length}
+use Rattle.std.specs.Prelude.{Some, None, ℕ, ◌+◌, ◌*◌, ◌≤◌, ◌<◌, ◌≡◌, ◌↔◌, length}
 use Rattle.std.specs.Int.{◌∣◌}
 use mathlib.Core.List.{List, Memᴰ}
 use Rattle.season.specs.Types.{Locality}
@@ -38,15 +38,15 @@ pub record LargestAt (xs : List Fraction) (i : ℕ) : Type 0 where
 
 -- the best is that one, numbered from 1; there is none only where all are passed over
 pub data BestIs (xs : List Fraction) : Best → Type 0 where
-  none_there : ((j : ℕ) → (fraction_at xs j).denominator ≡ 0) → BestIs xs Best.Nobody
-  largest : (i : ℕ) → LargestAt xs i → BestIs xs (Best.Leader (i + 1) (fraction_at xs i))
+  none_there : ((j : ℕ) → (fraction_at xs j).denominator ≡ 0) → BestIs xs None
+  largest : (i : ℕ) → LargestAt xs i → BestIs xs (Some (i + 1, fraction_at xs i))
 
 unfoldable pub BestIsLargest : Type 0
 BestIsLargest = (l : Locality) (ms : List MadeRun) → BestIs (shares_at l ms) (best_at l ms)
 
 -- "an address with no picks prints `none` for its share and its run": for both or for neither
 unfoldable pub NoneAlike : Type 0
-NoneAlike = (l : Locality) (ms : List MadeRun) → (all_picks l ms ≡ 0) ↔ (best_at l ms ≡ Best.Nobody)
+NoneAlike = (l : Locality) (ms : List MadeRun) → (all_picks l ms ≡ 0) ↔ (best_at l ms ≡ None)
 
 -- ---- how large the numbers are: why those of a season fit 32 bits, and their cross products 64
 

@@ -1,20 +1,20 @@
 -- What the sums over runs hold, from which the figures are given without the runs (document 02, slip 7).
 pub use Rattle.season.specs.declared.sums.Tally.{Tally}
 pub use Rattle.season.specs.declared.sums.Sums.{Sums}
-use Rattle.std.specs.Prelude.{ℕ, ◌+◌, ◌%◌, List, [], ◌∷◌, get_or, set, replicate, ltb}
+use Rattle.std.specs.Prelude.{None, ℕ, ◌+◌, ◌%◌, List, [], ◌∷◌, get_or, set, replicate, ltb}
 use Rattle.net.specs.Choice.{choose, fold}
 use Rattle.net.specs.Records.{address_of}
 use Rattle.text.specs.Bytes.{bytes}
 use Rattle.text.specs.Joined.{joined}
 use Rattle.lines.specs.Words.{Word, name, number, printed}
 use Rattle.season.specs.Types.{Locality}
-use Rattle.season.specs.Fractions.{fraction, lowest, Best, considered}
+use Rattle.season.specs.Fractions.{fraction, lowest, considered}
 use Rattle.season.specs.Season.{Run, MadeRun, made_of, performed_at, picks_at, left_at, fraction_word, share_word, best_word}
 use Rattle.season.specs.Season.{Season, season_with}
 
 -- a tally holds the two sums of a share, the tuples left and the best run, and sums how many runs were made
 unfoldable pub no_tally : Tally
-no_tally = record { performed = 0; picks = 0; left = 0; best = Best.Nobody }
+no_tally = record { performed = 0; picks = 0; left = 0; best = None }
 
 unfoldable pub empty_sums : Sums
 empty_sums = record { runs = 0; tallies = replicate 16 no_tally }

@@ -13,7 +13,7 @@ ghost use Rattle.season.specs.Sums.{tally_words, tally_line, figures_from, seaso
 ghost use Rattle.season.specs.Calls.{figured_of, figured_number, season_number, figures_in};
 ghost use Rattle.season.specs.Giving.{Gave};
 
-use crate::fraction::{Best, Fraction};
+use crate::fraction::Fraction;
 use crate::sums::{Sums, Tally};
 use text::writer::Writer;
 
@@ -61,12 +61,12 @@ fn put_share(out: &mut Writer<'_, u8>, performed: u32, picks: u32)
 }
 
 // The best run by its number.
-fn put_best(out: &mut Writer<'_, u8>, best: Best)
+fn put_best(out: &mut Writer<'_, u8>, best: Option<(u16, Fraction)>)
     ensures { out.new ≡ after out.old (spaced (best_word best ∷ [])) }
 {
     match best {
-        Best::Nobody => put_none(out),
-        Best::Leader(i, _) => put_number(out, i as usize),
+        None => put_none(out),
+        Some((i, _)) => put_number(out, i as usize),
     }
 }
 

@@ -1,19 +1,12 @@
 // Fractions, and the best of several.
-ghost use Rattle.std.specs.Prelude.{◌*◌, ◌/◌, ◌≡◌};
-ghost use Rattle.season.specs.Fractions.{Best, greatest_divisor, lowest, larger, against, considered};
+ghost use Rattle.std.specs.Prelude.{◌*◌, ◌/◌, ◌≡◌, Some};
+ghost use Rattle.season.specs.Fractions.{greatest_divisor, lowest, larger, against, considered};
 
 // A fraction, reduced or not.
 #[derive(Clone, Copy)]
 pub struct Fraction {
     pub numerator: u32,
     pub denominator: u32,
-}
-
-// The best so far, with its number from 1 and its fraction.
-#[derive(Clone, Copy)]
-pub enum Best {
-    Nobody,
-    Leader(u16, Fraction),
 }
 
 // Euclid: the second number falls in each turn.
@@ -68,35 +61,33 @@ impl Fraction {
 }
 
 // The better of two, by their numbers: the second, which is the earlier, on a tie.
-fn better(i: u16, x: Fraction, j: u16, y: Fraction) -> Best
-    ensures { result ≡ against i x (Best.Leader j y) }
+fn better(i: u16, x: Fraction, j: u16, y: Fraction) -> Option<(u16, Fraction)>
+    ensures { result ≡ against i x (Some (j, y)) }
 {
     if x.larger(y) {
-        Best::Leader(i, x)
+        Some((i, x))
     } else {
-        Best::Leader(j, y)
+        Some((j, y))
     }
 }
 
-impl Best {
-    // The best with one more, of number i.
-    fn against(self, i: u16, x: Fraction) -> Best
-        ensures { result ≡ against i x self }
-    {
-        match self {
-            Best::Nobody => Best::Leader(i, x),
-            Best::Leader(j, y) => better(i, x, j, y),
-        }
+// The best so far, by its number from 1 and its fraction, with one more, of number i.
+fn against(best: Option<(u16, Fraction)>, i: u16, x: Fraction) -> Option<(u16, Fraction)>
+    ensures { result ≡ against i x best }
+{
+    match best {
+        None => Some((i, x)),
+        Some((j, y)) => better(i, x, j, y),
     }
+}
 
-    // The best with one more, of number i, which is passed over where its denominator is nought.
-    pub fn consider(self, i: u16, x: Fraction) -> Best
-        ensures { result ≡ considered i x self }
-    {
-        if x.denominator == 0 {
-            self
-        } else {
-            self.against(i, x)
-        }
+// The best with one more, of number i, which is passed over where its denominator is nought.
+pub fn consider(best: Option<(u16, Fraction)>, i: u16, x: Fraction) -> Option<(u16, Fraction)>
+    ensures { result ≡ considered i x best }
+{
+    if x.denominator == 0 {
+        best
+    } else {
+        against(best, i, x)
     }
 }

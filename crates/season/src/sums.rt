@@ -7,7 +7,7 @@ ghost use Rattle.season.specs.Sums.{no_tally, empty_sums, with_counts, with_each
 ghost use Rattle.season.specs.Counting.{no_counts, counted, with_counted};
 
 use crate::counts::{Counts, add_cut, count};
-use crate::fraction::{Best, Fraction};
+use crate::fraction::{Fraction, consider};
 use net::network::Net;
 use run::picks::first_picks;
 use run::run::{Finish, run};
@@ -18,7 +18,7 @@ pub struct Tally {
     pub performed: u32,
     pub picks: u32,
     pub left: u32,
-    pub best: Best,
+    pub best: Option<(u16, Fraction)>,
 }
 
 // How many runs were made, and a tally for each address.
@@ -32,12 +32,11 @@ impl Tally {
     fn none() -> Tally
         ensures { result ≡ no_tally }
     {
-        let best = Best::Nobody;
         Tally {
             performed: 0,
             picks: 0,
             left: 0,
-            best,
+            best: None,
         }
     }
 
@@ -49,8 +48,7 @@ impl Tally {
             numerator: performed,
             denominator: picks,
         };
-        let held = self.best;
-        let best = held.consider(i, share);
+        let best = consider(self.best, i, share);
         Tally {
             performed: add_cut(self.performed, performed as usize),
             picks: add_cut(self.picks, picks as usize),

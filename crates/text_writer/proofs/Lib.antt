@@ -1,4 +1,3 @@
-pub mod Lengths
 pub mod ListLaws
 pub mod LoopLaws
 pub mod PartLaws

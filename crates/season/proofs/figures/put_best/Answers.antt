@@ -5,12 +5,12 @@ use Rattle.lines.specs.Words.{spaced}
 use Rattle.text.specs.Writer.{after}
 use Rattle.season.proofs.figures.put_best.Goals as goal
 
-pub returns-in-Nobody : goal.returns-in-Nobody
+pub returns-in-None : goal.returns-in-None
 unfolding best_word
-returns-in-Nobody c =
-    c.put_none.ensures ∙ ap (λ (b : Best). after c.args.out.now (spaced (best_word b ∷ []))) (sym c.in-Nobody.is)
+returns-in-None c =
+    c.put_none.ensures ∙ ap (λ (b : Best). after c.args.out.now (spaced (best_word b ∷ []))) (sym c.in-None.is)
 
-pub returns-in-Leader : goal.returns-in-Leader
+pub returns-in-Some : goal.returns-in-Some
 unfolding best_word
-returns-in-Leader c =
-    c.put_number.ensures ∙ ap (λ (b : Best). after c.args.out.now (spaced (best_word b ∷ []))) (sym c.in-Leader.is)
+returns-in-Some c =
+    c.put_number.ensures ∙ ap (λ (b : Best). after c.args.out.now (spaced (best_word b ∷ []))) (sym c.in-Some.is)
