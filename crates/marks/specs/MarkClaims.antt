@@ -1,6 +1,6 @@
 -- Who put it there (document 02, slip 8): "Each tuple record carries the address of the node where its out was performed;
 -- tuples of an image carry their own node's address." Said of every net that an accepted source comes to by picks, so that
--- a keeper may rely on the mark of a tuple that stands there.
+-- one may rely on the mark of a tuple that stands there.
 use Rattle.std.specs.Prelude.{ℕ, ◌+◌, ◌<◌, ◌≡◌, ◌⊎◌, true, List, Some}
 use Rattle.net.specs.declared.locality.Group.{Group}
 use Rattle.net.specs.Groups.{member}
