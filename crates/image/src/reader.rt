@@ -67,17 +67,17 @@ pub fn read_image(image: &[u8]) -> Opened
 {
     let mut reader = BitReader::new(image);
     let mut net = Net::empty();
-    match read_layout(&mut reader, &mut net) {
-        Err(fault) => refuse(fault),
-        Ok(starts) => {
-            if !admitted(&net) {
-                reader.back_to(starts);
-                return refuse(beyond_row(&mut reader, &net));
-            }
-            Opened {
-                answer: Verdict::Accepted,
-                net,
-            }
-        }
+    let starts = match read_layout(&mut reader, &mut net) {
+        Ok(starts) => starts,
+        Err(fault) => return refuse(fault),
+    };
+    if !admitted(&net) {
+        reader.back_to(starts);
+        return refuse(beyond_row(&mut reader, &net));
+    }
+    // Each refusal returns by itself, so that the net is copied once, into the result.
+    Opened {
+        answer: Verdict::Accepted,
+        net,
     }
 }

@@ -1,12 +1,12 @@
--- The loop of `reached`: its locals stand for the search of `specs/Reaching.antt` after some number of visits, as those of `keeps`
--- do, and the laws of `keeps` hold of it at any row. Assumes nothing.
+-- What `search` marks: its locals stand for the search of `specs/Reaching.antt` after some number of visits, whatever it judges
+-- good. Assumes nothing.
 use Prim.Native.Nat.{ℕ, ◌-◌, ◌<◌, ◌≤◌}
 use mathlib.Core.Path.{◌≡◌, refl, sym, ap, ◌∙◌}
 use mathlib.Core.Bool.{Bool, true, false}
 use mathlib.Core.List.{List, []}
 use native.Mathlib.Omega.{arith}
 use lib.ListN.{length, get_or, set, replicate}
-use Rattle.net.specs.Records.{instruction_at, address_of, place_of, zero_row}
+use Rattle.net.specs.Records.{instruction_at, place_of}
 use Rattle.keeping.specs.Reaching.{Search, visits, started_at, reached_of}
 use Rattle.keeping.specs.Worklist.{tops, search_of, OnTop, Visited}
 use Rattle.keeping.proofs.WorklistLaws.{met_before}
@@ -16,7 +16,7 @@ use Rattle.keeping.specs.Types.{Place, Instruction}
 -- the search s is met after some visits from p on
 pub record Way (code : List Instruction) (p : Place) (s : Search) : Type 0 where
   pub ok : Bool
-  pub underway : Underway code p (address_of 0) zero_row s ok
+  pub underway : Underway code p (λ _. true) s ok
 
 ended : (code : List Instruction) (p : Place) (s : Search) → Way code p s → s.waiting ≡ [] → s.marks ≡ reached_of code p
 unfolding reached_of
@@ -39,7 +39,7 @@ pub way_first :
     (code : List Instruction) (p : Place) (waiting : List ℕ) → p.0 < 512 → get_or waiting 0 0 ≡ p.0
     → Way code p (search_of (set (replicate 512 false) p.0 true) waiting 1)
 way_first code p waiting low e =
-    record { ok = true; underway = underway_first code p (address_of 0) zero_row waiting low e }
+    record { ok = true; underway = underway_first code p (λ _. true) waiting low e }
 
 pub all_marked :
     (code : List Instruction) (p : Place) (marks : List Bool) (waiting : List ℕ) (count : ℕ)
@@ -53,12 +53,12 @@ module _ (code : List Instruction) (p : Place) (marks : List Bool) (waiting : Li
     (w : Way code p (search_of marks waiting count)) (some : 0 < count)
   where
     pub way_top : (m : ℕ) → length waiting ≡ m → 512 ≤ m → OnTop marks waiting count
-    way_top = on_top code p (address_of 0) zero_row marks waiting count w.ok w.underway some
+    way_top = on_top code p (λ _. true) marks waiting count w.ok w.underway some
 
     pub way_on : (marks' : List Bool) (waiting' : List ℕ) (r : ℕ)
         → Visited marks waiting count (instruction_at code (place_of (get_or waiting (count - 1) 0))).action marks' waiting' r
         → Way code p (search_of marks' waiting' r)
     way_on marks' waiting' r v = record {
       ok = _;
-      underway = turned code p (address_of 0) zero_row marks waiting count w.ok w.underway some _ marks' waiting' r refl v;
+      underway = turned code p (λ _. true) marks waiting count w.ok w.underway some _ marks' waiting' r refl v;
     }

@@ -1,4 +1,4 @@
--- The loop of `keeps`: its locals stand for the search after some number of visits, and what it has judged, with the places
+-- The loop of `search`: its locals stand for the search after some number of visits, and what it has judged, with the places
 -- that wait, is what is marked. That the place on top is in range, as a visit needs it, is `NeverMoreWait`. Assumes nothing.
 use Prim.Native.Nat.{ℕ, zero, suc, ◌+◌, ◌-◌, ◌*◌, ◌%◌, ◌^◌, ◌<◌, ◌≤◌}
 use mathlib.Core.Path.{◌≡◌, refl, sym, ap, ◌∙◌}
@@ -16,12 +16,11 @@ use borrow.Author.Rules.{scaled_Fits}
 use mir.Syntax.{w64}
 use mir.Val.{Fits}
 use Rattle.net.specs.Choice.{choose, both}
-use Rattle.keeping.specs.Types.{Locality, Place, Row, Action, Instruction}
+use Rattle.keeping.specs.Types.{Place, Action, Instruction}
 use Rattle.net.specs.Records.{instruction_at, place_of}
 use Rattle.keeping.specs.Reaching.{Search, meet, meet_all, followers, visit_first, visit, visits, started_at, reached_of}
 use Rattle.keeping.specs.ReachingClaims.{waiting_at, WaitOnce, NeverMoreWait}
-use Rattle.keeping.specs.Keeping.{permits, permits_marked, keeps_of}
-use Rattle.keeping.specs.Worklist.{unmarked, tops, search_of, OnTop, Visited}
+use Rattle.keeping.specs.Worklist.{unmarked, tops, search_of, good_marked, OnTop, Visited}
 use Rattle.net.proofs.Laws.{both_i, both_l, both_r, both_both, both_swap, both_end, same_truth, implies_i, implies_e, all_i, all_e}
 use Rattle.net.proofs.AllLaws.{and_both}
 use Rattle.keeping.proofs.Unmarked.{unmarked_at, meet_cases, meet_all_keeps, Measured, measured_meet, measured_meet_all}
@@ -29,15 +28,15 @@ use Rattle.keeping.proofs.Unmarked.{fresh, fresh_measured, Marked, marked_set, s
 use Rattle.keeping.proofs.NeverMoreWait.{never_more_wait}
 use Rattle.keeping.proofs.WorklistLaws.{tops_length, tops_last, met_before, met_new, left_is}
 
-module _ (code : List Instruction) (a : Locality) (row : Row) where
+module _ (code : List Instruction) (g : Action → Bool) where
   -- ---- one mark more, one judgement more
   pub good : Place → Bool
-  good q = permits row a (instruction_at code q).action
+  good q = g (instruction_at code q).action
 
-  permits_set : (marks : List Bool) (p : Place) → length marks ≡ 512 → p.0 < 512
-      → permits_marked (set marks p.0 true) code a row ≡ both (good p) (permits_marked marks code a row)
-  unfolding permits_marked good Marked
-  permits_set marks p l low =
+  good_set : (marks : List Bool) (p : Place) → length marks ≡ 512 → p.0 < 512
+      → good_marked (set marks p.0 true) code g ≡ both (good p) (good_marked marks code g)
+  unfolding good_marked good Marked
+  good_set marks p l low =
       same_truth _ _
       (λ h.
       both_i _ _ (implies_e _ _ (all_e 512 _ h p.0 low) (get_or-set_same marks p.0 true false (omega arith)))
@@ -50,9 +49,9 @@ module _ (code : List Instruction) (a : Locality) (row : Row) where
       ⊎_elim (λ e. rw e (both_l _ _ h)) (λ o. implies_e _ _ (all_e 512 _ (both_r (good p) _ h) q below) o)
       (set_marked marks p (place_of q) m))))
 
-  permits_none : permits_marked (replicate 512 false) code a row ≡ true
-  unfolding permits_marked
-  permits_none =
+  good_none : good_marked (replicate 512 false) code g ≡ true
+  unfolding good_marked
+  good_none =
       all_i 512 _
       (λ q below. implies_i _ _ (λ m. let z : ◌≡◌ {A = ℕ} 0 1 = cc (unmarked_at 512 q) in absurd (omega arith)))
 
@@ -63,7 +62,7 @@ module _ (code : List Instruction) (a : Locality) (row : Row) where
 
   pub record Judged (ok : Bool) (s : Search) : Type 0 where
     pub long : length s.marks ≡ 512
-    pub judged : permits_marked s.marks code a row ≡ both ok (good_all s.waiting)
+    pub judged : good_marked s.marks code g ≡ both ok (good_all s.waiting)
 
   judged_meet : (ok : Bool) (s : Search) (p : Place) → Judged ok s → Judged ok (meet s p)
   unfolding good_all
@@ -71,12 +70,12 @@ module _ (code : List Instruction) (a : Locality) (row : Row) where
       meet_cases (Judged ok) s p (λ _. j)
       (λ low _. record {
         long = length-set s.marks p.0 true ∙ j.long;
-        judged = permits_set s.marks p j.long low ∙ ap (both (good p)) j.judged ∙ both_swap (good p) ok _;
+        judged = good_set s.marks p j.long low ∙ ap (both (good p)) j.judged ∙ both_swap (good p) ok _;
       })
 
   judged_fresh : Judged true fresh
   unfolding fresh good_all both
-  judged_fresh = record { long = fresh_measured.long; judged = permits_none }
+  judged_fresh = record { long = fresh_measured.long; judged = good_none }
 
   judged_first : (ok : Bool) (marks : List Bool) (p : Place) (ps : List Place)
       → Judged ok (record { marks = marks; waiting = p ∷ ps }) → Judged (both ok (good p)) (visit_first code marks (p ∷ ps))
@@ -103,16 +102,16 @@ nothing_waits code (suc m) s e = rw e (nothing_waits code m (record { marks = s.
 
 -- the search s is met after some visits from p on, with `ok` what is judged on them; each visit takes one from the places
 -- that wait or are unmarked
-pub record Underway (code : List Instruction) (p : Place) (a : Locality) (row : Row) (s : Search) (ok : Bool) : Type 0 where
+pub record Underway (code : List Instruction) (p : Place) (g : Action → Bool) (s : Search) (ok : Bool) : Type 0 where
   pub turns : ℕ
   pub left : ℕ
   pub whole : turns + left ≡ 512
   pub met : s ≡ visits turns code (started_at p)
   pub measured : Measured left s
-  pub judged : Judged code a row ok s
+  pub judged : Judged code g ok s
 
-module _ (code : List Instruction) (p : Place) (a : Locality) (row : Row) where
-  begun : Underway code p a row (started_at p) true
+module _ (code : List Instruction) (p : Place) (g : Action → Bool) where
+  begun : Underway code p g (started_at p) true
   unfolding visits started_at fresh
   begun = record {
     turns = 0;
@@ -120,14 +119,14 @@ module _ (code : List Instruction) (p : Place) (a : Locality) (row : Row) where
     whole = refl;
     met = refl;
     measured = measured_meet 512 fresh p fresh_measured;
-    judged = judged_meet code a row true fresh p (judged_fresh code a row);
+    judged = judged_meet code g true fresh p (judged_fresh code g);
   }
 
   visited : (marks : List Bool) (w : Place) (ws : List Place) (ok : Bool)
-      → Underway code p a row (record { marks = marks; waiting = w ∷ ws }) ok
-      → Underway code p a row
+      → Underway code p g (record { marks = marks; waiting = w ∷ ws }) ok
+      → Underway code p g
       (meet_all (record { marks = marks; waiting = ws }) (followers (instruction_at code w).action))
-      (both ok (good code a row w))
+      (both ok (good code g w))
   unfolding visit visit_first
   visited marks w ws ok u = record {
     turns = suc u.turns;
@@ -137,12 +136,12 @@ module _ (code : List Instruction) (p : Place) (a : Locality) (row : Row) where
     measured =
         measured_meet_all (u.left - 1) (record { marks = marks; waiting = ws }) _
         (record { long = u.measured.long; left = omega (arith, u.measured.left) });
-    judged = judged_first code a row ok marks w ws u.judged;
+    judged = judged_first code g ok marks w ws u.judged;
   }
 
   -- with nothing waiting, all is judged
-  ended : (s : Search) (ok : Bool) → Underway code p a row s ok → s.waiting ≡ [] → ok ≡ keeps_of code p a row
-  unfolding keeps_of reached_of good_all
+  ended : (s : Search) (ok : Bool) → Underway code p g s ok → s.waiting ≡ [] → ok ≡ good_marked (reached_of code p) code g
+  unfolding reached_of good_all
   ended s ok u e =
       let marks : (visits 512 code (started_at p)).marks ≡ s.marks =
       ap (λ (n : ℕ). (visits n code (started_at p)).marks) (sym u.whole)
@@ -151,25 +150,25 @@ module _ (code : List Instruction) (p : Place) (a : Locality) (row : Row) where
       ∙ nothing_waits code u.left s e
       in
       sym
-      (ap (λ (ms : List Bool). permits_marked ms code a row) marks ∙ u.judged.judged
-      ∙ ap (λ (ps : List Place). both ok (good_all code a row ps)) e
+      (ap (λ (ms : List Bool). good_marked ms code g) marks ∙ u.judged.judged
+      ∙ ap (λ (ps : List Place). both ok (good_all code g ps)) e
       ∙ both_end ok)
 
 -- ---- the loop's locals
-pub none_reached : (code : List Instruction) (p : Place) (a : Locality) (row : Row) → 512 ≤ p.0 → true ≡ keeps_of code p a row
+pub none_reached : (code : List Instruction) (p : Place) (g : Action → Bool) → 512 ≤ p.0 → true ≡ good_marked (reached_of code p) code g
 unfolding started_at
-none_reached code p a row h =
-    ended code p a row (started_at p) true (begun code p a row)
+none_reached code p g h =
+    ended code p g (started_at p) true (begun code p g)
     (ap (λ (t : Search). t.waiting) (met_before (record { marks = replicate 512 false; waiting = [] }) p (λ low. absurd (omega arith))))
 
-pub underway_first : (code : List Instruction) (p : Place) (a : Locality) (row : Row) (waiting : List ℕ)
+pub underway_first : (code : List Instruction) (p : Place) (g : Action → Bool) (waiting : List ℕ)
     → p.0 < 512
     → get_or waiting 0 0 ≡ p.0
-    → Underway code p a row (search_of (set (replicate 512 false) p.0 true) waiting 1) true
+    → Underway code p g (search_of (set (replicate 512 false) p.0 true) waiting 1) true
 unfolding started_at search_of tops
-underway_first code p a row waiting low e =
+underway_first code p g waiting low e =
     let met = met_new (record { marks = replicate 512 false; waiting = [] }) p low (unmarked_at 512 p.0) in
-    rw e (rw met at (begun code p a row))
+    rw e (rw met at (begun code p g))
 
 unset_again : (n i : ℕ) → set (replicate n false) i false ≡ replicate n false
 unset_again zero i = refl
@@ -177,41 +176,41 @@ unset_again (suc n) zero = refl
 unset_again (suc n) (suc i) = ap (λ (ms : List Bool). false ∷ ms) (unset_again n i)
 
 -- the same from any place: past the code nothing is marked, and none waits
-pub underway_from : (code : List Instruction) (p : Place) (a : Locality) (row : Row) (waiting : List ℕ) (count : ℕ)
+pub underway_from : (code : List Instruction) (p : Place) (g : Action → Bool) (waiting : List ℕ) (count : ℕ)
     → count ≡ choose (leb 512 p.0) 0 1 → get_or waiting 0 0 ≡ p.0
-    → Underway code (place_of p.0) a row (search_of (set (replicate 512 false) (p.0 % 512) (not (leb 512 p.0))) waiting count) true
+    → Underway code (place_of p.0) g (search_of (set (replicate 512 false) (p.0 % 512) (not (leb 512 p.0))) waiting count) true
 unfolding choose started_at search_of tops
-underway_from code p a row waiting count c e =
+underway_from code p g waiting count c e =
     elim (dec_le 512 p.0) [
       | yes h ↦
           let none : count ≡ 0 = rw (le-leb 512 p.0 h) at c in
           let met = met_before (record { marks = replicate 512 false; waiting = [] }) p (λ low. absurd (omega arith)) in
-          rw (le-leb 512 p.0 h, none, unset_again 512 (p.0 % 512)) (rw met at (begun code p a row))
+          rw (le-leb 512 p.0 h, none, unset_again 512 (p.0 % 512)) (rw met at (begun code p g))
       | no n ↦
           let low : p.0 < 512 = omega arith in
           let one : count ≡ 1 = rw (lt-leb 512 p.0 low) at c in
-          rw (lt-leb 512 p.0 low, one, mod-eq_of_lt low) (underway_first code p a row waiting low e)
+          rw (lt-leb 512 p.0 low, one, mod-eq_of_lt low) (underway_first code p g waiting low e)
     ]
 
-pub all_judged : (code : List Instruction) (p : Place) (a : Locality) (row : Row) (marks : List Bool) (waiting : List ℕ) (count : ℕ) (ok : Bool)
-    → Underway code (place_of p.0) a row (search_of marks waiting count) ok → count ≤ 0 → ok ≡ keeps_of code p a row
+pub all_judged : (code : List Instruction) (p : Place) (g : Action → Bool) (marks : List Bool) (waiting : List ℕ) (count : ℕ) (ok : Bool)
+    → Underway code (place_of p.0) g (search_of marks waiting count) ok → count ≤ 0 → ok ≡ good_marked (reached_of code p) code g
 unfolding search_of tops
-all_judged code p a row marks waiting count ok u h =
-    let e : count ≡ 0 = omega arith in ended code p a row (search_of marks waiting count) ok u (rw e)
+all_judged code p g marks waiting count ok u h =
+    let e : count ≡ 0 = omega arith in ended code p g (search_of marks waiting count) ok u (rw e)
 
 -- a visit takes one from the places that wait or are unmarked
 pub turned_less : (marks : List Bool) (waiting : List ℕ) (count : ℕ) (action : Action) (marks' : List Bool) (waiting' : List ℕ) (r : ℕ)
     → Visited marks waiting count action marks' waiting' r → r + unmarked marks' < count + unmarked marks
 turned_less marks waiting count action marks' waiting' r v = v.fewer
 
-pub marks_long : (code : List Instruction) (p : Place) (a : Locality) (row : Row) (marks : List Bool) (waiting : List ℕ) (count : ℕ) (ok : Bool)
-    → Underway code p a row (search_of marks waiting count) ok → length marks ≡ 512
+pub marks_long : (code : List Instruction) (p : Place) (g : Action → Bool) (marks : List Bool) (waiting : List ℕ) (count : ℕ) (ok : Bool)
+    → Underway code p g (search_of marks waiting count) ok → length marks ≡ 512
 unfolding search_of
-marks_long code p a row marks waiting count ok u = u.measured.long
+marks_long code p g marks waiting count ok u = u.measured.long
 
-module _ (code : List Instruction) (p : Place) (a : Locality) (row : Row)
+module _ (code : List Instruction) (p : Place) (g : Action → Bool)
     (marks : List Bool) (waiting : List ℕ) (count : ℕ) (ok : Bool)
-    (u : Underway code p a row (search_of marks waiting count) ok) (some : 0 < count) where
+    (u : Underway code p g (search_of marks waiting count) ok) (some : 0 < count) where
   -- what `NeverMoreWait` says of the places that wait
   once : WaitOnce (search_of marks waiting count)
   unfolding NeverMoreWait
@@ -267,10 +266,10 @@ module _ (code : List Instruction) (p : Place) (a : Locality) (row : Row)
 
   -- and the loop is under way after it
   pub turned : (judged : Bool) (marks' : List Bool) (waiting' : List ℕ) (r : ℕ)
-      → judged ≡ permits row a (instruction_at code place).action
+      → judged ≡ g (instruction_at code place).action
       → Visited marks waiting count (instruction_at code place).action marks' waiting' r
-      → Underway code p a row (search_of marks' waiting' r) (ok && judged)
+      → Underway code p g (search_of marks' waiting' r) (ok && judged)
   unfolding search_of good
   turned judged marks' waiting' r good-is v =
       rw (v.met, and_both ok judged ok _ refl good-is)
-      (visited code p a row marks place (tops waiting (count - 1)) ok (rw (tops_last waiting count some) at u))
+      (visited code p g marks place (tops waiting (count - 1)) ok (rw (tops_last waiting count some) at u))

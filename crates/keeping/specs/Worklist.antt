@@ -3,9 +3,9 @@
 pub use Rattle.keeping.specs.declared.reaching.Onward.{Onward}
 pub use Rattle.keeping.specs.declared.rights.Right.{Right}
 use Rattle.std.specs.Prelude.{ℕ, zero, suc, ◌+◌, ◌-◌, ◌<◌, ◌≤◌, ◌≡◌, Bool, true, false, List, [], ◌∷◌, get_or, length, ltb}
-use Rattle.net.specs.Choice.{choose}
-use Rattle.net.specs.Records.{place_of}
-use Rattle.keeping.specs.Types.{Locality, Place, Row, Action}
+use Rattle.net.specs.Choice.{choose, implies, all}
+use Rattle.net.specs.Records.{instruction_at, place_of}
+use Rattle.keeping.specs.Types.{Locality, Place, Row, Action, Instruction}
 use Rattle.keeping.specs.Keeping.{may_take, may_read, may_put, may_send}
 use Rattle.keeping.specs.Reaching.{Search, meet, meet_all, followers}
 
@@ -53,6 +53,10 @@ tops ns (suc n) = place_of (get_or ns n 0) ∷ tops ns n
 -- the search that the locals stand for
 unfoldable pub search_of : List Bool → List ℕ → ℕ → Search
 search_of marks waiting count = record { marks = marks; waiting = tops waiting count }
+
+-- ---- the judgement: each marked instruction has a good action
+unfoldable pub good_marked : List Bool → List Instruction → (Action → Bool) → Bool
+good_marked marks code g = all 512 (λ q. implies (get_or marks q false) (g (instruction_at code (place_of q)).action))
 
 -- ---- a visit
 

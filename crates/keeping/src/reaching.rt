@@ -1,8 +1,8 @@
 // Reaching (document 01, "Reaching and rights"): where a process goes on from a place, and the search of the places reached.
-ghost use Rattle.std.specs.Prelude.{◌≡◌};
+ghost use Rattle.std.specs.Prelude.{◌≡◌, Bool};
 ghost use Rattle.net.specs.Choice.{choose};
 ghost use Rattle.keeping.specs.Reaching.{reached_of};
-ghost use Rattle.keeping.specs.Worklist.{low_or, onward_to, Leads, OnTop, Visited};
+ghost use Rattle.keeping.specs.Worklist.{low_or, onward_to, good_marked, Leads, OnTop, Visited};
 
 use net::instruction::{Action, Instruction};
 use net::locality::Place;
@@ -51,7 +51,7 @@ fn follow(action: Action, p: Place) -> Onward
 }
 
 // How many places wait more once a place with this mark is met.
-fn waiting_more(marked: bool) -> usize
+pub fn waiting_more(marked: bool) -> usize
     ensures { result ≡ choose marked 0 1 }
 {
     if marked { 0 } else { 1 }
@@ -60,7 +60,7 @@ fn waiting_more(marked: bool) -> usize
 // Visits the place on top of the `count` that wait, at which that action stands: it waits no longer, and each place that
 // follows is marked, and waits where it had no mark. Gives how many wait then. A place that follows is written on top in
 // either case, and counts there where it had no mark.
-fn visit(marks: &mut [bool], waiting: &mut [u16], count: usize, action: Action) -> usize
+pub fn visit(marks: &mut [bool], waiting: &mut [u16], count: usize, action: Action) -> usize
     requires { OnTop marks.old waiting.old count }
     ensures { Visited marks.old waiting.old count action marks.new waiting.new result }
 {
@@ -80,23 +80,46 @@ fn visit(marks: &mut [bool], waiting: &mut [u16], count: usize, action: Action) 
     left
 }
 
-// The places reached from a place. Each is marked and put to wait when it is first met, so it waits once at most and
-// 512 places are room enough.
+// What a search finds: the places reached, and whether each action there is good.
+#[derive(Clone, Copy)]
+pub(crate) struct Searched {
+    pub(crate) marks: [bool; 512],
+    pub(crate) good: bool,
+}
+
+// The search of the places reached from a place. Each is marked and put to wait when it is first met, so it waits once at
+// most and 512 places are room enough; its action is judged when it is visited.
 // Kept: a `while`: places are put to wait in the midst of the loop, so nothing is there to go over.
-pub fn reached(code: &[Instruction; 512], p: Place) -> [bool; 512]
-    ensures { result ≡ reached_of code.now p }
+pub(crate) fn search<F: Fn(Action) -> bool>(
+    code: &[Instruction; 512],
+    p: Place,
+    judge: F,
+) -> Searched
+    requires { F.IsAlwaysCallable judge }
+    ensures marks { result.marks ≡ reached_of code.now p }
+    ensures good { (g : Action → Bool) → ((x : Action) (y : Bool) → F.post judge x y → y ≡ g x) → result.good ≡ good_marked (reached_of code.now p) code.now g }
 {
     let mut marks = [false; 512];
+    let mut good = true;
     let start = p.0 as usize;
     if 512 <= start {
-        return marks;
+        return Searched { marks, good };
     }
     let mut waiting = [p.0; 512];
     let mut count: usize = 1;
     marks[start] = true;
     while 0 < count {
         let at = waiting[count - 1] as usize;
-        count = visit(&mut marks, &mut waiting, count, code[at].action);
+        let action = code[at].action;
+        good = good & judge(action);
+        count = visit(&mut marks, &mut waiting, count, action);
     }
-    marks
+    Searched { marks, good }
+}
+
+// The places reached from a place.
+pub fn reached(code: &[Instruction; 512], p: Place) -> [bool; 512]
+    ensures { result ≡ reached_of code.now p }
+{
+    search(code, p, |_| true).marks
 }

@@ -5,7 +5,7 @@ ghost use Rattle.keeping.specs.Keeping.{permits, keeps_of};
 ghost use Rattle.keeping.specs.Worklist.{grants};
 ghost use Rattle.net.specs.Records.{rights_at};
 
-use crate::reaching::reached;
+use crate::reaching::search;
 use net::instruction::{Action, Instruction, Target};
 use net::locality::{Group, Locality, Place};
 use net::policy::{Rights, Row};
@@ -127,14 +127,9 @@ pub fn permitted(row: Row, a: Locality, action: Action) -> bool
 }
 
 // Whether the code from place p keeps within the row of address a: each place that it reaches is judged.
+#[tactic(auto, using(crate::proofs::KeepingLaws::keeps_as))]
 pub fn keeps(code: &[Instruction; 512], p: Place, a: Locality, row: Row) -> bool
     ensures { result ≡ keeps_of code.now p a row }
 {
-    let marks = reached(code, p);
-    for q in 0..512 {
-        if marks[q] && !permitted(row, a, code[q].action) {
-            return false;
-        }
-    }
-    true
+    search(code, p, |action| permitted(row, a, action)).good
 }

@@ -15,8 +15,8 @@ returns-then-not-admitted c =
     (c.beyond_row.ensures ∙ ap (λ i. beyond_row i.now c.read_layout.new.net) same ∙ ap (λ s. beyond_row s c.read_layout.new.net) first)
     c.refuse-then-not-admitted.ensures
 
-pub returns-else-not-admitted : goal.returns-else-not-admitted
+pub returns : goal.returns
 unfolding accepted
-returns-else-not-admitted c =
+returns c =
     opened_whole _ _ _ c.new-reader.ensures.first c.new-reader.ensures.bytes _ c.in-Ok.ensures.reads
     (sym c.admitted.ensures ∙ c.if-not-admitted.false)
