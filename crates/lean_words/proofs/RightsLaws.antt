@@ -1,7 +1,7 @@
 -- Rows as flags (`specs/Rights.antt`): what the loops make, and the tests of the code, which joins truth values by `&` and `|`.
 -- Assumes nothing.
 use Prim.Native.Nat.{ℕ, ◌%◌, ◌<◌, ◌≤◌}
-use mathlib.Core.Path.{◌≡◌, refl, ap, sym, ◌∙◌}
+use mathlib.Core.Path.{◌≡◌, refl, ap}
 use mathlib.Core.Bool.{Bool, true, false, not, ◌&&◌, ◌||◌}
 use mathlib.Core.List.{List}
 use native.Mathlib.Omega.{arith}
@@ -9,7 +9,6 @@ use lib.ListN.{get_or, set, replicate}
 use Rattle.net.specs.Choice.{choose, both, implies, all, fold}
 use Rattle.net.specs.Records.{rights_at, address_of, no_rights, zero_row}
 use Rattle.net.proofs.AllLaws.{and_both, all_end}
-use Rattle.net.proofs.Laws.{all_fails}
 use Rattle.net.proofs.FoldLaws.{fold_end}
 use Rattle.lean_words.specs.Filled.{filled}
 use Rattle.lean_words.specs.Rights.{with_flags, row_flags, rights_in, row_in, own_in, covered, admits_words}
@@ -71,18 +70,9 @@ pub covered_at :
 covered_at need fs m b h e = let p : m % 16 ≡ m = omega arith in rw p at e
 
 pub admits_is :
-    (need fs : List Bool) (l m : ℕ) (own : Bool) → all m (λ j. covered (rights_in need j) (rights_in fs j)) ≡ true → m ≤ 16 → 16 ≤ m
+    (need fs : List Bool) (l m : ℕ) (ok own : Bool) → ok ≡ all m (λ j. covered (rights_in need j) (rights_in fs j)) → m ≤ 16 → 16 ≤ m
     → own ≡ covered (own_in need) (rights_in fs (l % 16))
-    → (own && (not (get_or need 64 false) || get_or fs 64 false)) ≡ admits_words need fs l
+    → (ok && (own && (not (get_or need 64 false) || get_or fs 64 false))) ≡ admits_words need fs l
 unfolding admits_words
-admits_is need fs l m own e h g o =
-    and_both true _ _ _ (all_end m 16 _ true (sym e) h g) (and_both _ _ _ _ o (or_implies (get_or need 64 false) _ _ refl))
-
--- one address that is not covered
-pub admits_not :
-    (need fs : List Bool) (l m : ℕ) (b : Bool) → m < 16 → b ≡ false
-    → b ≡ covered (rights_in need (m % 16)) (rights_in fs (m % 16)) → false ≡ admits_words need fs l
-unfolding admits_words both
-admits_not need fs l m b h f e =
-    let p : m % 16 ≡ m = omega arith in
-    rw (← all_fails 16 (λ j. covered (rights_in need j) (rights_in fs j)) m h (sym (rw p at e) ∙ f)) refl
+admits_is need fs l m ok own e h g o =
+    and_both _ _ _ _ (all_end m 16 _ ok e h g) (and_both _ _ _ _ o (or_implies (get_or need 64 false) _ _ refl))
