@@ -19,11 +19,18 @@ impl<'a, T: Copy> Writer<'a, T> {
         ensures at { result.at ≡ 0 }
         ensures full { result.full ≡ false }
     {
-        Writer {
-            out,
-            at: 0,
-            full: false,
-        }
+        Writer::starting_at(out, 0)
+    }
+
+    // A writer from a place of the buffer, which may be past its end.
+    pub fn starting_at(out: &'a mut [T], at: usize) -> Writer<'a, T>
+        ensures same { result.out.ghost_name ≡ out.entry.ghost_name }
+        ensures now { result.out.now ≡ out.old }
+        ensures at { result.at ≡ at }
+        ensures full { result.full ≡ false }
+    {
+        let full = false;
+        Writer { out, at, full }
     }
 
     // How much is written, where all of it fitted.
