@@ -1,7 +1,7 @@
 -- Describes the code, and is no part of what a reader has to believe: how the readers of `src/`, which store instructions
 -- in a lent table and mark names in lent marks, keep to the definitions.
 pub use Rattle.processes.specs.declared.code.Code.{Code}
-use Rattle.std.specs.Prelude.{ℕ, suc, ◌+◌, ◌*◌, ◌<◌, ◌≤◌, Bool, ◌≡◌, List, ◌++◌, [], Result, Ok, Err, MatchResult}
+use Rattle.std.specs.Prelude.{ℕ, suc, ◌+◌, ◌*◌, ◌<◌, ◌≤◌, Bool, ◌≡◌, List, ◌++◌, [], length, Result, Ok, Err, MatchResult}
 use Rattle.text.specs.Buffer.{over}
 use Rattle.readers.specs.Reader.{Reader, pure, ◌>>=◌, ◌>>◌}
 use Rattle.lexemes.specs.Lexemes.{byte}
@@ -12,6 +12,13 @@ use Rattle.processes.specs.Reading.{chain}
 use Rattle.terms.specs.Terms.{Process, Action}
 use Rattle.terms.specs.Numbering.{start_of, size, size_in}
 use Rattle.terms.specs.Table.{start_word, entry_words, action_words, words_of, words_in, marked, marked_in}
+
+-- the table and the marks are those that were lent, and as long as they were
+pub record Lent (b b' : Code) : Type 0 where
+  pub table : b'.table.ghost_name ≡ b.table.ghost_name
+  pub used : b'.used.ghost_name ≡ b.used.ghost_name
+  pub long_table : length b'.table.now ≡ length b.table.now
+  pub long_used : length b'.used.now ≡ length b.used.now
 
 -- the word w is that of what starts here, where the next instruction has the number n
 pub record Begins (r : TextReader) (n w : ℕ) : Type 0 where

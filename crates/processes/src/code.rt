@@ -4,7 +4,8 @@ ghost use Rattle.text.specs.Buffer.{over};
 ghost use Rattle.terms.specs.Table.{entry_words};
 ghost use Rattle.processes.specs.Room.{room};
 
-use terms::table::{Entry, put, store};
+use crate::names::mark;
+use terms::table::{Entry, store};
 
 // Numbers of instructions are counted up to here: where the count comes this far, there are too many by far.
 const ROOM: usize = 9223372036854775808;
@@ -35,6 +36,7 @@ impl<'a> Code<'a> {
     // The instruction with the number n, stored.
     pub(crate) fn store(&mut self, n: usize, entry: Entry)
         ensures table { self.new.table.now ≡ over self.old.table.now (9 * n) (entry_words entry) }
+        ensures lent { self.new.table.ghost_name ≡ self.old.table.ghost_name }
         ensures count { self.new.count ≡ self.old.count }
         ensures used { self.new.used ≡ self.old.used }
     {
@@ -44,9 +46,10 @@ impl<'a> Code<'a> {
     // Name k, marked.
     pub(crate) fn mark(&mut self, k: usize)
         ensures used { self.new.used.now ≡ set self.old.used.now k true }
+        ensures lent { self.new.used.ghost_name ≡ self.old.used.ghost_name }
         ensures count { self.new.count ≡ self.old.count }
         ensures table { self.new.table ≡ self.old.table }
     {
-        put(self.used, k, true);
+        mark(self.used, k);
     }
 }

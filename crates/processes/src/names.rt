@@ -1,5 +1,5 @@
 // Names of processes, and what stands in a text before it is read.
-ghost use Rattle.std.specs.Prelude.{◌+◌, ◌≤◌, ◌≡◌, IfOk};
+ghost use Rattle.std.specs.Prelude.{◌+◌, ◌≤◌, ◌≡◌, IfOk, set, true};
 ghost use Rattle.lexemes.specs.Lexemes.{byte_at};
 ghost use Rattle.lexemes.specs.Progress.{Reads};
 ghost use Rattle.processes.specs.Reading.{named, ends_chain};
@@ -8,6 +8,7 @@ ghost use Rattle.processes.specs.Progress.{Begins};
 
 use lexemes::reader::TextReader;
 use readers::fault::Fault;
+use terms::table::put;
 
 // A name's number.
 #[tactic(auto, using(lexemes::proofs::Reading::reads), unfolding(crate::specs::Reading::named))]
@@ -45,4 +46,11 @@ pub(crate) fn chain_ends(r: &TextReader) -> bool
         b'n' => r.at + 1 < r.text.len() && r.text[r.at + 1] == b'i',
         _ => false,
     }
+}
+
+// Marks name k.
+pub fn mark(used: &mut [bool], k: usize)
+    ensures { used.new ≡ set used.old k true }
+{
+    put(used, k, true);
 }

@@ -1,12 +1,12 @@
 // Processes of the planners' notation. Reading one stores its instructions in a lent table and marks the names that it
 // uses. Brackets and evals are d levels at most.
-#![tactic(auto, using(crate::proofs::ProcessLaws::processing), unfolding(crate::specs::Reading::called, crate::specs::Reading::stopped, crate::specs::Reading::forked, crate::specs::Reading::ended, crate::specs::Reading::evaluation, crate::specs::Reading::action, crate::specs::Progress::dotted, text::specs::Bytes::bytes))]
+#![tactic(auto, using(crate::proofs::ProcessLaws::processing, crate::proofs::LentLaws::lending), unfolding(crate::specs::Reading::called, crate::specs::Reading::stopped, crate::specs::Reading::forked, crate::specs::Reading::ended, crate::specs::Reading::evaluation, crate::specs::Reading::action, crate::specs::Progress::dotted, text::specs::Bytes::bytes))]
 
 ghost use Rattle.std.specs.Prelude.{◌≤◌, ◌+◌, ◌≡◌, min, length};
 ghost use Rattle.lexemes.specs.Progress.{Reads};
 ghost use Rattle.processes.specs.Reading.{called, stopped, forked, ended, evaluation, action, chain, process_at, process};
 ghost use Rattle.processes.specs.Room.{room};
-ghost use Rattle.processes.specs.Progress.{dotted, Keeps, Stored, Started, Held, Acted};
+ghost use Rattle.processes.specs.Progress.{dotted, Keeps, Lent, Stored, Started, Held, Acted};
 
 use crate::actions::{entry_for, read_aim, read_simple};
 use crate::code::Code;
@@ -19,7 +19,8 @@ use terms::table::{Entry, Kind, target_word};
 
 // A name, which makes no instruction.
 fn read_call(r: &mut TextReader, code: &mut Code) -> Result<(), Fault>
-    ensures { Keeps r.old called (Stored code.old code.new) result r.new }
+    ensures read { Keeps r.old called (Stored code.old code.new) result r.new }
+    ensures lent { Lent code.old code.new }
 {
     let k = read_name(r)?;
     code.mark(k);
@@ -28,7 +29,8 @@ fn read_call(r: &mut TextReader, code: &mut Code) -> Result<(), Fault>
 
 // A nil.
 fn read_nil(r: &mut TextReader, code: &mut Code) -> Result<(), Fault>
-    ensures { Keeps r.old stopped (Stored code.old code.new) result r.new }
+    ensures read { Keeps r.old stopped (Stored code.old code.new) result r.new }
+    ensures lent { Lent code.old code.new }
 {
     r.word(b"nil")?;
     let n = code.number();
@@ -39,7 +41,8 @@ fn read_nil(r: &mut TextReader, code: &mut Code) -> Result<(), Fault>
 // A process, and the word of what it starts with.
 #[cycle(process_text)]
 fn read_started(r: &mut TextReader, d: usize, scope: Scope, code: &mut Code) -> Result<usize, Fault>
-    ensures { Keeps r.old (process_at d scope) (Started code.old code.new) result r.new }
+    ensures read { Keeps r.old (process_at d scope) (Started code.old code.new) result r.new }
+    ensures lent { Lent code.old code.new }
 {
     let start = start_here(r, code.count);
     if d == 0 {
@@ -52,7 +55,8 @@ fn read_started(r: &mut TextReader, d: usize, scope: Scope, code: &mut Code) -> 
 // A fork.
 #[cycle(process_text)]
 fn read_fork(r: &mut TextReader, d: usize, scope: Scope, code: &mut Code) -> Result<(), Fault>
-    ensures { Keeps r.old (forked (process_at d scope)) (Stored code.old code.new) result r.new }
+    ensures read { Keeps r.old (forked (process_at d scope)) (Stored code.old code.new) result r.new }
+    ensures lent { Lent code.old code.new }
 {
     let n = code.number();
     r.byte(b'(')?;
@@ -72,7 +76,8 @@ fn read_fork(r: &mut TextReader, d: usize, scope: Scope, code: &mut Code) -> Res
 // What ends a chain of actions.
 #[cycle(process_text)]
 fn read_end(r: &mut TextReader, d: usize, scope: Scope, code: &mut Code) -> Result<(), Fault>
-    ensures { Keeps r.old (ended (process_at d scope)) (Stored code.old code.new) result r.new }
+    ensures read { Keeps r.old (ended (process_at d scope)) (Stored code.old code.new) result r.new }
+    ensures lent { Lent code.old code.new }
 {
     match r.peek() {
         b'A' => read_call(r, code),
@@ -90,7 +95,8 @@ fn read_eval(
     code: &mut Code,
     n: usize,
 ) -> Result<Entry, Fault>
-    ensures { Keeps r.old (evaluation (process_at d scope) scope) (Held n code.old code.new) result r.new }
+    ensures read { Keeps r.old (evaluation (process_at d scope) scope) (Held n code.old code.new) result r.new }
+    ensures lent { Lent code.old code.new }
 {
     r.word(b"eval(")?;
     let sent = read_started(r, d, scope, code)?;
@@ -111,7 +117,8 @@ fn read_act(
     code: &mut Code,
     n: usize,
 ) -> Result<Entry, Fault>
-    ensures { Keeps r.old (action (process_at d scope) scope) (Held n code.old code.new) result r.new }
+    ensures read { Keeps r.old (action (process_at d scope) scope) (Held n code.old code.new) result r.new }
+    ensures lent { Lent code.old code.new }
 {
     if r.peek() == b'e' {
         read_eval(r, d, scope, code, n)
@@ -123,7 +130,8 @@ fn read_act(
 // An action and its dot.
 #[cycle(process_text)]
 fn read_action(r: &mut TextReader, d: usize, scope: Scope, code: &mut Code) -> Result<(), Fault>
-    ensures { Keeps r.old (dotted (action (process_at d scope) scope)) (Acted code.old code.new r.new) result r.new }
+    ensures read { Keeps r.old (dotted (action (process_at d scope) scope)) (Acted code.old code.new r.new) result r.new }
+    ensures lent { Lent code.old code.new }
 {
     let n = code.number();
     let entry = read_act(r, d, scope, code, n)?;
@@ -136,7 +144,8 @@ fn read_action(r: &mut TextReader, d: usize, scope: Scope, code: &mut Code) -> R
 // A chain of actions and its end; no chain has more actions than the text has bytes.
 #[cycle(process_text)]
 fn read_chain(r: &mut TextReader, d: usize, scope: Scope, code: &mut Code) -> Result<(), Fault>
-    ensures { Keeps r.old (chain (length r.old.text.now) (process_at d scope) scope) (Stored code.old code.new) result r.new }
+    ensures read { Keeps r.old (chain (length r.old.text.now) (process_at d scope) scope) (Stored code.old code.new) result r.new }
+    ensures lent { Lent code.old code.new }
 {
     for i in 0..r.text.len() {
         if chain_ends(r) {
@@ -148,9 +157,10 @@ fn read_chain(r: &mut TextReader, d: usize, scope: Scope, code: &mut Code) -> Re
 }
 
 // P, and the word of what it starts with.
-#[tactic(auto, using(crate::proofs::ProcessLaws::processing), unfolding(crate::specs::Reading::process))]
+#[tactic(auto, using(crate::proofs::ProcessLaws::processing, crate::proofs::LentLaws::lending), unfolding(crate::specs::Reading::process))]
 pub fn read_process(r: &mut TextReader, scope: Scope, code: &mut Code) -> Result<usize, Fault>
-    ensures { Keeps r.old (process scope) (Started code.old code.new) result r.new }
+    ensures read { Keeps r.old (process scope) (Started code.old code.new) result r.new }
+    ensures lent { Lent code.old code.new }
 {
     read_started(r, 33, scope, code)
 }

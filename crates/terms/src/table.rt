@@ -1,7 +1,7 @@
 // Instructions written into a lent table, nine words each: those past its end are left away.
 ghost use Rattle.std.specs.Prelude.{◌*◌, ◌≡◌, slice_set};
 ghost use Rattle.text.specs.Buffer.{over};
-ghost use Rattle.terms.specs.Table.{target_word, pattern_word, Kind, kind_number, plain_entry, entry_words};
+ghost use Rattle.terms.specs.Table.{target_word, pattern_word, Kind, kind_number, plain_entry, instruction_words, entry_words};
 
 use net::instruction::{Instruction, Pattern, Target};
 use text::signed::complement;
@@ -97,26 +97,51 @@ fn number(kind: Kind) -> usize
     }
 }
 
-// The instruction with the number n, stored.
-pub fn store(table: &mut [usize], n: usize, entry: Entry)
-    ensures { table.new ≡ over table.old (9 * n) (entry_words entry) }
+// The instruction with the number n, stored by its words: a kind's number, which may be any, a target's word, a template,
+// and the words of the start that follows and of the second one.
+pub fn store_words(
+    table: &mut [usize],
+    n: usize,
+    kind: usize,
+    target: usize,
+    c: Instruction,
+    next: usize,
+    second: usize,
+)
+    ensures { table.new ≡ over table.old (9 * n) (instruction_words kind target c next second) }
 {
     if n > table.len() / 9 {
         return;
     }
-    let [a, b, c, d] = entry.template.template;
+    let [p, q, r, s] = c.template;
     let words = [
-        number(entry.kind),
-        entry.target,
-        entry.template.count,
-        pattern_word(a.pattern),
-        pattern_word(b.pattern),
-        pattern_word(c.pattern),
-        pattern_word(d.pattern),
-        entry.next,
-        entry.second,
+        kind,
+        target,
+        c.count,
+        pattern_word(p.pattern),
+        pattern_word(q.pattern),
+        pattern_word(r.pattern),
+        pattern_word(s.pattern),
+        next,
+        second,
     ];
     for (i, w) in words.iter().enumerate() {
         put(table, 9 * n + i, *w);
     }
+}
+
+// The instruction with the number n, stored.
+pub fn store(table: &mut [usize], n: usize, entry: Entry)
+    ensures { table.new ≡ over table.old (9 * n) (entry_words entry) }
+{
+    let kind = number(entry.kind);
+    store_words(
+        table,
+        n,
+        kind,
+        entry.target,
+        entry.template,
+        entry.next,
+        entry.second,
+    );
 }

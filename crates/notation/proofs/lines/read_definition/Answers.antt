@@ -10,7 +10,7 @@ unfolding definition_line bytes
 returns c =
     keeps_then _ _ _ _ _ _ _ _ c.in_ok-k.ensures.read
     (keeps_next _ _ _ _ _ _ _ _ c.in_ok-word.ensures
-    (keeps_via _ _ _ _ _ _ _ _ _ c.in_ok-start.ensures
+    (keeps_via _ _ _ _ _ _ _ _ _ c.in_ok-start.ensures.read
     (λ x s. keeps_next _ _ _ _ _ _ _ _ c.in_ok-byte.ensures
     (keeps_pure _ _ _ _
     (definition_lined c.args.lines.now c.define.new.self c.read_process.new.code c.in_ok-k.k c.in_ok-start.start x s (c.define.ensures.code ∙ c.enter.ensures.code)

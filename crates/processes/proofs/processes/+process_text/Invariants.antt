@@ -1,11 +1,12 @@
 use Rattle.std.proofs.Common.{◌*◌, ◌+◌, ◌-◌, length}
-use Rattle.processes.specs.Progress.{Chained}
+use Rattle.processes.specs.Progress.{Chained, Lent}
 use Rattle.processes.specs.Reading.{process_at}
 use Rattle.processes.proofs.processes.+process_text.Given as goal
 
 abbrev pub invariant-read_chain-loop-i : goal.invariant-read_chain-loop-i
 invariant-read_chain-loop-i l =
     Chained (process_at l.d l.scope) l.scope l.initial.r (length l.initial.r.text.now) l.initial.code l.r (length l.initial.r.text.now - l.i) l.code
+    × Lent l.initial.code l.code
 
 abbrev pub decreases-read_started : goal.decreases-read_started
 decreases-read_started l = 6 * l.d

@@ -4,7 +4,7 @@ use Rattle.text.specs.Joined.{joined}
 use Rattle.net.specs.Records.{pattern_at}
 use Rattle.terms.specs.Table.{instruction_words, template_words}
 use Rattle.terms.proofs.TableLaws.{over_past, over_more, over_whole}
-use Rattle.terms.proofs.table.store.Goals as goal
+use Rattle.terms.proofs.table.store_words.Goals as goal
 
 pub returns-then-n-table : goal.returns-then-n-table
 returns-then-n-table c = over_past c.args.table.now (9 * c.args.n) _ (omega arith)
@@ -20,5 +20,5 @@ loop-i-preserved c =
 pub returns : goal.returns
 unfolding instruction_words template_words joined pattern_at
 returns c =
-    rw (← c.number.ensures, ← c.pattern_word.ensures, ← c.pattern_word-2.ensures, ← c.pattern_word-3.ensures, ← c.pattern_word-4.ensures)
+    rw (← c.pattern_word.ensures, ← c.pattern_word-2.ensures, ← c.pattern_word-3.ensures, ← c.pattern_word-4.ensures)
     (over_whole c.args.table.now (9 * c.args.n) _ c.loop-i.table c.loop-i.i (omega arith) c.loop-i.invariant)
