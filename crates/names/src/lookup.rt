@@ -16,6 +16,17 @@ pub fn test(site: &[u8], office: &[u8]) -> Result<(), NamesFault>
     test_list(office)
 }
 
+// The number that the test of both lists gives: 0, 51, 52 or 53.
+#[tactic(auto, unfolding(crate::specs::Faults::number_of))]
+pub fn fault(site: &[u8], office: &[u8]) -> u8
+    ensures { result ≡ names_fault site.now office.now }
+{
+    match test(site, office) {
+        Ok(()) => 0,
+        Err(fault) => fault.number(),
+    }
+}
+
 // No bytes of a list.
 fn none_of(list: &[u8]) -> &[u8]
     ensures { PartOf list.entry 0 0 result }
