@@ -6,10 +6,10 @@ ghost use Rattle.bitreader.specs.Window.{window, seen};
 const WINDOW: usize = 32768;
 
 // The bytes of an image that are looked at, and the place of the next bit.
-#[derive(Drop)]
+#[derive(Clone, Copy)]
 pub struct BitReader<'a> {
-    pub(crate) image: &'a [u8],
-    pub(crate) at: usize,
+    pub image: &'a [u8],
+    pub at: usize,
     ghost narrow: { length image.now ≤ window },
 }
 
