@@ -1,13 +1,13 @@
 // What records are dumped as: bytes, one after another. Numbers are little-endian.
 
 // What takes bytes.
-pub(crate) trait Sink {
+pub trait Sink {
     fn put(&mut self, b: u8);
 }
 
 // A lent buffer, and the place of the next byte in it; what does not fit is left off.
 #[derive(Drop)]
-pub(crate) struct Room<'a> {
+pub struct Room<'a> {
     pub out: &'a mut [u8],
     pub at: usize,
 }
@@ -22,7 +22,7 @@ impl Sink for Room<'_> {
 }
 
 // What can be dumped.
-pub(crate) trait Dump {
+pub trait Dump {
     fn dump<S: Sink>(&self, sink: &mut S);
 }
 
@@ -55,17 +55,17 @@ impl Dump for u16 {
 }
 
 // A count in one byte: its remainder by 256.
-pub(crate) fn low_byte(n: usize) -> u8 {
+pub fn low_byte(n: usize) -> u8 {
     (n % 256) as u8
 }
 
 // A kind in one byte, then a value of four.
-pub(crate) fn dump_kind<S: Sink>(kind: u8, value: [u8; 4], sink: &mut S) {
+pub fn dump_kind<S: Sink>(kind: u8, value: [u8; 4], sink: &mut S) {
     kind.dump(sink);
     value.dump(sink);
 }
 
 // A kind, then a value of one byte in four.
-pub(crate) fn dump_small<S: Sink>(kind: u8, value: u8, sink: &mut S) {
+pub fn dump_small<S: Sink>(kind: u8, value: u8, sink: &mut S) {
     dump_kind(kind, [value, 0, 0, 0], sink);
 }

@@ -34,13 +34,13 @@
 use crate::bytes::{Dump, Room, Sink, low_byte};
 use net::network::Net;
 
-mod bytes;
+pub mod bytes;
 mod code;
 pub mod digest;
 mod nodes;
 
 // The format, the counts and the nodes: all that is not code.
-fn dump_state<S: Sink>(net: &Net, sink: &mut S) {
+pub fn dump_state<S: Sink>(net: &Net, sink: &mut S) {
     let length = (net.length % 65536) as u16;
     low_byte(net.format).dump(sink);
     low_byte(net.addresses).dump(sink);

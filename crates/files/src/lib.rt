@@ -2,7 +2,7 @@
 // standard error: what could not be done, with which file, and why.
 #![tactic(auto)]
 
-ghost use Rattle.std.specs.Prelude.{◌≡◌, ◌≤◌, IfOk, length};
+ghost use Rattle.std.specs.Prelude.{◌≡◌, ◌+◌, ◌≤◌, IfErr, IfOk, length};
 
 use std::env::{Env, FillError};
 use std::fmt::InlineText;
@@ -19,6 +19,21 @@ pub enum Failure {
     TooLong,
     // Fewer bytes are there than are asked for: of the input, or of the buffer.
     Short,
+}
+
+// What kept a read from its end, and how many bytes stand at the buffer's start all the same.
+#[derive(Clone, Copy, Debug, PartialEq, Eq)]
+pub struct Unread {
+    pub count: usize,
+    pub why: Failure,
+}
+
+impl From<Unread> for Failure {
+    fn from(unread: Unread) -> Failure
+        ensures { result ≡ unread.why }
+    {
+        unread.why
+    }
 }
 
 // Whether the program was started with an argument of that number, the first being 1.
@@ -48,7 +63,7 @@ fn complain(rt: &HostRuntime, what: &[u8], name: &[u8], error: io::Error) -> Fai
         Some((why, _)) => why,
         None => text,
     };
-    for part in [what, b" ", name, b": ", why.as_bytes(), b"\n"] {
+    for part in [what, name, b": ", why.as_bytes(), b"\n"] {
         say(rt, part);
     }
     Failure::Refused
@@ -67,17 +82,18 @@ fn fill<'a, R: Read>(
     reader: &mut R,
     name: &[u8],
     buffer: &'a mut [u8],
-) -> Result<&'a [u8], Failure>
-    ensures { IfOk result (λ read. length read.now ≤ length buffer.old) }
+) -> Result<&'a [u8], Unread>
+    ensures read { IfOk result (λ read. length read.now ≤ length buffer.old) }
+    ensures unread { IfErr result (λ unread. unread.count ≤ length buffer.old) }
 {
     let mut count = 0;
     // Kept: a read gives as many bytes as it likes, so there is nothing to go over.
     while count < buffer.len() {
-        let more = named(rt, reader.read(&mut buffer[count..]), b"cannot read", name)?;
-        if more == 0 {
-            break;
+        match named(rt, reader.read(&mut buffer[count..]), b"cannot read ", name) {
+            Ok(0) => break,
+            Ok(more) => count += more,
+            Err(why) => return Err(Unread { count, why }),
         }
-        count += more;
     }
     Ok(&buffer[..count])
 }
@@ -97,13 +113,17 @@ pub fn read_file<'a>(
     rt: &HostRuntime,
     path: &[u8],
     buffer: &'a mut [u8],
-) -> Result<&'a [u8], Failure>
-    ensures { IfOk result (λ read. length read.now ≤ length buffer.old) }
+) -> Result<&'a [u8], Unread>
+    ensures read { IfOk result (λ read. length read.now ≤ length buffer.old) }
+    ensures unread { IfErr result (λ unread. unread.count ≤ length buffer.old) }
 {
     match open(rt, path) {
         Ok(mut file) => fill(rt, &mut file, path, buffer),
         Err(error) if error.kind() == ErrorKind::NotFound => Ok(&buffer[..0]),
-        Err(error) => Err(complain(rt, b"cannot open", path, error)),
+        Err(error) => {
+            let why = complain(rt, b"cannot open ", path, error);
+            Err(Unread { count: 0, why })
+        }
     }
 }
 
@@ -115,14 +135,18 @@ pub fn read_text_file<'a>(
     rt: &HostRuntime,
     path: &[u8],
     buffer: &'a mut [u8; LONGEST_TEXT + 1],
-) -> Result<&'a [u8], Failure>
-    ensures { IfOk result (λ text. length text.now ≤ LONGEST_TEXT) }
+) -> Result<&'a [u8], Unread>
+    ensures read { IfOk result (λ text. length text.now ≤ LONGEST_TEXT) }
+    ensures unread { IfErr result (λ unread. unread.count ≤ LONGEST_TEXT + 1) }
 {
     let text = read_file(rt, path, buffer)?;
     if text.len() > LONGEST_TEXT {
         say(rt, path);
         say(rt, b" is longer than 1000000 bytes\n");
-        return Err(Failure::TooLong);
+        return Err(Unread {
+            count: text.len(),
+            why: Failure::TooLong,
+        });
     }
     Ok(text)
 }
@@ -138,16 +162,20 @@ pub fn read_exact(rt: &HostRuntime, buffer: &mut [u8]) -> Result<(), Failure> {
 }
 
 // What comes next on standard input: its length in two bytes, lower first, then its bytes.
-pub fn read_next<'a>(rt: &HostRuntime, buffer: &'a mut [u8]) -> Result<&'a [u8], Failure>
-    ensures { IfOk result (λ read. length read.now ≤ length buffer.old) }
+pub fn read_next<'a>(rt: &HostRuntime, buffer: &'a mut [u8]) -> Result<&'a [u8], Unread>
+    ensures read { IfOk result (λ read. length read.now ≤ length buffer.old) }
+    ensures unread { IfErr result (λ unread. unread.count ≤ length buffer.old) }
 {
     let mut head = [0u8; 2];
-    read_exact(rt, &mut head)?;
+    read_exact(rt, &mut head).map_err(|why| Unread { count: 0, why })?;
     let count = u16::from_le_bytes(head) as usize;
     if count > buffer.len() {
-        return Err(Failure::Short);
+        return Err(Unread {
+            count: 0,
+            why: Failure::Short,
+        });
     }
-    read_exact(rt, &mut buffer[..count])?;
+    read_exact(rt, &mut buffer[..count]).map_err(|why| Unread { count, why })?;
     Ok(&buffer[..count])
 }
 
@@ -168,7 +196,7 @@ pub fn print(rt: &HostRuntime, bytes: &[u8]) -> Result<(), Failure> {
     named(
         rt,
         rt.stdout().write_all(bytes),
-        b"cannot write",
+        b"cannot write ",
         b"standard output",
     )
 }
@@ -191,8 +219,8 @@ fn make_new(rt: &HostRuntime, path: &str, bytes: &[u8]) -> Result<(), Failure> {
         .write(true)
         .create_new(true)
         .open(rt, path);
-    let mut file = named(rt, made, b"cannot make", name)?;
-    named(rt, write_out(&mut file, bytes), b"cannot write", name)
+    let mut file = named(rt, made, b"cannot make ", name)?;
+    named(rt, write_out(&mut file, bytes), b"cannot write ", name)
 }
 
 // Makes a file with these bytes, where one of that name may be left from before, and gives it the name of another, which it
@@ -208,7 +236,7 @@ fn put_in_place(
     named(
         rt,
         fs::rename(rt, meanwhile, path),
-        b"cannot replace",
+        b"cannot replace ",
         path.as_bytes(),
     )
 }
@@ -220,8 +248,8 @@ pub fn replace_file(
     meanwhile: &[u8],
     bytes: &[u8],
 ) -> Result<(), Failure> {
-    let place = named(rt, path_of(path), b"cannot replace", path)?;
-    let made = named(rt, path_of(meanwhile), b"cannot make", meanwhile)?;
+    let place = named(rt, path_of(path), b"cannot replace ", path)?;
+    let made = named(rt, path_of(meanwhile), b"cannot make ", meanwhile)?;
     let done = put_in_place(rt, place, made, bytes);
     if done.is_err() {
         let _ = fs::remove_file(rt, made);

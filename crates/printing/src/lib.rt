@@ -2,16 +2,16 @@
 // are refused are named on standard error.
 #![tactic(auto)]
 
-use files::{Failure, print_first, read_file, say};
+use files::{Failure, Unread, print_first, read_file, say};
 use names::lookup::test;
 use registers::room::room;
 use std::fmt::InlineText;
 
 // How many bytes of each list of names are read.
-const LONGEST_LIST: usize = 65536;
+pub const LONGEST_LIST: usize = 65536;
 
 // Prints the register that the buffer holds.
-fn print_written(rt: &HostRuntime, written: Option<usize>, out: &[u8]) -> Result<(), Failure> {
+pub fn print_written(rt: &HostRuntime, written: Option<usize>, out: &[u8]) -> Result<(), Failure> {
     match written {
         Some(n) => print_first(rt, out, n),
         None => {
@@ -25,7 +25,7 @@ fn print_written(rt: &HostRuntime, written: Option<usize>, out: &[u8]) -> Result
 // cannot be read is named, and then nothing is printed.
 pub fn print_register<W>(
     rt: &HostRuntime,
-    net: Result<&[u8], Failure>,
+    net: Result<&[u8], Unread>,
     write: W,
 ) -> Result<(), Failure>
 where
@@ -46,7 +46,7 @@ where
 }
 
 // Names the fault of two lists of names, where they have one.
-fn say_names(rt: &HostRuntime, site: &[u8], office: &[u8]) {
+pub fn say_names(rt: &HostRuntime, site: &[u8], office: &[u8]) {
     if let Err(fault) = test(site, office) {
         let number = fault.number();
         let line = InlineText::<20>::of(format_args!("names refused {number}\n"));

@@ -5,9 +5,9 @@
 // count.
 #![tactic(auto)]
 
-ghost use Rattle.std.specs.Prelude.{◌≤◌, length};
+ghost use Rattle.std.specs.Prelude.{◌≤◌, IfErr, IfOk, length};
 
-use files::{Failure, argument, is_given, print, print_first, read_file, say};
+use files::{Failure, Unread, argument, is_given, print, print_first, read_file, say};
 use image::reader::LONGEST_IMAGE;
 use season::figures::{Unfigured, room};
 use season::sums::Sums;
@@ -21,9 +21,11 @@ fn read_in<'a>(
     folder: &[u8],
     name: &[u8],
     buffer: &'a mut [u8],
-) -> Result<&'a [u8], Failure>
+) -> Result<&'a [u8], Unread>
     requires folder { length folder.now ≤ LONGEST_PATH }
     requires name { length name.now ≤ 15 }
+    ensures read { IfOk result (λ read. length read.now ≤ length buffer.old) }
+    ensures unread { IfErr result (λ unread. unread.count ≤ length buffer.old) }
 {
     let mut path = [0u8; LONGEST_PATH + 16];
     let (start, rest) = path.split_at_mut(folder.len() + 1);
