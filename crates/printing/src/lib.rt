@@ -2,7 +2,7 @@
 // are refused are named on standard error.
 #![tactic(auto)]
 
-use files::{Failure, Unread, print_first, read_file, say};
+use files::{Failure, print_first, read_file, say};
 use names::lookup::test;
 use registers::room::room;
 use std::fmt::InlineText;
@@ -25,7 +25,7 @@ pub fn print_written(rt: &HostRuntime, written: Option<usize>, out: &[u8]) -> Re
 // cannot be read is named, and then nothing is printed.
 pub fn print_register<W>(
     rt: &HostRuntime,
-    net: Result<&[u8], Unread>,
+    net: Result<&[u8], Failure>,
     write: W,
 ) -> Result<(), Failure>
 where

@@ -12,7 +12,7 @@ use registers::register::named_register;
 // Reads the files, each of which is named where it cannot be read, and prints the register.
 fn run(rt: &HostRuntime) -> Result<(), Failure> {
     let mut buffer = [0u8; LONGEST_IMAGE + 1];
-    let image = read_file(rt, b"net.bin", &mut buffer);
+    let image = read_file(rt, b"net.bin", &mut buffer).map_err(Failure::from);
     print_register(rt, image, |image, picks, site, office, out| {
         named_register(image, picks, site, office, out)
     })

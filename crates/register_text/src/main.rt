@@ -10,7 +10,7 @@ use registers::register::named_register_text;
 // Reads the files, each of which is named where it cannot be read, and prints the register.
 fn run(rt: &HostRuntime) -> Result<(), Failure> {
     let mut buffer = [0u8; LONGEST_TEXT + 1];
-    let text = read_text_file(rt, b"net.txt", &mut buffer);
+    let text = read_text_file(rt, b"net.txt", &mut buffer).map_err(Failure::from);
     print_register(rt, text, |text, picks, site, office, out| {
         named_register_text(text, picks, site, office, out)
     })
