@@ -21,7 +21,8 @@ pub enum Failure {
     Short,
 }
 
-// What kept a read from its end, and how many bytes stand at the buffer's start all the same.
+// What kept a read from its end, and a count that the buffer has room for: of a file how many bytes came, of `read_next`
+// the length that was announced, 0 where none was.
 #[derive(Clone, Copy, Debug, PartialEq, Eq)]
 pub struct Unread {
     pub count: usize,

@@ -88,7 +88,7 @@ pub fn admits(need: &[bool; 69], row: &[bool; 65], l: usize) -> bool
     ensures { result ≡ admits_words need.now row.now l }
 {
     let mut ok = true;
-    // All 16 are looked at, without a branch: that takes half the time of a stop at the first one.
+    // All 16 are looked at, so that the loop has no branch.
     for m in 0..16 {
         let good = covers(need, row, m);
         ok = ok & good;
